@@ -1,0 +1,147 @@
+-- `admission` answers 0 and 0 exactly for the plans that are admitted; the limits of 01; and what an admitted plan's graph has.
+use mathlib.Core.Path.{_≡_, refl, sym, ap, _∙_, subst}
+use mathlib.Core.Logic.{_⊎_, inl, inr, _↔_}
+use mathlib.Core.Bool.{Bool, true, false, cond, _&&_, _||_}
+use mathlib.Core.List.{List, [], _∷_, List·Memᴰ as In, List·Memᴰ·head as first, List·Memᴰ·tail as later}
+use Prim.Native.Nat.{ℕ, zero, suc, _+_, _*_, _/_, _%_, _≤_, _<_}
+use native.Mathlib.Omega.{arith}
+use lib.Dec.{T, eqb, ltb, ltb→lt, lt→ltb, eqb→eq}
+use lib.ListN.{length, getD}
+use borrow.Author.Tests.{eqb-true, eqb-false, ltb-true, ltb-false, eq-eqb, ne-eqb, lt-ltb, le-ltb}
+use Rattle.connectivity.specs.Lists.{range, keep}
+use Rattle.connectivity.specs.Graph.{Graph, Vertex, Edge, graphOf, always, isEdge, edges}
+use Rattle.connectivity.specs.Admission.{Answer, answer, passed, Limits, EndsFit, Admitted, endsAnswer, admission}
+use Rattle.connectivity.proofs.Lists.{and-both, both-and, T-true, true-T, range-is}
+use Rattle.connectivity.proofs.Search.{is-edge}
+
+-- answers with different numbers are different
+pub not-passed : {n p : ℕ} → (n ≡ 0 → ⊥) → answer n p ≡ passed → ⊥
+not-passed h q = h (ap (λ (a : Answer). a .number) q)
+
+-- the edges behind the first
+module _ (n a b : ℕ) (ends : List ℕ) where
+  even-next : (e : ℕ) → getD (a ∷ (b ∷ ends)) (2 * suc e) 0 ≡ getD ends (2 * e) 0
+  even-next e = let p : 2 * suc e ≡ suc (suc (2 * e)) = omega arith in rw p
+
+  odd-next : (e : ℕ) → getD (a ∷ (b ∷ ends)) (2 * suc e + 1) 0 ≡ getD ends (2 * e + 1) 0
+  odd-next e = let p : 2 * suc e + 1 ≡ suc (suc (2 * e + 1)) = omega arith in rw p
+
+  fit-next : (e : ℕ) → EndsFit n ends e → EndsFit n (a ∷ (b ∷ ends)) (suc e)
+  fit-next e f = record {
+    left = rw (even-next e) (f .left);
+    right = rw (odd-next e) (f .right);
+    different = rw (even-next e, odd-next e) (f .different);
+  }
+
+  next-fit : (e : ℕ) → EndsFit n (a ∷ (b ∷ ends)) (suc e) → EndsFit n ends e
+  next-fit e f = record {
+    left = rw (even-next e) at (f .left);
+    right = rw (odd-next e) at (f .right);
+    different = rw (even-next e, odd-next e) at (f .different);
+  }
+
+  -- what is said of an edge, by its two tests
+  abbrev decided : Bool → Bool → Answer → ℕ → Answer
+  decided below same next e = cond below (cond same (answer 5 e) next) (answer 4 e)
+
+  first-fits : T (ltb a n && ltb b n) → (a ≡ b → ⊥) → EndsFit n (a ∷ (b ∷ ends)) 0
+  first-fits t d = let p = and-both (ltb a n) (ltb b n) t in record { left = ltb→lt a n (p .0); right = ltb→lt b n (p .1); different = d }
+
+  fits-first : EndsFit n (a ∷ (b ∷ ends)) 0 → (T (ltb a n && ltb b n)) × (a ≡ b → ⊥)
+  fits-first f = (both-and (ltb a n) (ltb b n) (lt→ltb a n (f .left)) (lt→ltb b n (f .right)), f .different)
+
+fits : (n k : ℕ) (ends : List ℕ) → endsAnswer n k ends ≡ passed → (e : ℕ) → e < length ends / 2 → EndsFit n ends e
+unfolding endsAnswer
+fits n k [] p e h = absurd (omega arith)
+fits n k (a ∷ []) p e h = absurd (omega arith)
+fits n k (a ∷ (b ∷ ends)) p e h = go (ltb a n && ltb b n) refl (eqb a b) refl p e h (fits n (suc k) ends)
+  where
+    go : (t : Bool) → (ltb a n && ltb b n) ≡ t → (s : Bool) → eqb a b ≡ s → decided n a b ends t s (endsAnswer n (suc k) ends) k ≡ passed
+        → (e : ℕ) → e < length (a ∷ (b ∷ ends)) / 2
+        → (endsAnswer n (suc k) ends ≡ passed → (e : ℕ) → e < length ends / 2 → EndsFit n ends e) → EndsFit n (a ∷ (b ∷ ends)) e
+    go false t s q p e h f = absurd (not-passed (λ z. omega arith) p)
+    go true t true q p e h f = absurd (not-passed (λ z. omega arith) p)
+    go true t false q p zero h f = first-fits n a b ends (true-T t) (eqb-false a b q)
+    go true t false q p (suc e) h f = fit-next n a b ends e (f p e (omega arith))
+
+fitting : (n k : ℕ) (ends : List ℕ) → ((e : ℕ) → e < length ends / 2 → EndsFit n ends e) → endsAnswer n k ends ≡ passed
+unfolding endsAnswer
+fitting n k [] f = refl
+fitting n k (a ∷ []) f = refl
+fitting n k (a ∷ (b ∷ ends)) f = let p = fits-first n a b ends (f 0 (omega arith)) in
+    rw (T-true (ltb a n && ltb b n) (p .0), ne-eqb a b (p .1))
+    (fitting n (suc k) ends (λ e h. next-fit n a b ends e (f (suc e) (omega arith))))
+
+pub admission-is : (limits : Limits) (n : ℕ) (ends : List ℕ) → (admission limits n ends ≡ passed) ↔ Admitted limits n ends
+unfolding admission
+admission-is limits n ends = (to (eqb (length ends % 2) 0) refl (ltb n 2) refl (ltb (limits .vertices) n) refl (ltb (limits .edges) (length ends / 2)) refl, from)
+  where
+    to : (a : Bool) → eqb (length ends % 2) 0 ≡ a → (b : Bool) → ltb n 2 ≡ b → (c : Bool) → ltb (limits .vertices) n ≡ c → (d : Bool) → ltb (limits .edges) (length ends / 2) ≡ d
+        → cond a (cond (b || c) (answer 2 0) (cond d (answer 3 0) (endsAnswer n 0 ends))) (answer 1 0) ≡ passed → Admitted limits n ends
+    to false p b q c r d s h = absurd (not-passed (λ z. omega arith) h)
+    to true p true q c r d s h = absurd (not-passed (λ z. omega arith) h)
+    to true p false q true r d s h = absurd (not-passed (λ z. omega arith) h)
+    to true p false q false r true s h = absurd (not-passed (λ z. omega arith) h)
+    to true p false q false r false s h = record {
+      even = eqb-true (length ends % 2) 0 p;
+      two = ltb-false n 2 q;
+      vertices = ltb-false (limits .vertices) n r;
+      edges = ltb-false (limits .edges) (length ends / 2) s;
+      fit = fits n 0 ends h;
+    }
+
+    from : Admitted limits n ends → admission limits n ends ≡ passed
+    from a = rw (eq-eqb (length ends % 2) 0 (a .even), le-ltb n 2 (a .two), le-ltb (limits .vertices) n (a .vertices), le-ltb (limits .edges) (length ends / 2) (a .edges))
+        (fitting n 0 ends (a .fit))
+
+-- an answer is success, or its number is not 0
+abbrev pub Told : Answer → Type 0
+Told a = (a ≡ passed) ⊎ (a .number ≡ 0 → ⊥)
+
+pub cond-both : {A : Type 0} (P : A → Type 0) (t : Bool) {x y : A} → P x → P y → P (cond t x y)
+cond-both P true p q = p
+cond-both P false p q = q
+
+ends-told : (n k : ℕ) (ends : List ℕ) → Told (endsAnswer n k ends)
+unfolding endsAnswer
+ends-told n k [] = inl refl
+ends-told n k (a ∷ []) = inl refl
+ends-told n k (a ∷ (b ∷ ends)) = cond-both Told (ltb a n && ltb b n)
+    (cond-both Told (eqb a b) (inr (λ z. omega arith)) (ends-told n (suc k) ends)) (inr (λ z. omega arith))
+
+admission-told : (limits : Limits) (n : ℕ) (ends : List ℕ) → Told (admission limits n ends)
+unfolding admission
+admission-told limits n ends = cond-both Told (eqb (length ends % 2) 0)
+    (cond-both Told (ltb n 2 || ltb (limits .vertices) n) (inr (λ z. omega arith))
+    (cond-both Told (ltb (limits .edges) (length ends / 2)) (inr (λ z. omega arith)) (ends-told n 0 ends)))
+    (inr (λ z. omega arith))
+
+-- a plan that is not admitted gets a number that is not 0
+pub admission-number : (limits : Limits) (n : ℕ) (ends : List ℕ) → (Admitted limits n ends → ⊥) → (admission limits n ends) .number ≡ 0 → ⊥
+admission-number limits n ends h = elim (admission-told limits n ends) [ inl p ↦ absurd (h (admission-is limits n ends .0 p)) | inr q ↦ q ]
+
+-- the graph of an admitted plan: its vertices are the numbers below n, and each entry of the table is an edge
+keep-all : (f : ℕ → Bool) (l : List ℕ) → ((x : ℕ) → In x l → T (f x)) → keep f l ≡ l
+unfolding keep
+keep-all f [] h = refl
+keep-all f (x ∷ l) h = rw (T-true (f x) (h x (first refl))) (ap (λ (m : List ℕ). x ∷ m) (keep-all f l (λ y i. h y (later i))))
+
+length-range : (i k : ℕ) → length (range i k) ≡ k
+unfolding range
+length-range i zero = refl
+length-range i (suc k) = ap suc (length-range (suc i) k)
+
+module _ {limits : Limits} {n : ℕ} {ends : List ℕ} (a : Admitted limits n ends) where
+  pub admitted-vertex : (v : ℕ) → v < n → Vertex (graphOf n always ends) v
+  unfolding graphOf
+  admitted-vertex v h = record { below = h; kept = tt }
+
+  pub admitted-edge : (e : ℕ) → e < length ends / 2 → Edge (graphOf n always ends) e
+  unfolding graphOf
+  admitted-edge e h = record { below = h; left = record { below = a .fit e h .left; kept = tt }; right = record { below = a .fit e h .right; kept = tt } }
+
+  pub admitted-edges : length (edges (graphOf n always ends)) ≡ length ends / 2
+  unfolding edges graphOf
+  admitted-edges = ap length (keep-all (isEdge (graphOf n always ends)) (range 0 (length ends / 2))
+      (λ e i. is-edge (graphOf n always ends) e .1 (admitted-edge e (omega (arith, range-is e 0 (length ends / 2) .0 i .1)))))
+      ∙ length-range 0 (length ends / 2)

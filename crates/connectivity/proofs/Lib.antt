@@ -1,0 +1,14 @@
+pub mod Lists
+pub mod Reach
+pub mod Search
+pub mod Disconnects
+pub mod Order
+pub mod LowestCut
+pub mod Admission
+pub mod Verdict
+pub mod Distinct
+pub mod Degree
+pub mod Stage
+pub mod Link
+pub mod Sound
+pub mod Table

@@ -1,0 +1,65 @@
+-- The verdict on a plan: firm exactly where the graph is 3-edge-connected, else weak with the lowest cut; and each other answer.
+use mathlib.Core.Path.{_≡_, refl, sym, ap, _∙_, subst}
+use mathlib.Core.Logic.{_⊎_, inl, inr, _↔_}
+use mathlib.Core.Bool.{Bool, true, false, cond}
+use mathlib.Core.List.{List}
+use mathlib.Core.Option.{Option, none, some}
+use Prim.Native.Nat.{ℕ, _*_, _≤_, _<_}
+use native.Mathlib.Omega.{arith}
+use lib.Dec.{eqb, ltb}
+use lib.ListN.{length}
+use borrow.Author.Tests.{le-ltb, lt-ltb, ne-eqb}
+use Rattle.connectivity.specs.Graph.{Graph, Vertex, graphOf, always, edges}
+use Rattle.connectivity.specs.Reach.{ThreeEdgeConnected}
+use Rattle.connectivity.specs.Cut.{LowestCut, lowestCut}
+use Rattle.connectivity.specs.Admission.{Limits, Answer, answer, passed, Admitted, admission}
+use Rattle.connectivity.specs.Verdict.{Verdict, refused, weak, firm, verdictOn, verdict}
+use Rattle.connectivity.proofs.LowestCut.{lowest-cut, lowest-found, three-edge-connected}
+use Rattle.connectivity.proofs.Admission.{admission-is, admission-number, admitted-vertex}
+
+firm-not-weak : {cut : List ℕ} → firm ≡ weak cut → ⊥
+firm-not-weak {cut} p = let z : _≡_ {A = ℕ} 0 1 = cc in omega arith
+
+weak-same : {c d : List ℕ} → weak c ≡ weak d → c ≡ d
+weak-same {c} {d} p = cc
+
+on-firm : (o : Option (List ℕ)) → verdictOn o ≡ firm → o ≡ none
+unfolding verdictOn
+on-firm none p = refl
+on-firm (some cut) p = absurd (firm-not-weak (sym p))
+
+on-weak : (o : Option (List ℕ)) (cut : List ℕ) → verdictOn o ≡ weak cut → o ≡ some cut
+unfolding verdictOn
+on-weak none cut p = absurd (firm-not-weak p)
+on-weak (some c) cut p = ap some (weak-same p)
+
+module _ {limits : Limits} {n : ℕ} {ends : List ℕ} (a : Admitted limits n ends) (space : ℕ) where
+  abbrev g : Graph
+  g = graphOf n always ends
+
+  -- too little space
+  pub verdict-short : space < 3 * length (edges g) → verdict limits n always ends space ≡ refused (answer 6 0)
+  unfolding verdict
+  verdict-short h = rw (admission-is limits n ends .1 a, lt-ltb space (3 * length (edges g)) h)
+
+  -- enough
+  module _ (h : 3 * length (edges g) ≤ space) where
+    reaches : verdict limits n always ends space ≡ verdictOn (lowestCut g)
+    unfolding verdict
+    reaches = rw (admission-is limits n ends .1 a, le-ltb space (3 * length (edges g)) h)
+
+    pub verdict-firm : (verdict limits n always ends space ≡ firm) ↔ ThreeEdgeConnected g
+    unfolding verdictOn
+    verdict-firm =
+        let e = three-edge-connected 0 1 (admitted-vertex a 0 (omega (arith, a .two))) (admitted-vertex a 1 (omega (arith, a .two))) (λ p. omega arith) in
+        (λ p. e .0 (on-firm (lowestCut g) (sym reaches ∙ p)), λ t. reaches ∙ ap verdictOn (e .1 t))
+
+    pub verdict-weak : (cut : List ℕ) → (verdict limits n always ends space ≡ weak cut) ↔ LowestCut g cut
+    unfolding verdictOn
+    verdict-weak cut = (λ p. lowest-cut (on-weak (lowestCut g) cut (sym reaches ∙ p)), λ l. reaches ∙ ap verdictOn (lowest-found l))
+
+-- a plan that is not admitted is refused by its own number, whatever the space
+pub verdict-refused : (limits : Limits) (n : ℕ) (ends : List ℕ) (space : ℕ) → (Admitted limits n ends → ⊥)
+    → verdict limits n always ends space ≡ refused (admission limits n ends)
+unfolding verdict
+verdict-refused limits n ends space h = rw (ne-eqb ((admission limits n ends) .number) 0 (admission-number limits n ends h))

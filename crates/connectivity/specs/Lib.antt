@@ -1,0 +1,11 @@
+pub mod Lists
+pub mod Graph
+pub mod Reach
+pub mod Cut
+pub mod Walk
+pub mod Link
+pub mod Mader
+pub mod Admission
+pub mod Verdict
+pub mod Judge
+pub mod Table
