@@ -5,18 +5,47 @@ use mathlib.Core.Bool.{Bool, true, false, cond, _&&_, _||_}
 use mathlib.Core.List.{List, [], _∷_, List·Memᴰ as In, List·Memᴰ·head as first, List·Memᴰ·tail as later}
 use Prim.Native.Nat.{ℕ, zero, suc, _+_, _*_, _/_, _%_, _≤_, _<_}
 use native.Mathlib.Omega.{arith}
+use native.Mathlib.Decide.{ℕ-discrete}
 use lib.Dec.{T, eqb, ltb, ltb→lt, lt→ltb, eqb→eq}
 use lib.ListN.{length, getD}
 use borrow.Author.Tests.{eqb-true, eqb-false, ltb-true, ltb-false, eq-eqb, ne-eqb, lt-ltb, le-ltb}
 use Rattle.connectivity.specs.Lists.{range, keep}
 use Rattle.connectivity.specs.Graph.{Graph, Vertex, Edge, graphOf, always, isEdge, edges}
-use Rattle.connectivity.specs.Admission.{Answer, answer, passed, Limits, EndsFit, Admitted, endsAnswer, admission}
+use Rattle.connectivity.specs.Admission.{Answer, answer, passed, Limits, EndsFit, Admitted, andThen, edgeNumber, endsAnswer, admission}
 use Rattle.connectivity.proofs.Lists.{and-both, both-and, T-true, true-T, range-is}
 use Rattle.connectivity.proofs.Search.{is-edge}
 
--- answers with different numbers are different
-pub not-passed : {n p : ℕ} → (n ≡ 0 → ⊥) → answer n p ≡ passed → ⊥
+-- two answers, one after the other, are success where both are
+pub both-passed : (x y : Answer) → andThen x y ≡ passed → (x .number ≡ 0) × (y ≡ passed)
+unfolding andThen
+both-passed x y p = go (eqb (x .number) 0) refl p
+  where
+    go : (t : Bool) → eqb (x .number) 0 ≡ t → cond t y x ≡ passed → (x .number ≡ 0) × (y ≡ passed)
+    go true q p = (eqb-true (x .number) 0 q, p)
+    go false q p = absurd (eqb-false (x .number) 0 q (ap (λ (a : Answer). a .number) p))
+
+pub passed-then : (x y : Answer) → x .number ≡ 0 → andThen x y ≡ y
+unfolding andThen
+passed-then x y p = rw (eq-eqb (x .number) 0 p)
+
+pub failed-then : (x y : Answer) → (x .number ≡ 0 → ⊥) → andThen x y ≡ x
+unfolding andThen
+failed-then x y n = rw (ne-eqb (x .number) 0 n)
+
+not-passed : {n p : ℕ} → (n ≡ 0 → ⊥) → answer n p ≡ passed → ⊥
 not-passed h q = h (ap (λ (a : Answer). a .number) q)
+
+edge-number : (n a b : ℕ) → (edgeNumber n a b ≡ 0) ↔ ((a < n) × (b < n) × (a ≡ b → ⊥))
+unfolding edgeNumber
+edge-number n a b = (to (ltb a n && ltb b n) refl (eqb a b) refl, from)
+  where
+    to : (t : Bool) → (ltb a n && ltb b n) ≡ t → (s : Bool) → eqb a b ≡ s → _≡_ {A = ℕ} (cond t (cond s 5 0) 4) 0 → (a < n) × (b < n) × (a ≡ b → ⊥)
+    to false t s q p = absurd (omega arith)
+    to true t true q p = absurd (omega arith)
+    to true t false q p = let r = and-both (ltb a n) (ltb b n) (true-T t) in (ltb→lt a n (r .0), ltb→lt b n (r .1), eqb-false a b q)
+
+    from : (a < n) × (b < n) × (a ≡ b → ⊥) → edgeNumber n a b ≡ 0
+    from f = rw (lt-ltb a n (f .0), lt-ltb b n (f .1), ne-eqb a b (f .2))
 
 -- the edges behind the first
 module _ (n a b : ℕ) (ends : List ℕ) where
@@ -40,37 +69,20 @@ module _ (n a b : ℕ) (ends : List ℕ) where
     different = rw (even-next e, odd-next e) at (f .different);
   }
 
-  -- what is said of an edge, by its two tests
-  abbrev decided : Bool → Bool → Answer → ℕ → Answer
-  decided below same next e = cond below (cond same (answer 5 e) next) (answer 4 e)
-
-  first-fits : T (ltb a n && ltb b n) → (a ≡ b → ⊥) → EndsFit n (a ∷ (b ∷ ends)) 0
-  first-fits t d = let p = and-both (ltb a n) (ltb b n) t in record { left = ltb→lt a n (p .0); right = ltb→lt b n (p .1); different = d }
-
-  fits-first : EndsFit n (a ∷ (b ∷ ends)) 0 → (T (ltb a n && ltb b n)) × (a ≡ b → ⊥)
-  fits-first f = (both-and (ltb a n) (ltb b n) (lt→ltb a n (f .left)) (lt→ltb b n (f .right)), f .different)
-
 fits : (n k : ℕ) (ends : List ℕ) → endsAnswer n k ends ≡ passed → (e : ℕ) → e < length ends / 2 → EndsFit n ends e
 unfolding endsAnswer
 fits n k [] p e h = absurd (omega arith)
 fits n k (a ∷ []) p e h = absurd (omega arith)
-fits n k (a ∷ (b ∷ ends)) p e h = go (ltb a n && ltb b n) refl (eqb a b) refl p e h (fits n (suc k) ends)
-  where
-    go : (t : Bool) → (ltb a n && ltb b n) ≡ t → (s : Bool) → eqb a b ≡ s → decided n a b ends t s (endsAnswer n (suc k) ends) k ≡ passed
-        → (e : ℕ) → e < length (a ∷ (b ∷ ends)) / 2
-        → (endsAnswer n (suc k) ends ≡ passed → (e : ℕ) → e < length ends / 2 → EndsFit n ends e) → EndsFit n (a ∷ (b ∷ ends)) e
-    go false t s q p e h f = absurd (not-passed (λ z. omega arith) p)
-    go true t true q p e h f = absurd (not-passed (λ z. omega arith) p)
-    go true t false q p zero h f = first-fits n a b ends (true-T t) (eqb-false a b q)
-    go true t false q p (suc e) h f = fit-next n a b ends e (f p e (omega arith))
+fits n k (a ∷ (b ∷ ends)) p zero h = let f = edge-number n a b .0 (both-passed _ _ p .0) in record { left = f .0; right = f .1; different = f .2 }
+fits n k (a ∷ (b ∷ ends)) p (suc e) h = fit-next n a b ends e (fits n (suc k) ends (both-passed _ _ p .1) e (omega arith))
 
 fitting : (n k : ℕ) (ends : List ℕ) → ((e : ℕ) → e < length ends / 2 → EndsFit n ends e) → endsAnswer n k ends ≡ passed
 unfolding endsAnswer
 fitting n k [] f = refl
 fitting n k (a ∷ []) f = refl
-fitting n k (a ∷ (b ∷ ends)) f = let p = fits-first n a b ends (f 0 (omega arith)) in
-    rw (T-true (ltb a n && ltb b n) (p .0), ne-eqb a b (p .1))
-    (fitting n (suc k) ends (λ e h. next-fit n a b ends e (f (suc e) (omega arith))))
+fitting n k (a ∷ (b ∷ ends)) f = let p = f 0 (omega arith) in
+    passed-then _ _ (edge-number n a b .1 (p .left, p .right, p .different))
+    ∙ fitting n (suc k) ends (λ e h. next-fit n a b ends e (f (suc e) (omega arith)))
 
 pub admission-is : (limits : Limits) (n : ℕ) (ends : List ℕ) → (admission limits n ends ≡ passed) ↔ Admitted limits n ends
 unfolding admission
@@ -102,14 +114,16 @@ pub cond-both : {A : Type 0} (P : A → Type 0) (t : Bool) {x y : A} → P x →
 cond-both P true p q = p
 cond-both P false p q = q
 
+then-told : (x y : Answer) → Told y → Told (andThen x y)
+then-told x y t = elim (ℕ-discrete (x .number) 0) [ yes p ↦ rw (passed-then x y p) t | no n ↦ inr (rw (failed-then x y n) n) ]
+
 ends-told : (n k : ℕ) (ends : List ℕ) → Told (endsAnswer n k ends)
 unfolding endsAnswer
 ends-told n k [] = inl refl
 ends-told n k (a ∷ []) = inl refl
-ends-told n k (a ∷ (b ∷ ends)) = cond-both Told (ltb a n && ltb b n)
-    (cond-both Told (eqb a b) (inr (λ z. omega arith)) (ends-told n (suc k) ends)) (inr (λ z. omega arith))
+ends-told n k (a ∷ (b ∷ ends)) = then-told (answer (edgeNumber n a b) k) (endsAnswer n (suc k) ends) (ends-told n (suc k) ends)
 
-admission-told : (limits : Limits) (n : ℕ) (ends : List ℕ) → Told (admission limits n ends)
+pub admission-told : (limits : Limits) (n : ℕ) (ends : List ℕ) → Told (admission limits n ends)
 unfolding admission
 admission-told limits n ends = cond-both Told (eqb (length ends % 2) 0)
     (cond-both Told (ltb n 2 || ltb (limits .vertices) n) (inr (λ z. omega arith))

@@ -26,6 +26,10 @@ pub record Limits : Type 0 where
   pub vertices : ℕ
   pub edges : ℕ
 
+-- 01: 1,000 pieces and 4,000 tabs
+abbrev pub limits : Limits
+limits = record { vertices = 1000; edges = 4000 }
+
 -- both ends of an edge are below the number of vertices, and they differ
 pub record EndsFit (n : ℕ) (ends : List ℕ) (e : ℕ) : Type 0 where
   pub left : getD ends (2 * e) 0 < n
@@ -33,24 +37,27 @@ pub record EndsFit (n : ℕ) (ends : List ℕ) (e : ℕ) : Type 0 where
   pub different : getD ends (2 * e) 0 ≡ getD ends (2 * e + 1) 0 → ⊥
 
 -- 01: admitted, of n vertices and a table of two ends for each edge
-pub record Admitted (limits : Limits) (n : ℕ) (ends : List ℕ) : Type 0 where
+pub record Admitted (most : Limits) (n : ℕ) (ends : List ℕ) : Type 0 where
   pub even : length ends % 2 ≡ 0
   pub two : 2 ≤ n
-  pub vertices : n ≤ limits .vertices
-  pub edges : length ends / 2 ≤ limits .edges
+  pub vertices : n ≤ most .vertices
+  pub edges : length ends / 2 ≤ most .edges
   pub fit : (e : ℕ) → e < length ends / 2 → EndsFit n ends e
 
--- 01: the first edge, from number e on, with 4 (an end is not below the number of vertices) or 5 (both ends are the same), 4 before 5
+-- 01: 4 where an end is not below the number of vertices, 5 where both ends are the same, 4 before 5; else 0
+unfoldable pub edgeNumber : ℕ → ℕ → ℕ → ℕ
+edgeNumber n a b = cond (ltb a n && ltb b n) (cond (eqb a b) 5 0) 4
+
+-- 01: the first edge with 4 or 5, from number e on
 unfoldable pub endsAnswer : ℕ → ℕ → List ℕ → Answer
 endsAnswer n e [] = passed
 endsAnswer n e (a ∷ []) = passed
-endsAnswer n e (a ∷ (b ∷ ends)) =
-    cond (ltb a n && ltb b n) (cond (eqb a b) (answer 5 e) (endsAnswer n (suc e) ends)) (answer 4 e)
+endsAnswer n e (a ∷ (b ∷ ends)) = andThen (answer (edgeNumber n a b) e) (endsAnswer n (suc e) ends)
 
 -- 01: 1, 2, 3, then the first edge with 4 or 5
 unfoldable pub admission : Limits → ℕ → List ℕ → Answer
-admission limits n ends =
+admission most n ends =
     cond (eqb (length ends % 2) 0)
-    (cond (ltb n 2 || ltb (limits .vertices) n) (answer 2 0)
-    (cond (ltb (limits .edges) (length ends / 2)) (answer 3 0) (endsAnswer n 0 ends)))
+    (cond (ltb n 2 || ltb (most .vertices) n) (answer 2 0)
+    (cond (ltb (most .edges) (length ends / 2)) (answer 3 0) (endsAnswer n 0 ends)))
     (answer 1 0)

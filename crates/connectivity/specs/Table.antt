@@ -3,13 +3,9 @@
 use mathlib.Core.List.{List, [], _∷_, map}
 use Prim.Native.Nat.{ℕ, zero, suc}
 use Rattle.connectivity.specs.Graph.{always}
-use Rattle.connectivity.specs.Admission.{Limits, Answer, answer, passed}
+use Rattle.connectivity.specs.Admission.{Answer, answer, passed, limits}
 use Rattle.connectivity.specs.Verdict.{Verdict, refused, weak, firm, verdict}
 use Rattle.connectivity.specs.Judge.{judge}
-
--- 01: 1,000 pieces and 4,000 tabs
-abbrev pub limits : Limits
-limits = record { vertices = 1000; edges = 4000 }
 
 -- a verdict as a kind and a list of numbers, and the check's answer on it
 pub record Checked : Type 0 where

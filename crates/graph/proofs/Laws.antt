@@ -1,0 +1,78 @@
+-- The judgement of a table of ends, from one edge to the next, and the constructor's answer by its tests.
+use mathlib.Core.Path.{_≡_, refl, sym, ap, _∙_}
+use mathlib.Core.List.{List, [], _∷_}
+use Prim.Native.Nat.{ℕ, suc, _+_, _*_, _/_, _%_, _≤_, _<_}
+use native.Mathlib.Omega.{arith}
+use lib.ListN.{length, getD, drop}
+use lib.Seq.{drop-cons}
+use borrow.Author.Tests.{lt-ltb, le-ltb, eq-eqb, ne-eqb}
+use Rattle.connectivity.specs.Admission.{Limits, answer, passed, andThen, edgeNumber, endsAnswer, admission}
+use Rattle.connectivity.proofs.Admission.{passed-then, failed-then}
+use Rattle.graph.specs.declared.Admission.{Admission}
+use Rattle.graph.specs.declared.Admission.the-variants.{Admitted, Refused}
+use Rattle.graph.specs.Admission.{toldBy, constructed}
+
+drop-two : (ends : List ℕ) (e : ℕ) → 2 * e + 1 < length ends
+    → drop (2 * e) ends ≡ getD ends (2 * e) 0 ∷ (getD ends (2 * e + 1) 0 ∷ drop (2 * (e + 1)) ends)
+drop-two ends e h =
+    let p : suc (2 * e) ≡ 2 * e + 1 = omega arith in
+    let q : suc (2 * e + 1) ≡ 2 * (e + 1) = omega arith in
+    rw (drop-cons ends (2 * e) 0 (omega arith), p, drop-cons ends (2 * e + 1) 0 h, q)
+
+module _ (n : ℕ) (ends : List ℕ) (e : ℕ) where
+  abbrev here : ℕ
+  here = edgeNumber n (getD ends (2 * e) 0) (getD ends (2 * e + 1) 0)
+
+  step : 2 * e + 1 < length ends → endsAnswer n e (drop (2 * e) ends) ≡ andThen (answer here e) (endsAnswer n (e + 1) (drop (2 * (e + 1)) ends))
+  unfolding endsAnswer
+  step h = let p : suc e ≡ e + 1 = omega arith in rw (drop-two ends e h, p)
+
+  pub ends-next : 2 * e + 1 < length ends → here ≡ 0 → endsAnswer n e (drop (2 * e) ends) ≡ endsAnswer n (e + 1) (drop (2 * (e + 1)) ends)
+  ends-next h p = step h ∙ passed-then (answer here e) _ p
+
+  pub ends-stop : 2 * e + 1 < length ends → (here ≡ 0 → ⊥) → endsAnswer n e (drop (2 * e) ends) ≡ answer here e
+  ends-stop h p = step h ∙ failed-then (answer here e) _ p
+
+-- fewer than two numbers are no edge
+pub ends-over : (n e : ℕ) (rest : List ℕ) → length rest < 2 → endsAnswer n e rest ≡ passed
+unfolding endsAnswer
+ends-over n e [] h = refl
+ends-over n e (a ∷ []) h = refl
+ends-over n e (a ∷ (b ∷ rest)) h = absurd (omega arith)
+
+-- What the constructor answers, by its tests.
+module _ (most : Limits) (n : ℕ) (ends : List ℕ) where
+  abbrev refusal : ℕ → Admission
+  refusal k = Refused (record { number = k; place = 0 })
+
+  pub odd : (length ends % 2 ≡ 0 → ⊥) → constructed most n ends ≡ refusal 1
+  unfolding constructed admission
+  odd h = rw (ne-eqb (length ends % 2) 0 h)
+
+  module _ (even : length ends % 2 ≡ 0) where
+    pub too-few : n < 2 → constructed most n ends ≡ refusal 2
+    unfolding constructed admission
+    too-few h = rw (eq-eqb (length ends % 2) 0 even, lt-ltb n 2 h)
+
+    module _ (two : 2 ≤ n) where
+      pub too-many : most .vertices < n → constructed most n ends ≡ refusal 2
+      unfolding constructed admission
+      too-many h = rw (eq-eqb (length ends % 2) 0 even, le-ltb n 2 two, lt-ltb (most .vertices) n h)
+
+      module _ (small : n ≤ most .vertices) where
+        pub too-long : most .edges < length ends / 2 → constructed most n ends ≡ refusal 3
+        unfolding constructed admission
+        too-long h = rw (eq-eqb (length ends % 2) 0 even, le-ltb n 2 two, le-ltb (most .vertices) n small, lt-ltb (most .edges) (length ends / 2) h)
+
+        module _ (short : length ends / 2 ≤ most .edges) where
+          to-ends : admission most n ends ≡ endsAnswer n 0 ends
+          unfolding admission
+          to-ends = rw (eq-eqb (length ends % 2) 0 even, le-ltb n 2 two, le-ltb (most .vertices) n small, le-ltb (most .edges) (length ends / 2) short)
+
+          pub misfit : ((endsAnswer n 0 ends) .number ≡ 0 → ⊥) → constructed most n ends ≡ Refused (toldBy (endsAnswer n 0 ends))
+          unfolding constructed
+          misfit h = rw (to-ends, ne-eqb ((endsAnswer n 0 ends) .number) 0 h)
+
+          pub fits : (endsAnswer n 0 ends) .number ≡ 0 → constructed most n ends ≡ Admitted (record { vertices = n; edges = length ends / 2 })
+          unfolding constructed
+          fits h = rw (to-ends, eq-eqb ((endsAnswer n 0 ends) .number) 0 h)

@@ -1,0 +1,102 @@
+// The graph that a plan lists: its limits, and the constructor that admits it or refuses it by 1 to 5.
+ghost use mathlib.Core.Path.{_≡_};
+ghost use Prim.Native.Nat.{_/_, _≤_};
+ghost use lib.ListN.{length};
+ghost use Rattle.connectivity.specs.Admission.{edgeNumber, endsAnswer, limits};
+ghost use Rattle.graph.specs.Admission.{toldBy, constructed};
+
+// An answer to every question asked of these crates (01): a number and a place; 0 and 0 is success.
+pub struct Answer {
+    pub number: u16,
+    pub place: u16,
+}
+
+// A graph (01: plan): how many vertices and edges. The table of ends, two for each edge, stays with the caller.
+pub struct Graph {
+    pub vertices: u16,
+    pub edges: u16,
+}
+
+pub enum Admission {
+    Admitted(Graph),
+    Refused(Answer),
+}
+
+impl Graph {
+    pub const MAX_VERTICES: u16 = 1000;
+
+    pub const MAX_EDGES: usize = 4000;
+
+    // The graph with `vertices` vertices whose edges have the ends `ends`, or the first refusal in 01's order.
+    pub fn new(vertices: u16, ends: &[u16]) -> Admission
+        ensures { λ r. ⌜ r ≡ constructed limits vertices (now (ends .entry)) ⌝ }
+    {
+        if ends.len() % 2 != 0 {
+            return refused(1, 0);
+        }
+        if vertices < 2 {
+            return refused(2, 0);
+        }
+        if Graph::MAX_VERTICES < vertices {
+            return refused(2, 0);
+        }
+        let edges = ends.len() / 2;
+        if Graph::MAX_EDGES < edges {
+            return refused(3, 0);
+        }
+        let fit = judge_ends(vertices, ends);
+        let first = fit.number;
+        if first != 0 {
+            return Admission::Refused(fit);
+        }
+        Admission::Admitted(Graph {
+            vertices: vertices,
+            edges: edges as u16,
+        })
+    }
+}
+
+fn refused(number: u16, place: u16) -> Admission
+    ensures { λ r. ⌜ r ≡ Admission.Refused (record { number = number; place = place }) ⌝ }
+{
+    Admission::Refused(Answer {
+        number: number,
+        place: place,
+    })
+}
+
+// The first edge with an end that is not below `vertices` (4) or with two equal ends (5), 4 before 5.
+fn judge_ends(vertices: u16, ends: &[u16]) -> Answer
+    requires { ⌜ length (now ends) / 2 ≤ 4000 ⌝ }
+    ensures { λ r. ⌜ r ≡ toldBy (endsAnswer vertices 0 (now (ends .entry))) ⌝ }
+{
+    let edges = ends.len() / 2;
+    let mut e = 0;
+    while e < edges {
+        let number = judge_edge(vertices, ends[2 * e], ends[2 * e + 1]);
+        if number != 0 {
+            return Answer {
+                number: number,
+                place: e as u16,
+            };
+        }
+        e += 1;
+    }
+    Answer {
+        number: 0,
+        place: 0,
+    }
+}
+
+// 4, 5 or 0 for the edge with these ends.
+fn judge_edge(vertices: u16, left: u16, right: u16) -> u16
+    ensures { λ r. ⌜ r ≡ edgeNumber vertices left right ⌝ }
+{
+    if vertices <= left {
+        return 4; // the left end
+    }
+    if vertices <= right {
+        return 4; // the right end
+    }
+    if left == right { 5 } else { 0 }
+}
