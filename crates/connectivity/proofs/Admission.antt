@@ -32,6 +32,11 @@ pub failed-then : (x y : Answer) → (x .number ≡ 0 → ⊥) → andThen x y �
 unfolding andThen
 failed-then x y n = rw (ne-eqb (x .number) 0 n)
 
+-- an answer that depends on a test, else a rejection
+pub passed-when : (t : Bool) (x : Answer) (n p : ℕ) → (n ≡ 0 → ⊥) → (cond t x (answer n p) ≡ passed) ↔ (T t × (x ≡ passed))
+passed-when true x n p h = (λ q. (tt, q), λ q. q .1)
+passed-when false x n p h = (λ q. absurd (h (ap (λ (a : Answer). a .number) q)), λ q. absurd (q .0))
+
 not-passed : {n p : ℕ} → (n ≡ 0 → ⊥) → answer n p ≡ passed → ⊥
 not-passed h q = h (ap (λ (a : Answer). a .number) q)
 
@@ -130,9 +135,12 @@ admission-told limits n ends = cond-both Told (eqb (length ends % 2) 0)
     (cond-both Told (ltb (limits .edges) (length ends / 2)) (inr (λ z. omega arith)) (ends-told n 0 ends)))
     (inr (λ z. omega arith))
 
--- a plan that is not admitted gets a number that is not 0
-pub admission-number : (limits : Limits) (n : ℕ) (ends : List ℕ) → (Admitted limits n ends → ⊥) → (admission limits n ends) .number ≡ 0 → ⊥
-admission-number limits n ends h = elim (admission-told limits n ends) [ inl p ↦ absurd (h (admission-is limits n ends .0 p)) | inr q ↦ q ]
+-- so the number alone tells whether the plan is admitted
+pub admission-number : (limits : Limits) (n : ℕ) (ends : List ℕ) → ((admission limits n ends) .number ≡ 0) ↔ Admitted limits n ends
+admission-number limits n ends = (
+  λ z. elim (admission-told limits n ends) [ inl p ↦ admission-is limits n ends .0 p | inr q ↦ absurd (q z) ],
+  λ a. ap (λ (x : Answer). x .number) (admission-is limits n ends .1 a),
+)
 
 -- the graph of an admitted plan: its vertices are the numbers below n, and each entry of the table is an edge
 keep-all : (f : ℕ → Bool) (l : List ℕ) → ((x : ℕ) → In x l → T (f x)) → keep f l ≡ l

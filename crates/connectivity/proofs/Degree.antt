@@ -87,7 +87,12 @@ remove {e} g (later {x = d} i) = let r = remove g i in record {
   sum = λ x. omega (arith, r .sum x);
 }
 
--- a part has no more edges at a vertex than the whole
+-- a part has no more edges than the whole, in all and at a vertex
+pub part-length : (g : Graph) (l whole : List ℕ) → Distinct l → ((e : ℕ) → In e l → In e whole) → length l ≤ length whole
+part-length g [] whole d f = omega arith
+part-length g (e ∷ l) whole (one n d) f = let r = remove g (f e (first refl)) in
+    omega (arith, r .fewer, part-length g l (r .rest) d (λ c i. r .kept c (λ p. n (Memᴰ·cast (sym p) i)) (f c (later i))))
+
 pub part-degree : (g : Graph) (l whole : List ℕ) (x : ℕ) → Distinct l → ((e : ℕ) → In e l → In e whole) → degree g l x ≤ degree g whole x
 part-degree g [] whole x d f = omega arith
 part-degree g (e ∷ l) whole x (one n d) f = let r = remove g (f e (first refl)) in

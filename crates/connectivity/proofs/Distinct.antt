@@ -2,8 +2,9 @@
 use mathlib.Core.Path.{refl, sym}
 use mathlib.Core.Logic.{_⊎_, inl, inr}
 use mathlib.Core.List.{List, [], _∷_, _++_, List·Memᴰ as In, List·Memᴰ·head as first, List·Memᴰ·tail as later, List·Memᴰ·not-nil as not-in, List·Memᴰ·cases-cons as in-cons, Memᴰ·append-left as in-left, Memᴰ·append-right as in-right, Memᴰ·cast}
-use Prim.Native.Nat.{ℕ}
-use Rattle.connectivity.specs.Lists.{Distinct, none, one}
+use Prim.Native.Nat.{ℕ, _<_}
+use native.Mathlib.Omega.{arith}
+use Rattle.connectivity.specs.Lists.{Distinct, none, one, Ordered, nil, cons}
 use Rattle.connectivity.proofs.Lists.{in-dec}
 
 -- two lists have a member in common, or none
@@ -35,3 +36,17 @@ right-distinct (x ∷ l) (one n d) = right-distinct l d
 pub apart-distinct : (l : List ℕ) {r : List ℕ} {x : ℕ} → Distinct (l ++ r) → In x l → In x r → ⊥
 apart-distinct (y ∷ l) (one n d) (first p) j = n (in-right l (Memᴰ·cast (sym p) j))
 apart-distinct (y ∷ l) (one n d) (later i) j = apart-distinct l d i j
+
+-- the first two changed round, and what stands behind them less a part
+pub swap-distinct : {a b : ℕ} {l : List ℕ} → Distinct (a ∷ b ∷ l) → Distinct (b ∷ a ∷ l)
+swap-distinct {a} {b} {l} (one n (one m d)) =
+    one {x = b} (λ i. elim (in-cons {b = a} {l = l} i) [ inl e ↦ n (first (sym e)) | inr j ↦ m j ]) (one {x = a} (λ i. n (later i)) d)
+
+pub skip-distinct : {a b : ℕ} (l : List ℕ) {r : List ℕ} → Distinct (a ∷ b ∷ (l ++ r)) → Distinct (a ∷ b ∷ r)
+skip-distinct {a} {b} l {r} (one n (one m d)) =
+    one {x = a} (λ i. elim (in-cons {b = b} {l = r} i) [ inl e ↦ n (first e) | inr j ↦ n (later (in-right l j)) ]) (one {x = b} (λ i. m (in-right l i)) (right-distinct l d))
+
+-- an ascending list
+pub ordered-distinct : {l : List ℕ} → Ordered _<_ l → Distinct l
+ordered-distinct nil = none
+ordered-distinct (cons {x = x} h o) = one (λ i. let l = h x i in omega arith) (ordered-distinct o)

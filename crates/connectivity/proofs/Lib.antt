@@ -11,4 +11,9 @@ pub mod Degree
 pub mod Stage
 pub mod Link
 pub mod Sound
+pub mod Legs
+pub mod Run
+pub mod Fit
+pub mod Build
+pub mod Judge
 pub mod Table

@@ -166,3 +166,34 @@ pub not-empty : (l : List ℕ) → (T (empty l) → ⊥) → 1 ≤ length l
 unfolding empty
 not-empty [] n = absurd (n tt)
 not-empty (x ∷ l) n = omega arith
+
+-- a test decides a fact: it is true exactly where the fact holds
+pub record Decides (b : Bool) (P : Type 0) : Type 0 where
+  pub holds : T b → P
+  pub test : P → T b
+
+pub decides : {P : Type 0} (b : Bool) → T b ↔ P → Decides b P
+decides b e = record { holds = e .0; test = e .1 }
+
+pub decides-eq : (m n : ℕ) → Decides (eqb m n) (m ≡ n)
+decides-eq m n = record { holds = eqb→eq m n; test = eq-T }
+
+module _ {a : Bool} {P : Type 0} (p : Decides a P) where
+  pub decides-not : Decides (not a) (P → ⊥)
+  decides-not = record { holds = λ t h. T-not a t (p .test h); test = λ n. not-T a (λ t. n (p .holds t)) }
+
+  pub decides-to : {Q : Type 0} → (P → Q) → (Q → P) → Decides a Q
+  decides-to f h = record { holds = λ t. f (p .holds t); test = λ q. p .test (h q) }
+
+  module _ {b : Bool} {Q : Type 0} (q : Decides b Q) where
+    pub decides-and : Decides (a && b) (P × Q)
+    decides-and = record { holds = λ t. let r = and-both a b t in (p .holds (r .0), q .holds (r .1)); test = λ r. both-and a b (p .test (r .0)) (q .test (r .1)) }
+
+    pub decides-or : Decides (a || b) (P ⊎ Q)
+    decides-or = record {
+      holds = λ t. elim (or-one a b t) [ inl h ↦ inl (p .holds h) | inr h ↦ inr (q .holds h) ];
+      test = λ r. elim r [ inl h ↦ or-left a b (p .test h) | inr h ↦ or-right a b (q .test h) ];
+    }
+
+pub decides-all : {f : ℕ → Bool} {P : ℕ → Type 0} → ((x : ℕ) → Decides (f x) (P x)) → (l : List ℕ) → Decides (all f l) ((x : ℕ) → In x l → P x)
+decides-all {f} d l = record { holds = λ t x i. d x .holds (all-is f l .0 t x i); test = λ h. all-is f l .1 (λ x i. d x .test (h x i)) }

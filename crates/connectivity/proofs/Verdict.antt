@@ -62,4 +62,4 @@ module _ {limits : Limits} {n : ℕ} {ends : List ℕ} (a : Admitted limits n en
 pub verdict-refused : (limits : Limits) (n : ℕ) (ends : List ℕ) (space : ℕ) → (Admitted limits n ends → ⊥)
     → verdict limits n always ends space ≡ refused (admission limits n ends)
 unfolding verdict
-verdict-refused limits n ends space h = rw (ne-eqb ((admission limits n ends) .number) 0 (admission-number limits n ends h))
+verdict-refused limits n ends space h = rw (ne-eqb ((admission limits n ends) .number) 0 (λ z. h (admission-number limits n ends .0 z)))
