@@ -1,1 +1,3 @@
 pub mod Admission
+pub mod Search
+pub mod Sweep
