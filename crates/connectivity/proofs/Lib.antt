@@ -2,6 +2,7 @@ pub mod Lists
 pub mod Reach
 pub mod Search
 pub mod Disconnects
+pub mod CutOff
 pub mod Order
 pub mod LowestCut
 pub mod Admission

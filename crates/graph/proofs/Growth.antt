@@ -14,8 +14,8 @@ use Rattle.connectivity.specs.Graph.{Graph, Joins, graphOf, always}
 use Rattle.connectivity.specs.Reach.{Through, stay, leave}
 use Rattle.connectivity.proofs.Reach.{joins-sym, joins-vertex, through-on, closed-through}
 use Rattle.graph.specs.declared.search.Progress.{Progress}
-use Rattle.graph.specs.Search.{Live, Start, Pass, Goal, Marked, Reached, Tree, FromStart, Found, Whole, Stopped}
-use Rattle.graph.specs.Sweep.{tally, Fit, Edge, State, Plain, More, Placed, Begun, Lead, Noted, kept, added, SweepStart, Swept, Explored}
+use Rattle.graph.specs.Search.{Live, Start, Pass, Goal, Marked, tally, Reached, Tree, FromStart, Found, Whole, Stopped}
+use Rattle.graph.specs.Sweep.{Fit, Edge, State, Plain, More, Placed, Begun, Lead, Noted, kept, added, SweepStart, Swept, Explored}
 use Rattle.graph.proofs.Tally.{tally-lt, tally-set, tally-le}
 
 -- a Joins at equal numbers
@@ -329,6 +329,7 @@ pub found : {g : Graph} {live pass : ℕ → Type 0} {n : ℕ} {roles first₀ o
     → Found g live pass (Start roles) n first₀ order₀ first order count
 found b s m = record {
   tree = s .tree;
+  counted = s .counted;
   sound = tree-sound (s .tree);
   first-rest = λ k l. m .first-rest k l ∙ b .first-rest k l;
   order-rest = λ k l. m .order-rest k l ∙ b .order-rest k (omega (arith, m .grows));

@@ -5,15 +5,18 @@ use mathlib.Core.List.{List}
 use Prim.Native.Nat.{ℕ, _+_, _*_, _/_, _<_}
 use native.Mathlib.Omega.{arith}
 use lib.ListN.{length, getD}
-use Rattle.connectivity.specs.Graph.{Graph, Joins, graphOf, always}
+use Rattle.connectivity.specs.Graph.{Graph, Vertex, Joins, graphOf, always}
 use Rattle.connectivity.proofs.Reach.{joins-sym, joins-vertex}
 use Rattle.graph.specs.Search.{Live, Pass, Marked}
 use Rattle.graph.specs.Sweep.{Edge, Lead}
 
--- what an edge joins is a vertex, and the edge is one of the table's
-pub joins-below : (n : ℕ) (ends : List ℕ) (e u v : ℕ) → Joins (graphOf n always ends) e u v → v < n
+-- a vertex is below n; what an edge joins is a vertex, and the edge is one of the table's
+pub vertex-below : (n : ℕ) (ends : List ℕ) (v : ℕ) → Vertex (graphOf n always ends) v → v < n
 unfolding graphOf
-joins-below n ends e u v j = joins-vertex (joins-sym j) .below
+vertex-below n ends v h = h .below
+
+pub joins-below : (n : ℕ) (ends : List ℕ) (e u v : ℕ) → Joins (graphOf n always ends) e u v → v < n
+joins-below n ends e u v j = vertex-below n ends v (joins-vertex (joins-sym j))
 
 pub joins-edge : (n : ℕ) (ends : List ℕ) (e u v : ℕ) → Joins (graphOf n always ends) e u v → e < length ends / 2
 unfolding graphOf

@@ -8,8 +8,8 @@ use native.Mathlib.Decide.{ℕ-discrete}
 use borrow.Author.Count.{below-more}
 use lib.ListN.{length, getD, set, length-set}
 use lib.Seq.{getD-set-same, getD-set-other}
-use Rattle.graph.specs.Search.{Start}
-use Rattle.graph.specs.Sweep.{flag, tally, Placed, cleared, started, Begun}
+use Rattle.graph.specs.Search.{Start, flag, tally}
+use Rattle.graph.specs.Sweep.{Placed, cleared, started, Begun}
 use Rattle.graph.proofs.Tally.{tally-suc, flag-pos, flag-zero, tally-same}
 
 pub begun-none : (roles first order : List ℕ) → Begun 0 roles first order first order 0

@@ -7,7 +7,7 @@ use native.Mathlib.Nat.{le-of-suc-le-suc, eq-or-lt-of-le}
 use native.Mathlib.Omega.{arith}
 use lib.ListN.{length, getD, set}
 use lib.Seq.{getD-set-same, getD-set-other}
-use Rattle.graph.specs.Sweep.{flag, tally}
+use Rattle.graph.specs.Search.{flag, tally}
 
 pub tally-suc : (a : List ℕ) (n : ℕ) → tally a (suc n) ≡ flag (getD a n 0) + tally a n
 unfolding tally
@@ -64,3 +64,9 @@ tally-set a (suc n) w x l r z p =
       tally-set a n w x lt (omega arith) z p,
     ))
     (eq-or-lt-of-le (le-of-suc-le-suc l))
+
+-- all are set
+pub tally-full : (a : List ℕ) (n : ℕ) → ((k : ℕ) → k < n → getD a k 0 ≡ 0 → ⊥) → tally a n ≡ n
+unfolding tally
+tally-full a zero h = refl
+tally-full a (suc n) h = omega (arith, tally-suc a n, flag-pos (getD a n 0) (h n (omega arith)), tally-full a n (λ k l. h k (omega arith)))

@@ -1,5 +1,6 @@
 -- What the constructor of a graph answers.
-use mathlib.Core.Bool.{cond}
+use mathlib.Core.Path.{_≡_}
+use mathlib.Core.Bool.{Bool, cond}
 use mathlib.Core.List.{List}
 use Prim.Native.Nat.{ℕ, _/_}
 use lib.Dec.{eqb}
@@ -24,3 +25,11 @@ unfoldable pub constructed : meaning.Limits → ℕ → List ℕ → Admission
 constructed most n ends =
     let a = meaning.admission most n ends in
     cond (eqb (a .number) 0) (Admitted (record { vertices = n; edges = length ends / 2 })) (Refused (toldBy a))
+
+-- 01: the plan's own refusals, then 6 where the lent space is too short
+unfoldable pub lent : ℕ → List ℕ → Bool → meaning.Answer
+lent n ends enough = meaning.andThen (meaning.admission meaning.limits n ends) (cond enough meaning.passed (meaning.answer 6 0))
+
+-- the code's answer is this refusal
+abbrev pub RefusedBy : meaning.Answer → Answer → Type 0
+RefusedBy refusal a = (refusal .number ≡ 0 → ⊥) × (a ≡ toldBy refusal)

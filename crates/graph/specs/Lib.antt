@@ -1,3 +1,4 @@
 pub mod Admission
 pub mod Search
 pub mod Sweep
+pub mod Cut

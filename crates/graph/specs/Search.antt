@@ -1,6 +1,6 @@
 -- What a search has found, of a graph, its live edges and the roles of its vertices.
 use mathlib.Core.Path.{_≡_}
-use mathlib.Core.Bool.{Bool, cond, _&&_}
+use mathlib.Core.Bool.{Bool, _&&_}
 use mathlib.Core.Logic.{_⊎_}
 use mathlib.Core.List.{List}
 use Prim.Native.Nat.{ℕ, zero, suc, _+_, _-_, _/_, _≤_, _<_}
@@ -9,10 +9,9 @@ use lib.ListN.{length, getD}
 use Rattle.connectivity.specs.Graph.{Graph, Joins, graphOf, always}
 use Rattle.connectivity.specs.Reach.{Through}
 use Rattle.connectivity.specs.Admission as meaning
-use Rattle.graph.specs.declared.Answer.{Answer}
 use Rattle.graph.specs.declared.search.Explored.{Explored}
 use Rattle.graph.specs.declared.search.Explored.the-variants.{Refused, Seen, Met}
-use Rattle.graph.specs.Admission.{toldBy}
+use Rattle.graph.specs.Admission.{lent, RefusedBy}
 
 -- an edge is live if its mark is 0
 abbrev pub Live : List ℕ → ℕ → Type 0
@@ -32,6 +31,16 @@ Goal roles v = 2 < getD roles v 0
 -- a vertex was seen if its mark is not 0: 65,535 for a start, else one more than the edge by which it was first reached
 abbrev pub Marked : List ℕ → ℕ → Type 0
 Marked first v = getD first v 0 ≡ 0 → ⊥
+
+-- how many of the first n vertices have been seen
+unfoldable pub flag : ℕ → ℕ
+flag zero = 0
+flag (suc k) = 1
+
+unfoldable pub tally : List ℕ → ℕ → ℕ
+unfolding flag
+tally marks zero = 0
+tally marks (suc n) = flag (getD marks n 0) + tally marks n
 
 -- v was first reached by a live edge from a vertex before place k of the order, and that one may be passed through
 pub record Reached (g : Graph) (live pass : ℕ → Type 0) (first order : List ℕ) (k v : ℕ) : Type 0 where
@@ -64,6 +73,7 @@ pub record FromStart (g : Graph) (live pass start : ℕ → Type 0) (n v : ℕ) 
 -- what a search leaves behind
 pub record Found (g : Graph) (live pass start : ℕ → Type 0) (n : ℕ) (first₀ order₀ first order : List ℕ) (count : ℕ) : Type 0 where
   pub tree : Tree g live pass start n first order count
+  pub counted : count ≡ tally first n
   pub sound : (v : ℕ) → v < n → Marked first v → FromStart g live pass start n v
   -- numbers behind the needed ones stay
   pub first-rest : (k : ℕ) → n ≤ k → getD first k 0 ≡ getD first₀ k 0
@@ -80,25 +90,20 @@ pub record Stopped (goal : ℕ → Type 0) (order : List ℕ) (count : ℕ) : Ty
   pub met : goal (getD order (count - 1) 0)
   pub plain : (k : ℕ) → k + 1 < count → goal (getD order k 0) → ⊥
 
--- 01: the plan's own refusals, then 6 where a lent slice is too short: one number for each vertex and for each edge
-unfoldable pub refusal : ℕ → List ℕ → List ℕ → List ℕ → List ℕ → List ℕ → meaning.Answer
-refusal n ends roles dead first order =
-    meaning.andThen (meaning.admission meaning.limits n ends)
-    (cond (leb n (length roles) && (leb (length ends / 2) (length dead) && (leb n (length first) && leb n (length order)))) meaning.passed
-    (meaning.answer 6 0))
+-- the lent slices have a place for each vertex and for each edge
+abbrev pub enough : ℕ → List ℕ → List ℕ → List ℕ → List ℕ → List ℕ → Bool
+enough n ends roles dead first order =
+    leb n (length roles) && (leb (length ends / 2) (length dead) && (leb n (length first) && leb n (length order)))
 
 -- the whole answer of a search
 abbrev pub Answered : ℕ → List ℕ → List ℕ → List ℕ → List ℕ → List ℕ → List ℕ → List ℕ → Explored → Type 0
 Answered n ends roles dead first₀ order₀ first order (Refused a) =
-    ((refusal n ends roles dead first₀ order₀) .number ≡ 0 → ⊥)
-    × (a ≡ toldBy (refusal n ends roles dead first₀ order₀))
-    × (first ≡ first₀)
-    × (order ≡ order₀)
+    RefusedBy (lent n ends (enough n ends roles dead first₀ order₀)) a × (first ≡ first₀) × (order ≡ order₀)
 Answered n ends roles dead first₀ order₀ first order (Seen count) =
-    (refusal n ends roles dead first₀ order₀ ≡ meaning.passed)
+    (lent n ends (enough n ends roles dead first₀ order₀) ≡ meaning.passed)
     × Found (graphOf n always ends) (Live dead) (Pass roles) (Start roles) n first₀ order₀ first order count
     × Whole (graphOf n always ends) (Live dead) (Pass roles) (Start roles) (Goal roles) n first order count
 Answered n ends roles dead first₀ order₀ first order (Met count) =
-    (refusal n ends roles dead first₀ order₀ ≡ meaning.passed)
+    (lent n ends (enough n ends roles dead first₀ order₀) ≡ meaning.passed)
     × Found (graphOf n always ends) (Live dead) (Pass roles) (Start roles) n first₀ order₀ first order count
     × Stopped (Goal roles) order count

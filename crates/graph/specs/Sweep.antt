@@ -3,21 +3,11 @@ use mathlib.Core.Path.{_≡_}
 use mathlib.Core.Bool.{Bool, true, false}
 use mathlib.Core.Logic.{_⊎_}
 use mathlib.Core.List.{List}
-use Prim.Native.Nat.{ℕ, zero, suc, _+_, _*_, _/_, _≤_, _<_}
+use Prim.Native.Nat.{ℕ, _+_, _*_, _/_, _≤_, _<_}
 use lib.ListN.{length, getD, set}
 use Rattle.connectivity.specs.Graph.{Graph, Joins, graphOf, always}
 use Rattle.graph.specs.declared.search.Progress.{Progress}
-use Rattle.graph.specs.Search.{Live, Start, Pass, Goal, Marked, Tree, Whole, Stopped}
-
--- how many of the first n numbers are not 0
-unfoldable pub flag : ℕ → ℕ
-flag zero = 0
-flag (suc k) = 1
-
-unfoldable pub tally : List ℕ → ℕ → ℕ
-unfolding flag
-tally marks zero = 0
-tally marks (suc n) = flag (getD marks n 0) + tally marks n
+use Rattle.graph.specs.Search.{Live, Start, Pass, Goal, Marked, tally, Tree, Whole, Stopped}
 
 -- an admitted plan, and slices that are long enough
 pub record Fit (n edges : ℕ) (ends roles dead first order : List ℕ) : Type 0 where

@@ -202,7 +202,7 @@ pub fn explore(
 }
 
 // The same of an admitted plan.
-fn explore_admitted(
+pub(crate) fn explore_admitted(
     vertices: u16,
     ends: &[u16],
     edges: u16,

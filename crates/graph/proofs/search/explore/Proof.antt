@@ -1,7 +1,7 @@
 -- `explore` meets its contract: a plan that the constructor refuses is refused by its answer, any other is searched.
-use mathlib.Core.Path.{_≡_, sym, _∙_}
+use mathlib.Core.Path.{_≡_, refl, sym, _∙_}
 use borrow.Author.Needs.{needs}
-use Rattle.graph.proofs.Explore.{constructed-refused, constructed-admitted, refused-answer}
+use Rattle.graph.proofs.Lent.{constructed-refused, constructed-admitted, lent-refused}
 use Rattle.graph.proofs.search.explore.Statement.{statement}
 use Rattle.graph.proofs.search.explore.Tie as tie
 
@@ -26,7 +26,7 @@ returns c =
     let made = c .before in
     let new = made .before .before in
     let p = constructed-refused _ _ (sym (new .new .ensures) ∙ made .made .given .1) in
-    refused-answer _ _ _ _ _ _ (p .0) (p .1)
+    let r = lent-refused _ (p .0) (p .1) in (r, refl, refl)
 
 same-length : tie.Need-same-length
 same-length c = search needs

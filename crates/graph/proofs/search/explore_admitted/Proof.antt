@@ -1,11 +1,11 @@
 -- `explore_admitted` meets its contract: where the slices are long enough, `begin` and `rounds` find what a search is to find.
-use mathlib.Core.Path.{_≡_, _∙_}
+use mathlib.Core.Path.{_≡_, refl, _∙_}
 use Prim.Native.Nat.{_/_, _≤_}
 use native.Mathlib.Omega.{arith}
 use borrow.Author.Needs.{needs}
 use lib.ListN.{length}
 use Rattle.graph.proofs.Growth.{begun-state, begun-plain, found}
-use Rattle.graph.proofs.Explore.{enough, short-answer, fit}
+use Rattle.graph.proofs.Explore.{fit, enough-room, short-room}
 use Rattle.graph.proofs.search.explore_admitted.Statement.{statement}
 use Rattle.graph.proofs.search.explore_admitted.Tie as tie
 
@@ -23,7 +23,8 @@ short-requires c κs = search needs
 returns : tie.Need-returns
 returns c =
     let start = c .before .before .before .before .before .before .before in
-    rw (c .short .ensures) (short-answer _ _ _ _ _ _ (start .pre .1) (λ r. omega (arith, r .0, r .1 .0, r .1 .1 .0, r .1 .1 .1, start .pre .0)))
+    let a = start .args in
+    rw (c .short .ensures) (short-room (a .vertices) (a .ends .now) (a .roles .now) (a .dead .now) (a .first .now) (a .order .now) (start .pre .1) (λ r. omega (arith, r .0, r .1 .0, r .1 .1 .0, r .1 .1 .1, start .pre .0)), refl, refl)
 
 short-requires-2 : tie.Need-short-requires-2
 short-requires-2 c κs = search needs
@@ -31,7 +32,8 @@ short-requires-2 c κs = search needs
 returns-2 : tie.Need-returns-2
 returns-2 c =
     let start = c .before .before .before .before .before .before .before .before in
-    rw (c .short2 .ensures) (short-answer _ _ _ _ _ _ (start .pre .1) (λ r. omega (arith, r .0, r .1 .0, r .1 .1 .0, r .1 .1 .1, start .pre .0)))
+    let a = start .args in
+    rw (c .short2 .ensures) (short-room (a .vertices) (a .ends .now) (a .roles .now) (a .dead .now) (a .first .now) (a .order .now) (start .pre .1) (λ r. omega (arith, r .0, r .1 .0, r .1 .1 .0, r .1 .1 .1, start .pre .0)), refl, refl)
 
 short-requires-3 : tie.Need-short-requires-3
 short-requires-3 c κs = search needs
@@ -39,7 +41,8 @@ short-requires-3 c κs = search needs
 returns-3 : tie.Need-returns-3
 returns-3 c =
     let start = c .before .before .before .before .before .before .before .before .before in
-    rw (c .short3 .ensures) (short-answer _ _ _ _ _ _ (start .pre .1) (λ r. omega (arith, r .0, r .1 .0, r .1 .1 .0, r .1 .1 .1, start .pre .0)))
+    let a = start .args in
+    rw (c .short3 .ensures) (short-room (a .vertices) (a .ends .now) (a .roles .now) (a .dead .now) (a .first .now) (a .order .now) (start .pre .1) (λ r. omega (arith, r .0, r .1 .0, r .1 .1 .0, r .1 .1 .1, start .pre .0)), refl, refl)
 
 short-requires-4 : tie.Need-short-requires-4
 short-requires-4 c κs = search needs
@@ -47,7 +50,8 @@ short-requires-4 c κs = search needs
 returns-4 : tie.Need-returns-4
 returns-4 c =
     let start = c .before .before .before .before .before .before .before .before .before .before in
-    rw (c .short4 .ensures) (short-answer _ _ _ _ _ _ (start .pre .1) (λ r. omega (arith, r .0, r .1 .0, r .1 .1 .0, r .1 .1 .1, start .pre .0)))
+    let a = start .args in
+    rw (c .short4 .ensures) (short-room (a .vertices) (a .ends .now) (a .roles .now) (a .dead .now) (a .first .now) (a .order .now) (start .pre .1) (λ r. omega (arith, r .0, r .1 .0, r .1 .1 .0, r .1 .1 .1, start .pre .0)), refl, refl)
 
 begin-requires : tie.Need-begin-requires
 begin-requires c κs = search needs
@@ -81,7 +85,8 @@ returns-5 c =
     let begin = rounds .before .before .before .before .before .before .before in
     let else4 = begin .before .before .before in
     let e = rounds .rounds .ensures in
-    (enough _ _ _ _ _ _ (at-start else4 .pre .1) (room else4), found (begin .begin .ensures) (e .state) (e .more), e .stopped (c .if5 .taken))
+    let a = at-start else4 .args in
+    (enough-room (a .vertices) (a .ends .now) (a .roles .now) (a .dead .now) (a .first .now) (a .order .now) (at-start else4 .pre .1) (room else4), found (begin .begin .ensures) (e .state) (e .more), e .stopped (c .if5 .taken))
 
 same-length-3 : tie.Need-same-length-3
 same-length-3 c =
@@ -99,7 +104,8 @@ returns-6 c =
     let begin = rounds .before .before .before .before .before .before .before in
     let else4 = begin .before .before .before in
     let e = rounds .rounds .ensures in
-    (enough _ _ _ _ _ _ (at-start else4 .pre .1) (room else4), found (begin .begin .ensures) (e .state) (e .more), e .whole (c .if5 .left))
+    let a = at-start else4 .args in
+    (enough-room (a .vertices) (a .ends .now) (a .roles .now) (a .dead .now) (a .first .now) (a .order .now) (at-start else4 .pre .1) (room else4), found (begin .begin .ensures) (e .state) (e .more), e .whole (c .if5 .left))
 
 pub explore-admitted-spec : {M : Type 1} → statement M
 explore-admitted-spec =
