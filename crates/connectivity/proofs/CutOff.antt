@@ -7,13 +7,13 @@ use Prim.Native.Nat.{ℕ, _≤_, _<_}
 use native.Mathlib.Omega.{arith}
 use lib.Dec.{T, T-not, not-T}
 use Rattle.connectivity.specs.Lists.{Ordered, mem, empty}
-use Rattle.connectivity.specs.Graph.{Graph, Vertex, isVertex, vertices}
+use Rattle.connectivity.specs.Graph.{Graph, Vertex, vertices}
 use Rattle.connectivity.specs.Reach.{Reach, Without}
 use Rattle.connectivity.specs.Cut.{unreached, unreachedFrom, cutOff, disconnects}
 use Rattle.connectivity.proofs.Lists.{T-dec, not-mem, empty-none, none-empty, Decides}
 use Rattle.connectivity.proofs.Reach.{reach-map}
 use Rattle.connectivity.proofs.Search.{vertices-are, unreached-not, unreached-or}
-use Rattle.connectivity.proofs.Order.{before-rest, ordered-range, ordered-keep}
+use Rattle.connectivity.proofs.Order.{before-rest, ordered-vertices}
 
 -- the lowest vertex
 pub record Lowest (g : Graph) (u : ℕ) : Type 0 where
@@ -26,8 +26,8 @@ module _ {g : Graph} {u : ℕ} (low : Lowest g u) (cut : List ℕ) where
 
   -- the search starts there
   from-lowest : cutOff g cut ≡ unreached g live u
-  unfolding cutOff unreachedFrom vertices
-  from-lowest = go (vertices g) (ordered-keep (isVertex g) (ordered-range 0 (g .bound))) (vertices-are g)
+  unfolding cutOff unreachedFrom
+  from-lowest = go (vertices g) (ordered-vertices g) (vertices-are g)
     where
       go : (l : List ℕ) → Ordered _<_ l → ((v : ℕ) → In v l ↔ Vertex g v) → unreachedFrom g live l ≡ unreached g live u
       go [] o f = absurd (not-in (f u .1 (low .vertex)))

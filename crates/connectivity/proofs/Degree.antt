@@ -1,5 +1,5 @@
 -- The laws of degrees and of walks: how many edges of a walk end at a vertex, and what is reached along it.
-use mathlib.Core.Path.{_≡_, refl, sym, _∙_}
+use mathlib.Core.Path.{_≡_, refl, sym, _∙_, subst}
 use mathlib.Core.Logic.{_⊎_, inl, inr}
 use mathlib.Core.Bool.{Bool, true, false, cond, _||_}
 use mathlib.Core.List.{List, [], _∷_, _++_, List·Memᴰ as In, List·Memᴰ·head as first, List·Memᴰ·tail as later, List·Memᴰ·not-nil as not-in, List·Memᴰ·cases-cons as in-cons, Memᴰ·cast}
@@ -10,7 +10,7 @@ use borrow.Author.Tests.{eqb-true, eqb-false}
 use lib.Dec.{eqb}
 use lib.ListN.{length}
 use Rattle.connectivity.specs.Lists.{Distinct, none, one}
-use Rattle.connectivity.specs.Graph.{Graph, Vertex, Joins}
+use Rattle.connectivity.specs.Graph.{Graph, Vertex, Edge, Joins}
 use Rattle.connectivity.specs.Reach.{Reach, here, over}
 use Rattle.connectivity.specs.Walk.{Leg, Walk, last, then, froms, inner, edgesOf, hits, degree, Branch}
 use Rattle.connectivity.proofs.Reach.{joins-sym, joins-vertex, reach-map}
@@ -65,6 +65,14 @@ hits-on {g} {e} {u} {v} x j h = go (hits-ends g e x h) (j .ends)
 pub in-degree : {e : ℕ} {l : List ℕ} (g : Graph) (x : ℕ) → In e l → hits g e x ≡ 1 → 1 ≤ degree g l x
 in-degree g x (first p) h = omega (arith, rw p at h)
 in-degree g x (later i) h = omega (arith, in-degree g x i h)
+
+-- what edges of the graph end at is a vertex
+pub built-vertex : {g : Graph} {v : ℕ} (l : List ℕ) → ((e : ℕ) → In e l → Edge g e) → 1 ≤ degree g l v → Vertex g v
+built-vertex [] f h = absurd (omega arith)
+built-vertex {g} {v} (e ∷ l) f h = elim (hits-cases g e v) [
+  | inl p ↦ elim (p .0) [ inl q ↦ subst (Vertex g) q (f e (first refl) .left) | inr q ↦ subst (Vertex g) q (f e (first refl) .right) ]
+  | inr p ↦ built-vertex l (λ d i. f d (later i)) (omega (arith, p .2))
+]
 
 -- a list less one place of e
 pub record Removed (g : Graph) (e : ℕ) (l : List ℕ) : Type 0 where

@@ -1,7 +1,7 @@
 -- The laws of `Distinct`, and whether two lists have a member in common.
 use mathlib.Core.Path.{refl, sym}
 use mathlib.Core.Logic.{_⊎_, inl, inr}
-use mathlib.Core.List.{List, [], _∷_, _++_, List·Memᴰ as In, List·Memᴰ·head as first, List·Memᴰ·tail as later, List·Memᴰ·not-nil as not-in, List·Memᴰ·cases-cons as in-cons, Memᴰ·append-left as in-left, Memᴰ·append-right as in-right, Memᴰ·cast}
+use mathlib.Core.List.{List, [], _∷_, _++_, List·Memᴰ as In, List·Memᴰ·head as first, List·Memᴰ·tail as later, List·Memᴰ·not-nil as not-in, List·Memᴰ·cases-cons as in-cons, List·Memᴰ·append-cases as in-cases, Memᴰ·append-left as in-left, Memᴰ·append-right as in-right, Memᴰ·cast}
 use Prim.Native.Nat.{ℕ, _<_}
 use native.Mathlib.Omega.{arith}
 use Rattle.connectivity.specs.Lists.{Distinct, none, one, Ordered, nil, cons}
@@ -36,6 +36,10 @@ right-distinct (x ∷ l) (one n d) = right-distinct l d
 pub apart-distinct : (l : List ℕ) {r : List ℕ} {x : ℕ} → Distinct (l ++ r) → In x l → In x r → ⊥
 apart-distinct (y ∷ l) (one n d) (first p) j = n (in-right l (Memᴰ·cast (sym p) j))
 apart-distinct (y ∷ l) (one n d) (later i) j = apart-distinct l d i j
+
+pub join-distinct : (l : List ℕ) {r : List ℕ} → Distinct l → Distinct r → ((x : ℕ) → In x l → In x r → ⊥) → Distinct (l ++ r)
+join-distinct [] d e f = e
+join-distinct (x ∷ l) {r} (one n d) e f = one {x = x} (λ i. elim (in-cases l {t = r} i) [ inl j ↦ n j | inr j ↦ f x (first refl) j ]) (join-distinct l d e (λ y i. f y (later i)))
 
 -- the first two changed round, and what stands behind them less a part
 pub swap-distinct : {a b : ℕ} {l : List ℕ} → Distinct (a ∷ b ∷ l) → Distinct (b ∷ a ∷ l)

@@ -16,5 +16,6 @@ pub mod Legs
 pub mod Run
 pub mod Fit
 pub mod Build
+pub mod Count
 pub mod Judge
 pub mod Table

@@ -127,6 +127,11 @@ some-link {g} {built} x s h n =
     let (legs, z, q) = arm (k .reach) (k .branch) n in
     weld q a (arm-live q (lead-in q) .1) x (from-first (arm-walk a))
 
+-- a link has every built edge at its inner vertices
+link-full : {g : Graph} {built : List ℕ} {a b : ℕ} {legs : List Leg} → Link g built a legs b → (x e : ℕ) → In x (inner legs) → In e built → hits g e x ≡ 1
+    → In e (edgesOf legs)
+link-full {g} {built} {legs = legs} k x e i = full g (edgesOf legs) built x e (k .once) (k .over) (λ b. omega (arith, k .two x i)) (inner-least x (k .walk) i)
+
 -- a built vertex has at least two built edges
 pub degree-two : {g : Graph} {built : List ℕ} (x : ℕ) → Stage g built → Built g built x → 2 ≤ degree g built x
 degree-two {g} {built} x s h = elim (decLe 3 (degree g built x)) [
@@ -135,27 +140,21 @@ degree-two {g} {built} x s h = elim (decLe 3 (degree g built x)) [
 ]
 
 -- bare edges do not leave a link
-pub same-link : {g : Graph} {built : List ℕ} {u w : ℕ} → Stage g built → Built g built u → (Branch g built u → ⊥)
-    → Reach g (Bare g built) u w → SameLink g built u w
-same-link {g} {built} {u} s h n r =
-    record { a = l .a; legs = l .legs; b = l .b; link = k; here = l .here; there = closed-reach (λ v. In v (inner (l .legs))) step r (l .here) }
+pub link-closed : {g : Graph} {built : List ℕ} {a b : ℕ} {legs : List Leg} {u w : ℕ} → Link g built a legs b → In u (inner legs)
+    → Reach g (Bare g built) u w → In w (inner legs)
+link-closed {g} {built} {legs = legs} k i r = closed-reach (λ v. In v (inner legs)) step r i
   where
-    l : SameLink g built u u
-    l = some-link u s h n
-
-    k : Link g built (l .a) (l .legs) (l .b)
-    k = l .link
-
-    step : (e x y : ℕ) → Bare g built e → Joins g e x y → In x (inner (l .legs)) → In y (inner (l .legs))
+    step : (e x y : ℕ) → Bare g built e → Joins g e x y → In x (inner legs) → In y (inner legs)
     step e x y bare j i =
-        on-inner y (k .walk) (λ p. plain (rw p (k .from))) (λ p. plain (rw p (k .to))) (in-degree g y on-link (hits-from (joins-sym j)))
+        on-inner y (k .walk) (λ p. plain (rw p (k .from))) (λ p. plain (rw p (k .to))) (in-degree g y (link-full k x e i (bare .0) (hits-from j)) (hits-from (joins-sym j)))
       where
         plain : Branch g built y → ⊥
         plain b = elim (j .ends) [ inl p ↦ bare .2 (rw (p .1) b) | inr p ↦ bare .1 (rw (p .0) b) ]
 
-        on-link : In e (edgesOf (l .legs))
-        on-link = full g (edgesOf (l .legs)) built x e (k .once) (k .over) (λ b. omega (arith, k .two x i)) (inner-least x (k .walk) i)
-            (bare .0) (hits-from j)
+pub same-link : {g : Graph} {built : List ℕ} {u w : ℕ} → Stage g built → Built g built u → (Branch g built u → ⊥)
+    → Reach g (Bare g built) u w → SameLink g built u w
+same-link {u = u} s h n r = let l = some-link u s h n in
+    record { a = l .a; legs = l .legs; b = l .b; link = l .link; here = l .here; there = link-closed (l .link) (l .here) r }
 
 -- from the first vertex of a walk over vertices that are no branches to each of them
 bare-along : {g : Graph} {built : List ℕ} {u w : ℕ} {legs : List Leg} → Walk g u legs w → ((e : ℕ) → In e (edgesOf legs) → In e built)
@@ -178,3 +177,24 @@ link-bare {g} {built} {u} {w} s = go (s .link .walk) (s .link .over) (λ v i b. 
 pub same-link-iff : {g : Graph} {built : List ℕ} {u w : ℕ} → Stage g built → Built g built u → (Branch g built u → ⊥)
     → SameLink g built u w ↔ Reach g (Bare g built) u w
 same-link-iff s h n = (link-bare, same-link s h n)
+
+-- each edge of a walk leaves one of its vertices
+walk-edge : {g : Graph} {e u w : ℕ} {legs : List Leg} → Walk g u legs w → In e (edgesOf legs) → (v : ℕ) × In v (froms legs) × (hits g e v ≡ 1)
+walk-edge (last {u = u} d j) m = (u, first refl, rw (eq-of-singleton m) (hits-from j))
+walk-edge (then {u = u} d j k) (first p) = (u, first refl, rw p (hits-from j))
+walk-edge (then d j k) (later m) = let q = walk-edge k m in (q .0, later (q .1), q .2)
+
+-- each edge of a walk that has an inner vertex ends at one
+edge-inner : {g : Graph} {e u w x : ℕ} {legs : List Leg} → Walk g u legs w → In x (inner legs) → In e (edgesOf legs) → (v : ℕ) × In v (inner legs) × (hits g e v ≡ 1)
+edge-inner (last d j) i m = absurd (not-in i)
+edge-inner {g} (then {v = v} d j k) i (first p) = (v, from-first k, rw p (hits-from (joins-sym j)))
+edge-inner {g} (then {v = v} d j k) i (later m) = let q = walk-edge k m in (q .0, q .1, q .2)
+
+-- no two links have an inner vertex in common: a link with an inner vertex of another has its inner vertices and its edges
+pub link-inner : {g : Graph} {built : List ℕ} {a b c d : ℕ} {k l : List Leg} {x : ℕ} → Link g built a k b → Link g built c l d
+    → In x (inner k) → In x (inner l) → (v : ℕ) → In v (inner k) → In v (inner l)
+link-inner p q i j v m = link-closed q j (link-bare (record { a = _; legs = _; b = _; link = p; here = i; there = m }))
+
+pub link-edges : {g : Graph} {built : List ℕ} {a b c d : ℕ} {k l : List Leg} {x : ℕ} → Link g built a k b → Link g built c l d
+    → In x (inner k) → In x (inner l) → (e : ℕ) → In e (edgesOf k) → In e (edgesOf l)
+link-edges p q i j e m = let r = edge-inner (p .walk) i m in link-full q (r .0) e (link-inner p q i j (r .0) (r .1)) (p .over e m) (r .2)

@@ -8,7 +8,7 @@ use native.Mathlib.Omega.{arith}
 use native.Mathlib.Decide.{ℕ-discrete, decLt}
 use lib.ListN.{length}
 use Rattle.connectivity.specs.Lists.{Ordered, nil, cons, range, keep}
-use Rattle.connectivity.specs.Graph.{Graph, isEdge, edges}
+use Rattle.connectivity.specs.Graph.{Graph, isVertex, isEdge, vertices, edges}
 use Rattle.connectivity.specs.Cut.{Lower, Before}
 use Rattle.connectivity.proofs.Lists.{keep-is, range-is}
 
@@ -33,6 +33,10 @@ pub ordered-append : {A : Type 0} {R : A → A → Type 0} {k l : List A} → Or
 ordered-append nil p f = p
 ordered-append {l = l} (cons {x = x} {l = k} h o) p f =
     cons {x = x} (λ y i. elim (in-cases k {t = l} i) [ inl j ↦ h y j | inr j ↦ f x y (first refl) j ]) (ordered-append o p (λ x y i j. f x y (later i) j))
+
+pub ordered-vertices : (g : Graph) → Ordered _<_ (vertices g)
+unfolding vertices
+ordered-vertices g = ordered-keep (isVertex g) (ordered-range 0 (g .bound))
 
 pub ordered-edges : (g : Graph) → Ordered _<_ (edges g)
 unfolding edges

@@ -223,18 +223,18 @@ module _ {g : Graph} {a b : ℕ} {legs : List Leg} where
   between-exit c x (inr k) d h = ⊎-swap (walk-exit c x k d h)
 
 -- several walks between a and b
-abbrev AllBetween : Graph → ℕ → List (List Leg) → ℕ → Type 0
+abbrev pub AllBetween : Graph → ℕ → List (List Leg) → ℕ → Type 0
 AllBetween g a walks b = (legs : List Leg) → In legs walks → Between g a legs b
 
 module _ {g : Graph} {a b : ℕ} where
   -- each of them has an edge at a
-  all-degree : (walks : List (List Leg)) → AllBetween g a walks b → length walks ≤ degree g (allEdges walks) a
+  pub all-degree : (walks : List (List Leg)) → AllBetween g a walks b → length walks ≤ degree g (allEdges walks) a
   all-degree [] f = omega arith
   all-degree (legs ∷ walks) f = let rest = all-degree walks (λ l i. f l (later i)) in
       omega (arith, degree-append g (edgesOf legs) (allEdges walks) a, between-degree (f legs (first refl)))
 
   -- what they touch besides a and b is inside one of them, and has at most two edges
-  all-inner : (walks : List (List Leg)) (x : ℕ) → AllBetween g a walks b → (x ≡ a → ⊥) → (x ≡ b → ⊥) → Built g (allEdges walks) x
+  pub all-inner : (walks : List (List Leg)) (x : ℕ) → AllBetween g a walks b → (x ≡ a → ⊥) → (x ≡ b → ⊥) → Built g (allEdges walks) x
       → In x (allInner walks)
   all-inner [] x f n m h = absurd (omega arith)
   all-inner (legs ∷ walks) x f n m h = elim (decLe 1 (degree g (edgesOf legs) x)) [
