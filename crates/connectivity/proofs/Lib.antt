@@ -17,5 +17,6 @@ pub mod Run
 pub mod Fit
 pub mod Build
 pub mod Count
+pub mod Stretch
 pub mod Judge
 pub mod Table
