@@ -21,12 +21,33 @@ fn tab(ends: &mut [u16], e: u16, a: u16, b: u16) {
     }
 }
 
-// Tabs 0-1, 1-2 and so on; `wrap` pieces on it begins again at 0.
-fn chain(ends: &mut [u16], tabs: u16, wrap: u16) {
+// Tabs 0-1, 1-2 and so on; `pieces` on it begins again at 0.
+const CHAIN: u8 = 0;
+// Tabs from piece 0 to each other one.
+const STAR: u8 = 1;
+// Tabs that all join pieces 0 and 1.
+const BUNDLE: u8 = 2;
+// Tabs that jump about among the pieces: from i to 7 i + 3, and one further each time round.
+const SCATTER: u8 = 3;
+
+// Tabs of one of these shapes.
+fn fill(ends: &mut [u16], shape: u8, tabs: u16, pieces: u16) {
     let mut i: u16 = 0;
     while i < tabs {
-        tab(ends, i, i, next(i, wrap));
+        shaped(ends, shape, i, pieces);
         i += 1;
+    }
+}
+
+fn shaped(ends: &mut [u16], shape: u8, i: u16, pieces: u16) {
+    if shape == CHAIN {
+        tab(ends, i, i, next(i, pieces));
+    } else if shape == STAR {
+        tab(ends, i, 0, next(i, 0));
+    } else if shape == BUNDLE {
+        tab(ends, i, 0, 1);
+    } else {
+        jump(ends, i, pieces);
     }
 }
 
@@ -37,33 +58,6 @@ fn next(i: u16, wrap: u16) -> u16 {
         }
     }
     0
-}
-
-// Tabs from piece 0 to each other one.
-fn star(ends: &mut [u16], tabs: u16) {
-    let mut i: u16 = 0;
-    while i < tabs {
-        tab(ends, i, 0, next(i, 0));
-        i += 1;
-    }
-}
-
-// Tabs that all join pieces 0 and 1.
-fn bundle(ends: &mut [u16], tabs: u16) {
-    let mut i: u16 = 0;
-    while i < tabs {
-        tab(ends, i, 0, 1);
-        i += 1;
-    }
-}
-
-// Tabs that jump about among the pieces: from i to 7 i + 3, and one further each time round.
-fn scatter(ends: &mut [u16], tabs: u16, pieces: u16) {
-    let mut i: u16 = 0;
-    while i < tabs {
-        jump(ends, i, pieces);
-        i += 1;
-    }
 }
 
 fn jump(ends: &mut [u16], i: u16, pieces: u16) {
@@ -165,7 +159,7 @@ fn mark(first: &[u16], v: u16) {
 fn walk(name: &[u8], pieces: u16, roles: &[u8], dead: &[u8]) {
     say(name);
     let mut ends = [0u16; 12];
-    chain(&mut ends, 6, 6);
+    fill(&mut ends, CHAIN, 6, 6);
     let mut first = [9u16; 8];
     let mut order = [9u16; 8];
     let found = graph::search::explore(pieces, &ends, roles, dead, &mut first, &mut order);
@@ -190,7 +184,7 @@ fn walk(name: &[u8], pieces: u16, roles: &[u8], dead: &[u8]) {
 fn rings() {
     let mut ends = [0u16; 10];
     let cuts = [0u16, 2, 9];
-    chain(&mut ends, 5, 5);
+    fill(&mut ends, CHAIN, 5, 5);
     part(b"a ring of 5", 5, &ends, 10, &cuts, 0);
     part(b"without tab 0", 5, &ends, 10, &cuts, 1);
     part(b"without tabs 0 and 2", 5, &ends, 10, &cuts, 2);
@@ -207,7 +201,7 @@ fn rings() {
 fn paths() {
     let mut ends = [0u16; 10];
     let cuts = [0u16, 2, 9];
-    chain(&mut ends, 5, 5);
+    fill(&mut ends, CHAIN, 5, 5);
     part(b"a path of 5", 5, &ends, 8, &cuts, 0);
     part(b"without tab 0", 5, &ends, 8, &cuts, 1);
     part(b"two bodies", 7, &ends, 8, &cuts, 0);
@@ -217,10 +211,10 @@ fn paths() {
 fn stars_and_bundles() {
     let mut ends = [0u16; 12];
     let cuts = [0u16, 2, 9];
-    star(&mut ends, 6);
+    fill(&mut ends, STAR, 6, 0);
     part(b"a star of 7", 7, &ends, 12, &cuts, 0);
     part(b"without tabs 0 and 2", 7, &ends, 12, &cuts, 2);
-    bundle(&mut ends, 4);
+    fill(&mut ends, BUNDLE, 4, 0);
     part(b"four tabs between two pieces", 2, &ends, 8, &cuts, 0);
     part(b"without tabs 0 and 2", 2, &ends, 8, &cuts, 2);
     part(b"three tabs between two of three", 3, &ends, 6, &cuts, 0);
@@ -229,7 +223,7 @@ fn stars_and_bundles() {
 fn damaged_plans() {
     let mut ends = [0u16; 8002];
     let cuts = [0u16, 2, 9];
-    chain(&mut ends, 4001, 4);
+    fill(&mut ends, CHAIN, 4001, 4);
     part(b"an odd number of ends", 5, &ends, 7, &cuts, 0);
     part(b"1 piece", 1, &ends, 0, &cuts, 0);
     part(b"an end that is no piece", 3, &ends, 8, &cuts, 0);
@@ -240,9 +234,9 @@ fn damaged_plans() {
 fn large_plans() {
     let mut ends = [0u16; 8000];
     let cuts = [0u16, 2, 9];
-    scatter(&mut ends, 4000, 1000);
+    fill(&mut ends, SCATTER, 4000, 1000);
     part(b"1,000 pieces and 4,000 tabs", 1000, &ends, 8000, &cuts, 0);
-    scatter(&mut ends, 4000, 999);
+    fill(&mut ends, SCATTER, 4000, 999);
     part(b"one piece left out", 1000, &ends, 8000, &cuts, 0);
     tab(&mut ends, 7, 2, 2);
     part(
