@@ -1,0 +1,4 @@
+pub mod Laws
+pub mod Edges
+pub mod Reading
+pub mod Writing
