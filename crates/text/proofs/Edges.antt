@@ -1,9 +1,9 @@
 -- The judgement of the edges of a plan text, from one line to the next.
-use mathlib.Core.Path.{_≡_, refl, sym, ap, _∙_}
-use mathlib.Core.List.{List, [], _∷_, _++_}
-use Prim.Native.Nat.{ℕ, zero, suc, _+_, _*_, _-_, _≤_, _<_}
+use mathlib.Core.Path.{_≡_, refl, _∙_}
+use mathlib.Core.List.{List, _++_}
+use Prim.Native.Nat.{ℕ, suc, _+_, _-_, _<_}
 use native.Mathlib.Omega.{arith}
-use lib.ListN.{length, drop, getD}
+use lib.ListN.{drop, getD}
 use Rattle.connectivity.specs.Admission.{answer, passed, andThen, edgeNumber, endsAnswer}
 use Rattle.connectivity.proofs.Admission.{passed-then, failed-then}
 use Rattle.text.specs.Column.{five, numbers, linesNumbers}

@@ -2,16 +2,16 @@
 use mathlib.Core.Path.{_≡_, refl, sym, ap, _∙_}
 use mathlib.Core.Bool.{Bool, true, false, cond, _&&_}
 use mathlib.Core.List.{List, [], _∷_, _++_}
-use Prim.Native.Nat.{ℕ, zero, suc, _+_, _*_, _-_, _/_, _%_, _^_, _≤_, _<_}
+use Prim.Native.Nat.{ℕ, zero, suc, _+_, _*_, _-_, _^_, _≤_, _<_}
 use native.Mathlib.Omega.{arith}
 use native.Mathlib.Numerals.{add-one}
 use native.Mathlib.Nat.{suc-mul, mul-suc, pow-suc, mul-le-mul-left}
 use native.Mathlib.Decide.{ℕ-discrete}
-use lib.Dec.{eqb, ltb, leb}
-use lib.ListN.{length, take, drop, getD, set, length-take, length-drop, length-append, length-set, drop-of-length-le}
-use lib.Seq.{sets, length-take-le, drop-cons, take-suc, take-suc-set, take-take, drop-drop, getD-drop, getD-take, take-nil, drop-nil}
+use lib.Dec.{eqb, leb}
+use lib.ListN.{length, take, drop, getD, set, length-take, length-drop, length-append, drop-of-length-le}
+use lib.Seq.{sets, length-take-le, drop-cons, take-suc, take-suc-set, take-take, drop-drop, getD-drop, getD-take, take-nil}
 use borrow.Author.Tests.{leb-true, eqb-true, eq-eqb, ne-eqb}
-use Rattle.text.specs.Column.{worths, five, largest, byteAt, column, line, lines, lineSize, digit, value, same, columnFits, lineFits, numbers, linesFit, linesNumbers}
+use Rattle.text.specs.Column.{worths, five, byteAt, column, line, lines, lineSize, digit, value, same, columnFits, lineFits, numbers, linesFit, linesNumbers}
 
 -- lists and tests
 
@@ -246,32 +246,32 @@ module _ (copy text : List ℕ) (p : take 11 copy ≡ take 11 text) where
       (r .0, line-true copy 2 1 (omega arith) most (r .1) .0)
 
 -- m lines, from a place on
-module _ (width left at : ℕ) (text : List ℕ) (h : 0 < left) where
+module _ (columns left at : ℕ) (text : List ℕ) (h : 0 < left) where
   some : left ≡ suc (left - 1)
   some = omega arith
 
-  next : drop (width * 5 + 1) (drop at text) ≡ drop (at + (width * 5 + 1)) text
-  next = drop-drop (width * 5 + 1) at text
+  next : drop (columns * 5 + 1) (drop at text) ≡ drop (at + (columns * 5 + 1)) text
+  next = drop-drop (columns * 5 + 1) at text
 
-  pub lines-next : (most : ℕ) → linesFit five most width left (drop at text) ≡ (lineFits five most width (drop at text) && linesFit five most width (left - 1) (drop (at + (width * 5 + 1)) text))
+  pub lines-next : (most : ℕ) → linesFit five most columns left (drop at text) ≡ (lineFits five most columns (drop at text) && linesFit five most columns (left - 1) (drop (at + (columns * 5 + 1)) text))
   unfolding linesFit
   lines-next most = go left some
     where
-      go : (m : ℕ) → m ≡ suc (left - 1) → linesFit five most width m (drop at text) ≡ (lineFits five most width (drop at text) && linesFit five most width (left - 1) (drop (at + (width * 5 + 1)) text))
+      go : (m : ℕ) → m ≡ suc (left - 1) → linesFit five most columns m (drop at text) ≡ (lineFits five most columns (drop at text) && linesFit five most columns (left - 1) (drop (at + (columns * 5 + 1)) text))
       go m p = rw (p, next)
 
-  pub lines-numbers-next : linesNumbers five width left (drop at text) ≡ numbers five width (drop at text) ++ linesNumbers five width (left - 1) (drop (at + (width * 5 + 1)) text)
+  pub lines-numbers-next : linesNumbers five columns left (drop at text) ≡ numbers five columns (drop at text) ++ linesNumbers five columns (left - 1) (drop (at + (columns * 5 + 1)) text)
   unfolding linesNumbers
   lines-numbers-next = go left some
     where
-      go : (m : ℕ) → m ≡ suc (left - 1) → linesNumbers five width m (drop at text) ≡ numbers five width (drop at text) ++ linesNumbers five width (left - 1) (drop (at + (width * 5 + 1)) text)
+      go : (m : ℕ) → m ≡ suc (left - 1) → linesNumbers five columns m (drop at text) ≡ numbers five columns (drop at text) ++ linesNumbers five columns (left - 1) (drop (at + (columns * 5 + 1)) text)
       go m p = rw (p, next)
 
-  pub lines-true : (most : ℕ) → linesFit five most width left (drop at text) ≡ true
-      → (lineFits five most width (drop at text) ≡ true) × (linesFit five most width (left - 1) (drop (at + (width * 5 + 1)) text) ≡ true) × (width * 5 + 1 ≤ length (drop at text))
+  pub lines-true : (most : ℕ) → linesFit five most columns left (drop at text) ≡ true
+      → (lineFits five most columns (drop at text) ≡ true) × (linesFit five most columns (left - 1) (drop (at + (columns * 5 + 1)) text) ≡ true) × (columns * 5 + 1 ≤ length (drop at text))
   lines-true most p =
-      let q = and-true (lineFits five most width (drop at text)) (linesFit five most width (left - 1) (drop (at + (width * 5 + 1)) text)) (sym (lines-next most) ∙ p) in
-      (q .0, q .1, line-long five most width (drop at text) (q .0))
+      let q = and-true (lineFits five most columns (drop at text)) (linesFit five most columns (left - 1) (drop (at + (columns * 5 + 1)) text)) (sym (lines-next most) ∙ p) in
+      (q .0, q .1, line-long five most columns (drop at text) (q .0))
 
 -- writing a line, from its number k on
 module _ (text list : List ℕ) (at from n k : ℕ) (h : k < n) (j : from + n ≤ length list) where
@@ -294,36 +294,36 @@ unfolding line
 write-last text list i n k h = let p : n - k ≡ 0 = omega arith in rw p
 
 -- writing m lines, from a place on
-pub write-lines-next : (text list : List ℕ) (at from width left : ℕ) → 0 < left → from + width ≤ length list
-    → sets text at (lines five width left (drop from list))
-    ≡ sets (sets text at (line five (take width (drop from list)))) (at + (width * 5 + 1)) (lines five width (left - 1) (drop (from + width) list))
+pub write-lines-next : (text list : List ℕ) (at from columns left : ℕ) → 0 < left → from + columns ≤ length list
+    → sets text at (lines five columns left (drop from list))
+    ≡ sets (sets text at (line five (take columns (drop from list)))) (at + (columns * 5 + 1)) (lines five columns (left - 1) (drop (from + columns) list))
 unfolding lines
-write-lines-next text list at from width left h j = go left (omega arith)
+write-lines-next text list at from columns left h j = go left (omega arith)
   where
-    long : length (line five (take width (drop from list))) ≡ width * 5 + 1
-    long = length-line five (take width (drop from list)) ∙ ap (λ (n : ℕ). n * 5 + 1) (length-take-le width (drop from list) (omega (arith, length-drop from list)))
+    long : length (line five (take columns (drop from list))) ≡ columns * 5 + 1
+    long = length-line five (take columns (drop from list)) ∙ ap (λ (n : ℕ). n * 5 + 1) (length-take-le columns (drop from list) (omega (arith, length-drop from list)))
 
-    go : (m : ℕ) → m ≡ suc (left - 1) → sets text at (lines five width m (drop from list))
-        ≡ sets (sets text at (line five (take width (drop from list)))) (at + (width * 5 + 1)) (lines five width (left - 1) (drop (from + width) list))
-    go m p = rw (p, drop-drop width from list)
-        (sets-append text at (line five (take width (drop from list))) (lines five width (left - 1) (drop (from + width) list))
-        ∙ ap (λ (n : ℕ). sets (sets text at (line five (take width (drop from list)))) (at + n) (lines five width (left - 1) (drop (from + width) list))) long)
+    go : (m : ℕ) → m ≡ suc (left - 1) → sets text at (lines five columns m (drop from list))
+        ≡ sets (sets text at (line five (take columns (drop from list)))) (at + (columns * 5 + 1)) (lines five columns (left - 1) (drop (from + columns) list))
+    go m p = rw (p, drop-drop columns from list)
+        (sets-append text at (line five (take columns (drop from list))) (lines five columns (left - 1) (drop (from + columns) list))
+        ∙ ap (λ (n : ℕ). sets (sets text at (line five (take columns (drop from list)))) (at + n) (lines five columns (left - 1) (drop (from + columns) list))) long)
 
 -- after the last line
-pub lines-last : (most width left next : ℕ) (text : List ℕ) → left ≡ 0 → next ≤ length text → linesFit five most width left (drop next text) ≡ eqb next (length text)
+pub lines-last : (most columns left next : ℕ) (text : List ℕ) → left ≡ 0 → next ≤ length text → linesFit five most columns left (drop next text) ≡ eqb next (length text)
 unfolding linesFit same
-lines-last most width left next text p h = rw p (elim (ℕ-discrete next (length text)) [
+lines-last most columns left next text p h = rw p (elim (ℕ-discrete next (length text)) [
   | yes q ↦ rw (eq-eqb next (length text) q, drop-of-length-le text {i = next} (omega arith))
   | no q ↦ rw (ne-eqb next (length text) q, drop-cons text next 0 (omega arith))
 ])
 
-pub lines-numbers-last : (width left : ℕ) (text : List ℕ) → left ≡ 0 → linesNumbers five width left text ≡ []
+pub lines-numbers-last : (columns left : ℕ) (text : List ℕ) → left ≡ 0 → linesNumbers five columns left text ≡ []
 unfolding linesNumbers
-lines-numbers-last width left text p = rw p
+lines-numbers-last columns left text p = rw p
 
-pub write-lines-last : (width left : ℕ) (list : List ℕ) → left ≡ 0 → lines five width left list ≡ []
+pub write-lines-last : (columns left : ℕ) (list : List ℕ) → left ≡ 0 → lines five columns left list ≡ []
 unfolding lines
-write-lines-last width left list p = rw p
+write-lines-last columns left list p = rw p
 
 pub length-numbers : (ws : List ℕ) (k : ℕ) (text : List ℕ) → length (numbers ws k text) ≡ k
 unfolding numbers
@@ -331,13 +331,13 @@ length-numbers ws zero text = refl
 length-numbers ws (suc k) text = ap suc (length-numbers ws k (drop (length ws) text))
 
 -- storing m lines, from a place on
-pub store-lines-next : (list text : List ℕ) (to at width left : ℕ) → 0 < left
-    → sets list to (linesNumbers five width left (drop at text))
-    ≡ sets (sets list to (numbers five width (drop at text))) (to + width) (linesNumbers five width (left - 1) (drop (at + (width * 5 + 1)) text))
-store-lines-next list text to at width left h =
-    rw (lines-numbers-next width left at text h)
-    (sets-append list to (numbers five width (drop at text)) (linesNumbers five width (left - 1) (drop (at + (width * 5 + 1)) text))
-    ∙ ap (λ (n : ℕ). sets (sets list to (numbers five width (drop at text))) (to + n) (linesNumbers five width (left - 1) (drop (at + (width * 5 + 1)) text))) (length-numbers five width (drop at text)))
+pub store-lines-next : (list text : List ℕ) (to at columns left : ℕ) → 0 < left
+    → sets list to (linesNumbers five columns left (drop at text))
+    ≡ sets (sets list to (numbers five columns (drop at text))) (to + columns) (linesNumbers five columns (left - 1) (drop (at + (columns * 5 + 1)) text))
+store-lines-next list text to at columns left h =
+    rw (lines-numbers-next columns left at text h)
+    (sets-append list to (numbers five columns (drop at text)) (linesNumbers five columns (left - 1) (drop (at + (columns * 5 + 1)) text))
+    ∙ ap (λ (n : ℕ). sets (sets list to (numbers five columns (drop at text))) (to + n) (linesNumbers five columns (left - 1) (drop (at + (columns * 5 + 1)) text))) (length-numbers five columns (drop at text)))
 
 -- one turn less
 pub one-less : (a b : ℕ) → 0 < b → a * b ≡ a * (b - 1) + a

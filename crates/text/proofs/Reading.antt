@@ -1,15 +1,15 @@
 -- What reading gives, by its tests; and how the lent memory is filled.
-use mathlib.Core.Path.{_≡_, refl, sym, ap, _∙_}
+use mathlib.Core.Path.{_≡_, sym, ap, _∙_}
 use mathlib.Core.Bool.{Bool, true, false, cond, _&&_, _||_}
 use mathlib.Core.List.{List, [], _∷_, _++_}
-use Prim.Native.Nat.{ℕ, zero, suc, _+_, _*_, _-_, _/_, _≤_, _<_}
+use Prim.Native.Nat.{ℕ, zero, suc, _+_, _*_, _≤_, _<_}
 use native.Mathlib.Omega.{arith}
 use native.Mathlib.Nat.{mul-suc}
 use lib.Dec.{ltb}
-use lib.ListN.{length, take, drop, length-append}
+use lib.ListN.{length, drop, length-append}
 use lib.Seq.{sets, sets-eq}
 use borrow.Author.Tests.{lt-ltb, le-ltb, eq-eqb, ne-eqb}
-use Rattle.connectivity.specs.Admission.{Limits, Answer, answer, limits, endsAnswer}
+use Rattle.connectivity.specs.Admission.{Limits, answer, limits, endsAnswer}
 use Rattle.graph.specs.declared.Admission.{Admission}
 use Rattle.text.specs.declared.VerdictRead.{VerdictRead}
 use Rattle.text.specs.Column.{five, largest, lineSize, lineFits, numbers, linesFit, linesNumbers}

@@ -1,16 +1,15 @@
 -- What writing gives, by its tests, and how long the texts are.
 use mathlib.Core.Path.{_≡_, refl, sym, ap, _∙_}
-use mathlib.Core.Bool.{Bool, true, false, cond, _&&_, _||_}
+use mathlib.Core.Bool.{Bool, true, false, cond, _&&_}
 use mathlib.Core.Logic.{_⊎_, inl, inr, ⊎-elim}
-use mathlib.Core.List.{List, [], _∷_, _++_}
-use Prim.Native.Nat.{ℕ, zero, suc, _+_, _*_, _-_, _/_, _%_, _≤_, _<_}
+use mathlib.Core.List.{List, [], _∷_}
+use Prim.Native.Nat.{ℕ, zero, suc, _+_, _*_, _/_, _≤_, _<_}
 use native.Mathlib.Omega.{arith}
 use native.Mathlib.Nat.{mul-suc, suc-mul, mul-zero, mul-le-mul}
-use native.Mathlib.Decide.{ℕ-discrete}
-use lib.Dec.{eqb, ltb, leb}
-use lib.ListN.{length, take, drop, getD, length-append, length-drop}
+use lib.Dec.{eqb, leb}
+use lib.ListN.{length, take, drop, length-append, length-drop}
 use lib.Seq.{length-take-le}
-use borrow.Author.Tests.{lt-ltb, le-ltb, eq-eqb, ne-eqb, eqb-true, eqb-false, leb-true}
+use borrow.Author.Tests.{lt-ltb, le-ltb, eq-eqb, eqb-true, leb-true}
 use Rattle.connectivity.specs.Admission.{Limits, Answer, answer, limits, admission}
 use Rattle.connectivity.proofs.Admission.{admission-number}
 use Rattle.graph.specs.Admission.{toldBy, constructed}
@@ -108,6 +107,17 @@ count-most limits kind count = go (eqb kind 0) (eqb kind 1) (eqb kind 2)
     go false true t p = inr (omega (arith, leb-true count 2 p))
     go false false true p = inr (leb-true count 7 (and-true (leb 1 count) (leb count 7) p .1))
     go false false false p = let z : _≡_ {A = ℕ} 0 1 = cc in absurd (omega arith)
+
+pub kind-most : (limits : Limits) (kind count : ℕ) → countFits limits kind count ≡ true → kind ≤ 2
+unfolding countFits
+kind-most limits kind count = go (eqb kind 0) refl (eqb kind 1) refl (eqb kind 2) refl
+  where
+    go : (r : Bool) → eqb kind 0 ≡ r → (s : Bool) → eqb kind 1 ≡ s → (t : Bool) → eqb kind 2 ≡ t
+        → cond r (leb count (limits .edges)) (cond s (leb count 2) (cond t (leb 1 count && leb count 7) false)) ≡ true → kind ≤ 2
+    go true a s b t c p = omega (arith, eqb-true kind 0 a)
+    go false a true b t c p = omega (arith, eqb-true kind 1 b)
+    go false a false b true c p = omega (arith, eqb-true kind 2 c)
+    go false a false b false c p = let z : _≡_ {A = ℕ} 0 1 = cc in absurd (omega arith)
 
 pub lines-needed : (kind count : ℕ) → (linesOf kind count ≤ count) × (perLine kind * linesOf kind count ≤ needed kind count)
 unfolding linesOf needed

@@ -6,7 +6,13 @@ ghost use lib.Seq.{sets};
 ghost use Rattle.text.specs.Column.{five, largest, byteAt, column, digit, value, same, columnFits};
 
 // The worths of the five columns, to read and to write by.
-const WORTHS: [u32; 5] = [10000, 1000, 100, 10, 1];
+const WORTHS: [u32; WIDTH] = [10000, 1000, 100, 10, 1];
+
+// The bytes of a column.
+pub(crate) const WIDTH: usize = 5;
+
+// The bytes of the longest line: three columns and a line feed.
+pub(crate) const LONGEST: usize = 3 * WIDTH + 1;
 
 // The largest value in the form.
 const LARGEST: u32 = 65535;
@@ -25,13 +31,13 @@ fn digit_of(b: u8) -> u32
 }
 
 // The number in the column that begins at `at`.
-pub(crate) fn number(line: &[u8; 16], at: usize) -> u32
+pub(crate) fn number(line: &[u8; LONGEST], at: usize) -> u32
     requires { ⌜ (at + 5 ≤ 16) × (length (now line) ≡ 16) ⌝ }
     ensures { λ r. ⌜ r ≡ value five (take 5 (drop at (now (line .entry)))) ⌝ }
 {
     let mut sum = 0;
     let mut i = 0;
-    while i < 5 {
+    while i < WIDTH {
         sum += WORTHS[i] * digit_of(line[at + i]);
         i += 1;
     }
@@ -61,7 +67,7 @@ fn byte_at(worth: u32, x: u32) -> u8
 }
 
 // The column that begins at `at` is in the form.
-pub(crate) fn column_fits(line: &[u8; 16], at: usize) -> bool
+pub(crate) fn column_fits(line: &[u8; LONGEST], at: usize) -> bool
     requires { ⌜ (at + 5 ≤ 16) × (length (now line) ≡ 16) ⌝ }
     ensures { λ r. ⌜ r ≡ columnFits five largest (take 5 (drop at (now (line .entry)))) ⌝ }
 {
@@ -73,12 +79,12 @@ pub(crate) fn column_fits(line: &[u8; 16], at: usize) -> bool
 }
 
 // The column that begins at `at` has the very bytes of x.
-fn column_is(line: &[u8; 16], at: usize, x: u32) -> bool
+fn column_is(line: &[u8; LONGEST], at: usize, x: u32) -> bool
     requires { ⌜ (at + 5 ≤ 16) × (length (now line) ≡ 16) ⌝ }
     ensures { λ r. ⌜ r ≡ same (column five x) (take 5 (drop at (now (line .entry)))) ⌝ }
 {
     let mut i = 0;
-    while i < 5 {
+    while i < WIDTH {
         if line[at + i] != byte_at(WORTHS[i], x) {
             return false;
         }
@@ -93,7 +99,7 @@ pub(crate) fn write_column(text: &mut [u8], at: usize, x: u32)
     ensures { λ r. ⌜ now (text .exit) ≡ sets (now (text .entry)) at (column five x) ⌝ }
 {
     let mut i = 0;
-    while i < 5 {
+    while i < WIDTH {
         text[at + i] = byte_at(WORTHS[i], x);
         i += 1;
     }

@@ -49,7 +49,7 @@ pub fn read_plan(text: &[u8], ends: &mut [u16]) -> Admission
     if ends.len() < 2 * edges {
         return refused_plan(6);
     }
-    if !line::lines_fit(text, 11, 2, edges) {
+    if !line::lines_fit(text, line::HEADER, 2, edges) {
         return refused_plan(7);
     }
     let fit = judge_edges(text, vertices, edges);
@@ -57,7 +57,7 @@ pub fn read_plan(text: &[u8], ends: &mut [u16]) -> Admission
     if first != 0 {
         return Admission::Refused(fit);
     }
-    line::store_lines(text, 11, 2, edges, ends);
+    line::store_lines(text, line::HEADER, 2, edges, ends);
     Admission::Admitted(Graph {
         vertices: vertices,
         edges: header.second,
@@ -78,7 +78,7 @@ fn judge_edges(text: &[u8], vertices: u16, edges: usize) -> Answer
     requires { ⌜ (edges ≤ 4000) × (11 ≤ length (now text)) × (linesFit five largest 2 edges (drop 11 (now text)) ≡ true) ⌝ }
     ensures { λ r. ⌜ r ≡ toldBy (endsAnswer vertices 0 (linesNumbers five 2 edges (drop 11 (now (text .entry))))) ⌝ }
 {
-    let mut next = 11;
+    let mut next = line::HEADER;
     let mut e = 0;
     while e < edges {
         let number = judge_line(text, next, vertices);
@@ -88,7 +88,7 @@ fn judge_edges(text: &[u8], vertices: u16, edges: usize) -> Answer
                 place: e as u16,
             };
         }
-        next += 11;
+        next += line::HEADER;
         e += 1;
     }
     Answer {
@@ -115,7 +115,7 @@ pub fn write_plan(vertices: u16, ends: &[u16], text: &mut [u8]) -> Written
         Admission::Refused(answer) => Written::Refused(answer),
         Admission::Admitted(graph) => {
             let edges = graph.edges as usize;
-            let size = 11 + edges * 11;
+            let size = line::HEADER + edges * line::HEADER;
             if text.len() < size {
                 return refused_writing(6);
             }
@@ -151,8 +151,8 @@ pub fn read_verdict(text: &[u8], list: &mut [u16]) -> VerdictRead
     if list.len() < size {
         return refused_verdict(6);
     }
-    let width = per_line(kind);
-    if !line::lines_fit(text, 11, width, lines_of(kind, count)) {
+    let columns = per_line(kind);
+    if !line::lines_fit(text, line::HEADER, columns, lines_of(kind, count)) {
         return refused_verdict(8);
     }
     if kind == 2 {
@@ -162,7 +162,7 @@ pub fn read_verdict(text: &[u8], list: &mut [u16]) -> VerdictRead
             count: 1,
         };
     }
-    line::store_lines(text, 11, width, count, list);
+    line::store_lines(text, line::HEADER, columns, count, list);
     VerdictRead::Read {
         kind: kind,
         count: size,
@@ -186,13 +186,13 @@ pub fn write_verdict(kind: u16, list: &[u16], text: &mut [u8]) -> Written
         return refused_writing(8);
     }
     let count = count_of(kind, list);
-    let width = per_line(kind);
+    let columns = per_line(kind);
     let lines = lines_of(kind, count);
-    let size = 11 + lines * (width * 5 + 1);
+    let size = line::HEADER + lines * (columns * column::WIDTH + 1);
     if text.len() < size {
         return refused_writing(6);
     }
-    line::write_text(kind, count as u16, list, width, lines, text);
+    line::write_text(kind, count as u16, list, columns, lines, text);
     Written::Bytes(size)
 }
 

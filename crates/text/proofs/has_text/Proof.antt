@@ -1,13 +1,8 @@
 -- `has_text` meets its contract, by the tests of its count.
-use mathlib.Core.Path.{_≡_, refl, sym, ap, _∙_}
-use mathlib.Core.Bool.{Bool, true, false, cond, _&&_}
-use Prim.Native.Nat.{ℕ, _*_, _≤_, _<_}
-use native.Mathlib.Omega.{arith}
-use lib.Dec.{eqb, leb}
-use lib.ListN.{length, getD}
+use mathlib.Core.Path.{sym, _∙_}
 use borrow.Author.Needs.{needs}
 use borrow.Author.Tests.{not-true, not-false}
-use Rattle.text.specs.Verdict.{needed, countOf, countFits, hasText}
+use Rattle.text.specs.Verdict.{hasText}
 use Rattle.text.proofs.has_text.Statement.{statement}
 use Rattle.text.proofs.has_text.Tie as tie
 

@@ -1,17 +1,13 @@
 -- `judge_edges` meets its contract. The loop's invariant: the answer is the one from edge e on.
-use mathlib.Core.Path.{_≡_, refl, sym, ap, _∙_}
-use mathlib.Core.Bool.{Bool, true, false, cond, _&&_}
-use mathlib.Core.List.{List, [], _∷_, _++_}
-use Prim.Native.Nat.{ℕ, suc, _+_, _*_, _-_, _≤_, _<_}
+use mathlib.Core.Path.{_≡_, sym, ap, _∙_}
+use mathlib.Core.Bool.{true}
+use Prim.Native.Nat.{ℕ, _+_, _-_, _≤_}
 use native.Mathlib.Omega.{arith}
-use lib.ListN.{length, take, drop, getD, set, length-take, length-drop, length-set}
-use lib.Seq.{sets, length-sets}
-use borrow.Author.Needs.{needs}
-use borrow.Author.Tests.{not-true, not-false, le-leb, lt-leb}
-use Rattle.text.specs.Column.{five, largest, numbers, linesFit, linesNumbers}
+use lib.ListN.{length, drop, length-drop}
+use Rattle.text.specs.Column.{five, largest, linesFit, linesNumbers}
 use Rattle.text.proofs.Laws.{lines-true}
 use Rattle.text.proofs.Edges.{edge-next, edge-stop, edges-over}
-use Rattle.connectivity.specs.Admission.{answer, endsAnswer}
+use Rattle.connectivity.specs.Admission.{endsAnswer}
 use Rattle.graph.specs.Admission.{toldBy}
 use Rattle.text.proofs.judge_edges.Statement.{statement}
 use Rattle.text.proofs.judge_edges.Tie as tie

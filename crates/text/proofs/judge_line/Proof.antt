@@ -1,15 +1,6 @@
 -- `judge_line` meets its contract: the edge is judged by the line's two numbers.
-use mathlib.Core.Path.{_≡_, refl, sym, ap, _∙_}
-use mathlib.Core.Bool.{Bool, true, false, cond, _&&_}
-use mathlib.Core.List.{List, [], _∷_, _++_}
-use Prim.Native.Nat.{ℕ, suc, _+_, _*_, _-_, _≤_, _<_}
-use native.Mathlib.Omega.{arith}
-use lib.ListN.{length, take, drop, getD, set, length-take, length-drop, length-set}
-use lib.Seq.{sets, length-sets}
+use mathlib.Core.Path.{_∙_}
 use borrow.Author.Needs.{needs}
-use borrow.Author.Tests.{not-true, not-false, le-leb, lt-leb}
-use Rattle.text.specs.Column.{five, largest, lineFits}
-use Rattle.connectivity.specs.Admission.{edgeNumber}
 use Rattle.text.proofs.judge_line.Statement.{statement}
 use Rattle.text.proofs.judge_line.Tie as tie
 

@@ -1,21 +1,18 @@
 -- `read_plan` meets its contract: each way out cites the law for its tests.
 use mathlib.Core.Path.{_≡_, refl, sym, ap, _∙_}
-use mathlib.Core.Bool.{Bool, true, false, cond, _&&_}
-use mathlib.Core.List.{List, [], _∷_, _++_}
-use Prim.Native.Nat.{ℕ, suc, _+_, _*_, _-_, _≤_, _<_}
+use mathlib.Core.Bool.{true}
+use mathlib.Core.List.{List}
+use Prim.Native.Nat.{ℕ}
 use native.Mathlib.Omega.{arith}
-use lib.ListN.{length, take, drop, getD, set, length-take, length-drop, length-set}
-use lib.Seq.{sets, length-sets}
+use lib.ListN.{length, drop}
 use borrow.Author.Needs.{needs}
-use borrow.Author.Tests.{not-true, not-false, le-leb, lt-leb}
+use borrow.Author.Tests.{not-true, not-false}
 use Prim.Native.Nat.{_/_}
-use Rattle.connectivity.specs.Admission.{answer, limits, endsAnswer}
+use Rattle.connectivity.specs.Admission.{limits, endsAnswer}
 use Rattle.graph.specs.declared.Answer.{Answer}
 use Rattle.graph.specs.declared.Admission.{Admission}
-use Rattle.graph.specs.Admission.{toldBy}
-use Rattle.text.specs.Column.{five, largest, lineFits, linesFit, numbers, linesNumbers}
+use Rattle.text.specs.Column.{five, largest, lineFits, linesFit, linesNumbers}
 use Rattle.text.specs.Plan.{Reading}
-use Rattle.text.specs.Entry.{filled}
 use Rattle.text.proofs.Laws.{line-long}
 use Rattle.text.proofs.Reading.{refusal, reads-plan, length-lines-numbers, sets-filled, no-header, too-few, too-many, too-long, no-space, no-lines, misfit, fits}
 use Rattle.text.proofs.read_plan.Statement.{statement}

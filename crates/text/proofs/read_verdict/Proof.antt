@@ -1,18 +1,18 @@
 -- `read_verdict` meets its contract: each way out cites the law for its tests.
 use mathlib.Core.Path.{_≡_, refl, sym, ap, _∙_}
-use mathlib.Core.Bool.{Bool, true, false, cond, _&&_}
-use mathlib.Core.List.{List, [], _∷_, _++_}
-use Prim.Native.Nat.{ℕ, suc, _+_, _*_, _-_, _≤_, _<_}
+use mathlib.Core.Bool.{true}
+use mathlib.Core.List.{List, [], _∷_}
+use Prim.Native.Nat.{ℕ}
 use native.Mathlib.Omega.{arith}
-use lib.ListN.{length, take, drop, getD, set, length-take, length-drop, length-set}
-use lib.Seq.{sets, length-sets}
+use lib.ListN.{length, drop, set}
+use lib.Seq.{sets}
 use borrow.Author.Needs.{needs}
-use borrow.Author.Tests.{not-true, not-false, le-leb, lt-leb}
-use Rattle.connectivity.specs.Admission.{answer, limits}
+use borrow.Author.Tests.{not-true, not-false}
+use Rattle.connectivity.specs.Admission.{limits}
 use Rattle.text.specs.declared.VerdictRead.{VerdictRead}
-use Rattle.text.specs.Column.{five, largest, lineFits, linesFit, numbers, linesNumbers}
+use Rattle.text.specs.Column.{five, largest, lineFits, linesFit, linesNumbers}
 use Rattle.text.specs.Plan.{Reading}
-use Rattle.text.specs.Verdict.{perLine, linesOf, needed, countFits, listRead}
+use Rattle.text.specs.Verdict.{perLine, linesOf, countFits}
 use Rattle.text.proofs.Laws.{line-long}
 use Rattle.text.proofs.Reading.{refusal, reads-verdict, length-lines-numbers, sets-filled, bad-header, bad-count, no-room, bad-lines, verdict-fits, refusal-read, lines-read}
 use Rattle.text.proofs.Writing.{per-line-most}

@@ -1,16 +1,12 @@
 -- `write_plan` meets its contract: each way out cites the law for its tests.
 use mathlib.Core.Path.{_≡_, refl, sym, ap, _∙_}
-use mathlib.Core.Bool.{Bool, true, false, cond, _&&_}
-use mathlib.Core.List.{List, [], _∷_, _++_}
-use Prim.Native.Nat.{ℕ, suc, _+_, _*_, _-_, _≤_, _<_}
+use mathlib.Core.List.{[], _∷_, _++_}
+use Prim.Native.Nat.{ℕ, _+_, _*_}
 use native.Mathlib.Omega.{arith}
-use lib.ListN.{length, take, drop, getD, set, length-take, length-drop, length-set}
-use lib.Seq.{sets, length-sets}
+use lib.ListN.{length}
+use lib.Seq.{sets}
 use borrow.Author.Needs.{needs}
-use borrow.Author.Tests.{not-true, not-false, le-leb, lt-leb}
-use Prim.Native.Nat.{_/_}
 use Rattle.connectivity.specs.Admission.{answer, limits, admission}
-use Rattle.graph.specs.declared.Admission.{Admission}
 use Rattle.text.specs.declared.Written.{Written}
 use Rattle.text.specs.Column.{five, line, lines}
 use Rattle.text.specs.Plan.{Writing, planText}

@@ -1,18 +1,17 @@
 -- `write_verdict` meets its contract: each way out cites the law for its tests.
 use mathlib.Core.Path.{_≡_, refl, sym, ap, _∙_}
-use mathlib.Core.Bool.{Bool, true, false, cond, _&&_}
-use mathlib.Core.List.{List, [], _∷_, _++_}
-use Prim.Native.Nat.{ℕ, suc, _+_, _*_, _-_, _≤_, _<_}
+use mathlib.Core.Bool.{true}
+use Prim.Native.Nat.{_+_, _*_}
 use native.Mathlib.Omega.{arith}
-use lib.ListN.{length, take, drop, getD, set, length-take, length-drop, length-set}
-use lib.Seq.{sets, length-sets}
+use lib.ListN.{length}
+use lib.Seq.{sets}
 use borrow.Author.Needs.{needs}
-use borrow.Author.Tests.{not-true, not-false, le-leb, lt-leb}
+use borrow.Author.Tests.{not-true, not-false}
 use Rattle.connectivity.specs.Admission.{answer, limits}
 use Rattle.text.specs.declared.Written.{Written}
-use Rattle.text.specs.Column.{five, line, lines}
+use Rattle.text.specs.Column.{five}
 use Rattle.text.specs.Plan.{Writing}
-use Rattle.text.specs.Verdict.{perLine, linesOf, needed, countOf, hasText, verdictText}
+use Rattle.text.specs.Verdict.{perLine, linesOf, countOf, hasText, verdictText}
 use Rattle.text.proofs.Reading.{sets-filled}
 use Rattle.text.proofs.Writing.{writes-verdict, per-line-most, lines-needed, verdict-size, no-form, form, length-verdict, verdict-short, verdict-written}
 use Rattle.text.proofs.write_verdict.Statement.{statement}

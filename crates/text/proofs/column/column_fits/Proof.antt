@@ -1,14 +1,8 @@
 -- `column_fits` meets its contract, by its test.
-use mathlib.Core.Path.{_≡_, refl, sym, ap, _∙_}
-use mathlib.Core.Bool.{Bool, true, false, cond, _&&_}
-use mathlib.Core.List.{List, [], _∷_, _++_}
-use Prim.Native.Nat.{ℕ, suc, _+_, _*_, _-_, _≤_, _<_}
 use native.Mathlib.Omega.{arith}
-use lib.ListN.{length, take, drop, getD, set, length-take, length-drop, length-set}
-use lib.Seq.{sets, length-sets}
 use borrow.Author.Needs.{needs}
-use borrow.Author.Tests.{not-true, not-false, le-leb, lt-leb}
-use Rattle.text.specs.Column.{five, largest, value, column, same, columnFits}
+use borrow.Author.Tests.{le-leb, lt-leb}
+use Rattle.text.specs.Column.{columnFits}
 use Rattle.text.proofs.column.column_fits.Statement.{statement}
 use Rattle.text.proofs.column.column_fits.Tie as tie
 

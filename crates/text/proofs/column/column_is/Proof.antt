@@ -1,12 +1,8 @@
 -- `column_is` meets its contract. The loop's invariant: the columns are the same exactly if they are so from i on.
-use mathlib.Core.Path.{_≡_, refl, sym, ap, _∙_}
-use mathlib.Core.Bool.{Bool, true, false, cond, _&&_}
-use mathlib.Core.List.{List, [], _∷_}
-use Prim.Native.Nat.{ℕ, suc, _+_, _*_, _-_, _≤_, _<_}
+use mathlib.Core.Path.{_≡_, refl, sym, _∙_}
+use Prim.Native.Nat.{_+_, _-_, _≤_}
 use native.Mathlib.Omega.{arith}
-use lib.ListN.{length, take, drop, getD, set, length-take, length-drop, length-set}
-use lib.Seq.{sets}
-use borrow.Author.Needs.{needs}
+use lib.ListN.{length, take, drop}
 use Rattle.text.specs.Column.{five, column, same}
 use Rattle.text.proofs.Laws.{bytes-same, bytes-differ, worth-some, no-worth, drop-col}
 use Rattle.text.proofs.column.column_is.Statement.{statement}
@@ -40,7 +36,7 @@ returns : tie.Need-returns Inv-loop μ-loop
 returns c =
     let l = c .before .before .before .before in
     let a = l .before .args in
-    sym (l .loop .inv .3 ∙ bytes-differ (a .line .now) (a .at) (l .loop .i) (omega arith) (omega arith) (a .x) (c .before .byte-at .result) (c .before .byte-at .ensures) (c .if1 .taken))
+    sym (l .loop .inv .3 ∙ bytes-differ (a .line .now) (a .at) (l .loop .i) (omega arith) (omega arith) (a .x) (c .before .byte-at .result) (c .before .byte-at .ensures) (λ q. omega arith))
 
 add-i : tie.Need-add-i Inv-loop μ-loop
 add-i c = omega arith
@@ -55,7 +51,7 @@ loop-again c =
       omega arith,
       omega arith,
       omega arith,
-      l .loop .inv .3 ∙ bytes-same (a .line .now) (a .at) (l .loop .i) (omega arith) (omega arith) (a .x) (c .before .byte-at .result) (c .before .byte-at .ensures) (c .if1 .left),
+      l .loop .inv .3 ∙ bytes-same (a .line .now) (a .at) (l .loop .i) (omega arith) (omega arith) (a .x) (c .before .byte-at .result) (c .before .byte-at .ensures) (omega arith),
     )
 
 returns-2 : tie.Need-returns-2 Inv-loop μ-loop

@@ -1,13 +1,11 @@
 -- `number` meets its contract. The loop's invariant: the value is the sum so far and what the columns from i on are worth.
-use mathlib.Core.Path.{_≡_, refl, sym, ap, _∙_}
-use mathlib.Core.Bool.{Bool, true, false, cond, _&&_}
-use mathlib.Core.List.{List, [], _∷_}
-use Prim.Native.Nat.{ℕ, suc, _+_, _*_, _-_, _≤_, _<_}
+use mathlib.Core.Path.{_≡_, ap}
+use mathlib.Core.List.{List}
+use Prim.Native.Nat.{ℕ, _+_, _*_, _-_, _≤_, _<_}
 use native.Mathlib.Omega.{arith}
-use lib.ListN.{length, take, drop, getD, set, length-take, length-drop, length-set}
-use lib.Seq.{sets}
+use lib.ListN.{length, take, drop, getD}
 use borrow.Author.Needs.{needs}
-use Rattle.text.specs.Column.{five, digit, value}
+use Rattle.text.specs.Column.{five, value}
 use Rattle.text.proofs.Laws.{number-next, value-small, no-worth}
 use Rattle.text.proofs.column.number.Statement.{statement}
 use Rattle.text.proofs.column.number.Tie as tie

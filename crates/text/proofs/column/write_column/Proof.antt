@@ -1,13 +1,10 @@
 -- `write_column` meets its contract. The loop's invariant: what is left to be written, from i on, makes the whole.
-use mathlib.Core.Path.{_≡_, refl, sym, ap, _∙_}
-use mathlib.Core.Bool.{Bool, true, false, cond, _&&_}
-use mathlib.Core.List.{List, [], _∷_}
-use Prim.Native.Nat.{ℕ, suc, _+_, _*_, _-_, _≤_, _<_}
+use mathlib.Core.Path.{_≡_, refl}
+use Prim.Native.Nat.{suc, _+_, _-_, _≤_}
 use native.Mathlib.Omega.{arith}
-use lib.ListN.{length, take, drop, getD, set, length-take, length-drop, length-set}
+use lib.ListN.{length, drop, length-set}
 use lib.Seq.{sets}
-use borrow.Author.Needs.{needs}
-use Rattle.text.specs.Column.{five, byteAt, column}
+use Rattle.text.specs.Column.{five, column}
 use Rattle.text.proofs.Laws.{column-next, worth-some, no-worth}
 use Rattle.text.proofs.column.write_column.Statement.{statement}
 use Rattle.text.proofs.column.write_column.Tie as tie

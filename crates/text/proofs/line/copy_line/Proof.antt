@@ -1,12 +1,8 @@
 -- `copy_line` meets its contract. The loop's invariant: the first i bytes are copied.
-use mathlib.Core.Path.{_≡_, refl, sym, ap, _∙_}
-use mathlib.Core.Bool.{Bool, true, false, cond, _&&_}
-use mathlib.Core.List.{List, [], _∷_}
-use Prim.Native.Nat.{ℕ, suc, _+_, _*_, _-_, _≤_, _<_}
+use mathlib.Core.Path.{_≡_, refl}
+use Prim.Native.Nat.{_-_, _≤_}
 use native.Mathlib.Omega.{arith}
-use lib.ListN.{length, take, drop, getD, set, length-take, length-drop, length-set}
-use lib.Seq.{sets}
-use borrow.Author.Needs.{needs}
+use lib.ListN.{length, take, drop, length-set}
 use Rattle.text.proofs.Laws.{copy-next}
 use Rattle.text.proofs.line.copy_line.Statement.{statement}
 use Rattle.text.proofs.line.copy_line.Tie as tie

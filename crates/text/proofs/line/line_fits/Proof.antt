@@ -1,14 +1,9 @@
 -- `line_fits` meets its contract: the line is judged by its copy, if the text is long enough.
-use mathlib.Core.Path.{_≡_, refl, sym, ap, _∙_}
-use mathlib.Core.Bool.{Bool, true, false, cond, _&&_}
-use mathlib.Core.List.{List, [], _∷_, _++_}
-use Prim.Native.Nat.{ℕ, suc, _+_, _*_, _-_, _≤_, _<_}
+use mathlib.Core.Path.{sym, _∙_}
 use native.Mathlib.Omega.{arith}
-use lib.ListN.{length, take, drop, getD, set, length-take, length-drop, length-set}
-use lib.Seq.{sets, length-sets}
+use lib.ListN.{drop, length-drop}
 use borrow.Author.Needs.{needs}
-use borrow.Author.Tests.{not-true, not-false, le-leb, lt-leb}
-use Rattle.text.specs.Column.{five, largest, lineFits}
+use Rattle.text.specs.Column.{five, largest}
 use Rattle.text.proofs.Laws.{line-short, line-copied}
 use Rattle.text.proofs.line.line_fits.Statement.{statement}
 use Rattle.text.proofs.line.line_fits.Tie as tie
@@ -23,7 +18,7 @@ sub-if1 : tie.Need-sub-if1
 sub-if1 c = search needs
 
 returns : tie.Need-returns
-returns c = let a = c .before .before .args in sym (line-short (drop (a .at) (a .text .now)) largest (a .count) (omega (arith, length-drop (a .at) (a .text .now))))
+returns c = let a = c .before .before .args in sym (line-short (drop (a .at) (a .text .now)) largest (a .columns) (omega (arith, length-drop (a .at) (a .text .now))))
 
 copy-line-requires : tie.Need-copy-line-requires
 copy-line-requires c κs = search needs
@@ -35,7 +30,7 @@ returns-2 : tie.Need-returns-2
 returns-2 c =
     let s = c .before .before in
     let a = s .before .before .before .args in
-    c .columns-fit .ensures ∙ line-copied five (a .count) (s .copy-line .result) (drop (a .at) (a .text .now)) (s .copy-line .ensures .0) largest
+    c .columns-fit .ensures ∙ line-copied five (a .columns) (s .copy-line .result) (drop (a .at) (a .text .now)) (s .copy-line .ensures .0) largest
 
 pub line-fits-spec : {M : Type 1} → statement M
 line-fits-spec =

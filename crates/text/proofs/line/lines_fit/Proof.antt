@@ -1,23 +1,19 @@
 -- `lines_fit` meets its contract. The loop's invariant: the text fits exactly if it does so from the next line on.
-use mathlib.Core.Path.{_≡_, refl, sym, ap, _∙_}
-use mathlib.Core.Bool.{Bool, true, false, cond, _&&_}
-use mathlib.Core.List.{List, [], _∷_, _++_}
-use Prim.Native.Nat.{ℕ, suc, _+_, _*_, _-_, _≤_, _<_}
+use mathlib.Core.Path.{_≡_, refl, sym, _∙_}
+use Prim.Native.Nat.{_+_, _*_, _≤_}
 use native.Mathlib.Omega.{arith}
-use lib.ListN.{length, take, drop, getD, set, length-take, length-drop, length-set}
-use lib.Seq.{sets, length-sets}
-use borrow.Author.Needs.{needs}
-use borrow.Author.Tests.{not-true, not-false, le-leb, lt-leb}
-use Rattle.text.specs.Column.{five, largest, lineFits, linesFit}
+use lib.ListN.{length, drop, length-drop}
+use borrow.Author.Tests.{not-true, not-false}
+use Rattle.text.specs.Column.{five, largest, linesFit}
 use Rattle.text.proofs.Laws.{lines-next, lines-last, line-long}
 use Rattle.text.proofs.line.lines_fit.Statement.{statement}
 use Rattle.text.proofs.line.lines_fit.Tie as tie
 
 abbrev Inv-loop : tie.InvT-loop
-Inv-loop text at width count next₀ left₀ next left = (next ≤ length text) × (width ≤ 3) × (linesFit five largest width count (drop at text) ≡ linesFit five largest width left (drop next text))
+Inv-loop text at columns count next₀ left₀ next left = (next ≤ length text) × (columns ≤ 3) × (linesFit five largest columns count (drop at text) ≡ linesFit five largest columns left (drop next text))
 
 abbrev μ-loop : tie.MeasureT-loop
-μ-loop text at width count next₀ left₀ next left = left
+μ-loop text at columns count next₀ left₀ next left = left
 
 loop-holds : tie.Need-loop-holds Inv-loop μ-loop
 loop-holds c = (omega arith, omega arith, refl)
@@ -30,17 +26,17 @@ returns c =
     let l = c .before .before .before in
     let a = l .before .before .args in
     let q = sym (c .before .line-fits .ensures) ∙ not-true _ (c .if1 .taken) in
-    sym (l .loop .inv .2 ∙ lines-next (a .width) (l .loop .left) (l .loop .next) (a .text .now) (omega arith) largest ∙ rw q)
+    sym (l .loop .inv .2 ∙ lines-next (a .columns) (l .loop .left) (l .loop .next) (a .text .now) (omega arith) largest ∙ rw q)
 
 -- a line that fits is there
 room : (c : tie.Else1 Inv-loop μ-loop)
     → let l = c .before .before .before in
-    l .loop .next + (l .before .before .args .width * 5 + 1) ≤ length (l .before .before .args .text .now)
+    l .loop .next + (l .before .before .args .columns * 5 + 1) ≤ length (l .before .before .args .text .now)
 room c =
     let l = c .before .before .before in
     let a = l .before .before .args in
     let q = sym (c .before .line-fits .ensures) ∙ not-false _ (c .if1 .left) in
-    omega (arith, line-long five largest (a .width) (drop (l .loop .next) (a .text .now)) q, length-drop (l .loop .next) (a .text .now))
+    omega (arith, line-long five largest (a .columns) (drop (l .loop .next) (a .text .now)) q, length-drop (l .loop .next) (a .text .now))
 
 mul-next : tie.Need-mul-next Inv-loop μ-loop
 mul-next c = omega arith
@@ -62,13 +58,13 @@ loop-again c =
     let l = c .before .before .before in
     let a = l .before .before .args in
     let q = sym (c .before .line-fits .ensures) ∙ not-false _ (c .if1 .left) in
-    (omega (arith, room c), omega arith, l .loop .inv .2 ∙ lines-next (a .width) (l .loop .left) (l .loop .next) (a .text .now) (omega arith) largest ∙ rw q)
+    (omega (arith, room c), omega arith, l .loop .inv .2 ∙ lines-next (a .columns) (l .loop .left) (l .loop .next) (a .text .now) (omega arith) largest ∙ rw q)
 
 returns-2 : tie.Need-returns-2 Inv-loop μ-loop
 returns-2 c =
     let l = c .before in
     let a = l .before .before .args in
-    sym (l .loop .inv .2 ∙ lines-last largest (a .width) (l .loop .left) (l .loop .next) (a .text .now) (omega arith) (omega arith))
+    sym (l .loop .inv .2 ∙ lines-last largest (a .columns) (l .loop .left) (l .loop .next) (a .text .now) (omega arith) (omega arith))
 
 pub lines-fit-spec : {M : Type 1} → statement M
 lines-fit-spec =

@@ -1,14 +1,8 @@
 -- `two_numbers` meets its contract: the numbers are read of the copied line.
-use mathlib.Core.Path.{_≡_, refl, sym, ap, _∙_}
-use mathlib.Core.Bool.{Bool, true, false, cond, _&&_}
-use mathlib.Core.List.{List, [], _∷_, _++_}
-use Prim.Native.Nat.{ℕ, suc, _+_, _*_, _-_, _≤_, _<_}
+use mathlib.Core.Path.{_∙_}
 use native.Mathlib.Omega.{arith}
-use lib.ListN.{length, take, drop, getD, set, length-take, length-drop, length-set}
-use lib.Seq.{sets, length-sets}
-use borrow.Author.Needs.{needs}
-use borrow.Author.Tests.{not-true, not-false, le-leb, lt-leb}
-use Rattle.text.specs.Column.{five, largest, lineFits}
+use lib.ListN.{drop, length-drop}
+use Rattle.text.specs.Column.{five, largest}
 use Rattle.text.proofs.Laws.{line-long, first-copied, second-copied, pair-true}
 use Rattle.text.proofs.line.two_numbers.Statement.{statement}
 use Rattle.text.proofs.line.two_numbers.Tie as tie

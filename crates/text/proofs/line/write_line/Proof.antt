@@ -1,29 +1,25 @@
 -- `write_line` meets its contract. The loop's invariant: what is left to be written, from column k on, makes the whole.
 use mathlib.Core.Path.{_≡_, refl, sym, ap, _∙_}
-use mathlib.Core.Bool.{Bool, true, false, cond, _&&_}
-use mathlib.Core.List.{List, [], _∷_, _++_}
-use Prim.Native.Nat.{ℕ, suc, _+_, _*_, _-_, _≤_, _<_}
+use Prim.Native.Nat.{ℕ, _+_, _*_, _-_, _≤_}
 use native.Mathlib.Omega.{arith}
-use lib.ListN.{length, take, drop, getD, set, length-take, length-drop, length-set}
-use lib.Seq.{sets, length-sets}
-use borrow.Author.Needs.{needs}
-use borrow.Author.Tests.{not-true, not-false, le-leb, lt-leb}
-use Rattle.text.specs.Column.{five, column, line}
-use Rattle.text.proofs.Laws.{write-next, write-last, length-column}
+use lib.ListN.{length, take, drop, set, length-set}
+use lib.Seq.{sets}
+use Rattle.text.specs.Column.{five, line}
+use Rattle.text.proofs.Laws.{write-next, write-last}
 use Rattle.text.proofs.line.write_line.Statement.{statement}
 use Rattle.text.proofs.line.write_line.Tie as tie
 
 abbrev Inv-loop : tie.InvT-loop
-Inv-loop list from width text₀ at k₀ text k = (k ≤ width) × (length text ≡ length text₀) × (sets text (at + k * 5) (line five (take (width - k) (drop (from + k) list))) ≡ sets text₀ at (line five (take width (drop from list))))
+Inv-loop list from columns text₀ at k₀ text k = (k ≤ columns) × (length text ≡ length text₀) × (sets text (at + k * 5) (line five (take (columns - k) (drop (from + k) list))) ≡ sets text₀ at (line five (take columns (drop from list))))
 
 abbrev μ-loop : tie.MeasureT-loop
-μ-loop list from width text₀ at k₀ text k = width - k
+μ-loop list from columns text₀ at k₀ text k = columns - k
 
 loop-holds : tie.Need-loop-holds Inv-loop μ-loop
 loop-holds c =
     let a = c .before .before .args in
     let p : a .at + 0 ≡ a .at = omega arith in
-    let q : a .width - 0 ≡ a .width = omega arith in
+    let q : a .columns - 0 ≡ a .columns = omega arith in
     let r : a .from + 0 ≡ a .from = omega arith in
     (omega arith, refl, rw (p, q, r))
 
@@ -61,7 +57,7 @@ loop-again c =
     let w = c .before .before .write-column in (
       omega arith,
       omega (arith, w .kept .0),
-      rw (w .ensures) (sym (write-next (l .loop .text) (a .list .now) (a .at) (a .from) (a .width) (l .loop .k) (omega arith) (omega arith)) ∙ l .loop .inv .2),
+      rw (w .ensures) (sym (write-next (l .loop .text) (a .list .now) (a .at) (a .from) (a .columns) (l .loop .k) (omega arith) (omega arith)) ∙ l .loop .inv .2),
     )
 
 mul-text : tie.Need-mul-text Inv-loop μ-loop
@@ -80,9 +76,9 @@ returns : tie.Need-returns Inv-loop μ-loop
 returns c =
     let l = c .before in
     let a = l .before .before .before .args in
-    let p : a .width ≡ l .loop .k = omega arith in
+    let p : a .columns ≡ l .loop .k = omega arith in
     ap (λ (j : ℕ). set (l .loop .text) (a .at + j * 5) 10) p
-    ∙ sym (write-last (l .loop .text) (drop (a .from + l .loop .k) (a .list .now)) (a .at + l .loop .k * 5) (a .width) (l .loop .k) (omega arith))
+    ∙ sym (write-last (l .loop .text) (drop (a .from + l .loop .k) (a .list .now)) (a .at + l .loop .k * 5) (a .columns) (l .loop .k) (omega arith))
     ∙ l .loop .inv .2
 
 pub write-line-spec : {M : Type 1} → statement M

@@ -1,13 +1,7 @@
 -- `write_text` meets its contract: the header, and the lines behind it.
-use mathlib.Core.Path.{_≡_, refl, sym, ap, _∙_}
-use mathlib.Core.Bool.{Bool, true, false, cond, _&&_}
-use mathlib.Core.List.{List, [], _∷_, _++_}
-use Prim.Native.Nat.{ℕ, suc, _+_, _*_, _-_, _≤_, _<_}
-use native.Mathlib.Omega.{arith}
-use lib.ListN.{length, take, drop, getD, set, length-take, length-drop, length-set}
-use lib.Seq.{sets, length-sets}
+use mathlib.Core.Path.{sym, _∙_}
+use mathlib.Core.List.{[], _∷_}
 use borrow.Author.Needs.{needs}
-use borrow.Author.Tests.{not-true, not-false, le-leb, lt-leb}
 use Rattle.text.specs.Column.{five, line, lines}
 use Rattle.text.proofs.Laws.{sets-append, length-line}
 use Rattle.text.proofs.line.write_text.Statement.{statement}
@@ -31,7 +25,7 @@ returns c =
     let a = w .before .before .before .before .before .args in
     let h = a .first ∷ (a .second ∷ []) in
     c .before .before .write-lines .ensures ∙ rw (w .write-line .ensures)
-    (sym (sets-append (a .text .now) 0 (line five h) (lines five (a .width) (a .count) (a .list .now)) ∙ rw (length-line five h)))
+    (sym (sets-append (a .text .now) 0 (line five h) (lines five (a .columns) (a .count) (a .list .now)) ∙ rw (length-line five h)))
 
 pub write-text-spec : {M : Type 1} → statement M
 write-text-spec =
