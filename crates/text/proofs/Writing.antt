@@ -3,13 +3,14 @@ use mathlib.Core.Path.{_≡_, refl, sym, ap, _∙_}
 use mathlib.Core.Bool.{Bool, true, false, cond, _&&_}
 use mathlib.Core.Logic.{_⊎_, inl, inr, ⊎-elim}
 use mathlib.Core.List.{List, [], _∷_}
-use Prim.Native.Nat.{ℕ, zero, suc, _+_, _*_, _/_, _≤_, _<_}
+use Prim.Native.Nat.{ℕ, zero, suc, _+_, _*_, _/_, _≤_, _<_, _%_}
 use native.Mathlib.Omega.{arith}
+use native.Mathlib.Decide.{ℕ-discrete}
 use native.Mathlib.Nat.{mul-suc, suc-mul, mul-zero, mul-le-mul}
 use lib.Dec.{eqb, leb}
-use lib.ListN.{length, take, drop, length-append, length-drop}
+use lib.ListN.{length, take, drop, getD, length-append, length-drop}
 use lib.Seq.{length-take-le}
-use borrow.Author.Tests.{lt-ltb, le-ltb, eq-eqb, eqb-true, leb-true}
+use borrow.Author.Tests.{ne-eqb, lt-ltb, le-ltb, eq-eqb, eqb-true, leb-true}
 use Rattle.connectivity.specs.Admission.{Limits, Answer, answer, limits, admission}
 use Rattle.connectivity.proofs.Admission.{admission-number}
 use Rattle.graph.specs.Admission.{toldBy, constructed}
@@ -127,6 +128,40 @@ lines-needed kind count = go (eqb kind 2)
     go true = (omega arith, omega (arith, mul-zero (perLine kind)))
     go false = (omega arith, omega arith)
 
+-- a verdict has a text form exactly if its header is in the form and it has just as many numbers as that needs
+and-swap : (a b : Bool) → (a && b) ≡ (b && a)
+and-swap true true = refl
+and-swap true false = refl
+and-swap false true = refl
+and-swap false false = refl
+
+thirds : (n : ℕ) → eqb (n % 3) 0 ≡ eqb n (3 * (n / 3))
+thirds n = elim (ℕ-discrete (n % 3) 0) [
+  | yes p ↦ eq-eqb (n % 3) 0 p ∙ sym (eq-eqb n (3 * (n / 3)) (omega arith))
+  | no p ↦ ne-eqb (n % 3) 0 p ∙ sym (ne-eqb n (3 * (n / 3)) (λ q. p (omega arith)))
+]
+
+pub has-text-is : (limits : Limits) (kind : ℕ) (list : List ℕ)
+    → hasText limits kind list ≡ (countFits limits kind (countOf kind list) && eqb (length list) (needed kind (countOf kind list)))
+unfolding hasText countFits countOf needed perLine
+has-text-is limits kind list = go (ℕ-discrete kind 0) (ℕ-discrete kind 1) (ℕ-discrete kind 2)
+  where
+    n : ℕ
+    n = length list
+
+    rows : (eqb (n % 3) 0 && leb (n / 3) (limits .edges)) ≡ (leb (n / 3) (limits .edges) && eqb n (3 * (n / 3)))
+    rows = and-swap (eqb (n % 3) 0) (leb (n / 3) (limits .edges)) ∙ ap (λ (b : Bool). leb (n / 3) (limits .edges) && b) (thirds n)
+
+    singles : leb n 2 ≡ (leb (n / 1) 2 && eqb n (1 * (n / 1)))
+    singles = let p : n / 1 ≡ n = omega arith in let q : n ≡ 1 * n = omega arith in rw (p, eq-eqb n (1 * n) q) (and-swap true (leb n 2))
+
+    go : Dec (kind ≡ 0) → Dec (kind ≡ 1) → Dec (kind ≡ 2)
+        → hasText limits kind list ≡ (countFits limits kind (countOf kind list) && eqb n (needed kind (countOf kind list)))
+    go (yes a) b c = let two : kind ≡ 2 → ⊥ = λ q. omega arith in rw (eq-eqb kind 0 a, ne-eqb kind 2 two) rows
+    go (no a) (yes b) c = let two : kind ≡ 2 → ⊥ = λ q. omega arith in rw (ne-eqb kind 0 a, eq-eqb kind 1 b, ne-eqb kind 2 two) singles
+    go (no a) (no b) (yes c) = rw (ne-eqb kind 0 a, ne-eqb kind 1 b, eq-eqb kind 2 c) (and-swap (eqb n 1) (leb 1 (getD list 0 0) && leb (getD list 0 0) 7))
+    go (no a) (no b) (no c) = rw (ne-eqb kind 0 a, ne-eqb kind 1 b, ne-eqb kind 2 c)
+
 -- writing a verdict
 module _ (ws : List ℕ) (limits : Limits) (kind : ℕ) (list : List ℕ) (space : ℕ) where
   pub no-form : hasText limits kind list ≡ false → writeVerdict ws limits kind list space ≡ refusal 8
@@ -135,9 +170,8 @@ module _ (ws : List ℕ) (limits : Limits) (kind : ℕ) (list : List ℕ) (space
 
   module _ (h : hasText limits kind list ≡ true) where
     pub form : (countFits limits kind (countOf kind list) ≡ true) × (length list ≡ needed kind (countOf kind list))
-    unfolding hasText
     form =
-        let q = and-true (countFits limits kind (countOf kind list)) (eqb (length list) (needed kind (countOf kind list))) h in
+        let q = and-true (countFits limits kind (countOf kind list)) (eqb (length list) (needed kind (countOf kind list))) (sym (has-text-is limits kind list) ∙ h) in
         (q .0, eqb-true (length list) (needed kind (countOf kind list)) (q .1))
 
     pub length-verdict : length (verdictText ws kind list) ≡ lineSize ws 2 + linesOf kind (countOf kind list) * lineSize ws (perLine kind)

@@ -1,7 +1,7 @@
 -- Verdict text: what is written of a verdict, and what is read of any text.
 use mathlib.Core.Bool.{Bool, false, cond, _&&_}
 use mathlib.Core.List.{List, [], _∷_, _++_}
-use Prim.Native.Nat.{ℕ, _*_, _/_}
+use Prim.Native.Nat.{ℕ, _*_, _/_, _%_}
 use lib.Dec.{eqb, ltb, leb}
 use lib.ListN.{length, getD}
 use Rattle.connectivity.specs.Admission.{answer, Limits}
@@ -31,10 +31,13 @@ countFits limits kind count =
     (cond (eqb kind 1) (leb count 2)
     (cond (eqb kind 2) (leb 1 count && leb count 7) false))
 
--- a verdict outside text that has a text form: such a kind and count, and just as many numbers as they need
+-- a verdict outside text that has a text form: three numbers for each row and rows to the limit of edges, at most two weak edges, or
+-- the one refusal, 1 to 7
 unfoldable pub hasText : Limits → ℕ → List ℕ → Bool
 hasText limits kind list =
-    countFits limits kind (countOf kind list) && eqb (length list) (needed kind (countOf kind list))
+    cond (eqb kind 0) (eqb (length list % 3) 0 && leb (length list / 3) (limits .edges))
+    (cond (eqb kind 1) (leb (length list) 2)
+    (cond (eqb kind 2) (eqb (length list) 1 && (leb 1 (getD list 0 0) && leb (getD list 0 0) 7)) false))
 
 -- 01: kind and count on one line, then the lines
 unfoldable pub verdictText : List ℕ → ℕ → List ℕ → List ℕ

@@ -7,7 +7,7 @@ use graph::Answer;
 use graph::Graph;
 ghost use mathlib.Core.Path.{_≡_};
 ghost use mathlib.Core.Bool.{true};
-ghost use Prim.Native.Nat.{_≤_, _*_, _/_};
+ghost use Prim.Native.Nat.{_≤_};
 ghost use lib.ListN.{length, drop, getD};
 ghost use Rattle.connectivity.specs.Admission.{edgeNumber, endsAnswer, limits};
 ghost use Rattle.graph.specs.Admission.{toldBy};

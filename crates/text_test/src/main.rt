@@ -4,7 +4,6 @@ use graph::Answer;
 use text::VerdictRead;
 use text::Written;
 ghost use Prim.Native.Nat.{_≤_};
-ghost use lib.ListN.{length};
 
 fn show(byte: u8) {
     let bytes = [byte];
