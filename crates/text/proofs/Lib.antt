@@ -5,3 +5,4 @@ pub mod Writing
 pub mod Digits
 pub mod RoundTrip
 pub mod Example
+pub mod Answered

@@ -38,6 +38,23 @@ abbrev pub bytesTold : Writing → Written
 bytesTold (Writing.refused a) = Written.Refused (toldBy a)
 bytesTold (Writing.written bytes) = Written.Bytes (length bytes)
 
+-- 01's number and place for each case
+abbrev pub readingAnswer : Reading → meaning.Answer
+readingAnswer (Reading.refused a) = a
+readingAnswer (Reading.read n list) = meaning.passed
+
+abbrev pub writingAnswer : Writing → meaning.Answer
+writingAnswer (Writing.refused a) = a
+writingAnswer (Writing.written bytes) = meaning.passed
+
+abbrev pub verdictAnswer : VerdictRead → meaning.Answer
+verdictAnswer (VerdictRead.Refused a) = meaning.answer (a .number) (a .place)
+verdictAnswer (VerdictRead.Read kind count) = meaning.passed
+
+abbrev pub bytesAnswer : Written → meaning.Answer
+bytesAnswer (Written.Refused a) = meaning.answer (a .number) (a .place)
+bytesAnswer (Written.Bytes count) = meaning.passed
+
 -- the answer and the lent memory, in columns of five, for 01's largest value and limits
 pub record ReadsPlan (text lent after : List ℕ) (r : Admission) : Type 0 where
   pub answer : r ≡ planTold (readPlan five largest meaning.limits text (length lent))
