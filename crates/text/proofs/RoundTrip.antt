@@ -1,6 +1,6 @@
 -- A text that is read is the text written of what was read, for all byte lists; and what is written of an admitted plan, or of a verdict
 -- with a text form, is read as the same. Stated for any worths, largest value and limits; the columns of w digits are the last section's.
-use mathlib.Core.Path.{_≡_, refl, sym, ap, _∙_}
+use mathlib.Core.Path.{_≡_, refl, sym, ap, _∙_, subst}
 use mathlib.Core.Bool.{Bool, true, false, cond, _&&_, _||_}
 use mathlib.Core.Logic.{⊎-elim}
 use mathlib.Core.List.{List, [], _∷_, _++_, append-assoc}
@@ -11,15 +11,15 @@ use native.Mathlib.Decide.{ℕ-discrete, decLt}
 use lib.Dec.{eqb, ltb}
 use lib.ListN.{length, take, drop, getD, length-take, length-drop, take-append-drop, List·getD-eq-default}
 use lib.Seq.{take-at, drop-at, drop-drop, length-take-le, getD-take, getD-drop}
-use borrow.Author.Tests.{le-leb, le-ltb, eq-eqb, ne-eqb}
+use borrow.Author.Tests.{le-leb, le-ltb, eq-eqb, ne-eqb, ltb-false, eqb-true}
 use Rattle.connectivity.specs.Admission.{Limits, limits, Answer, answer, Admitted, endsAnswer, admission}
-use Rattle.connectivity.proofs.Admission.{admission-is}
+use Rattle.connectivity.proofs.Admission.{admission-is, admission-number}
 use Rattle.text.specs.Column.{worths, five, largest, column, line, lines, lineSize, value, same, columnFits, lineFits, numbers, linesFit, linesNumbers}
 use Rattle.text.specs.Plan.{Reading, headerFirst, headerSecond, behindHeader, planText, readEnds, readPlan}
 use Rattle.text.specs.Verdict.{perLine, linesOf, needed, countOf, countFits, hasText, verdictText, listRead, readVerdict}
 use Rattle.text.proofs.Laws.{and-true, same-true, same-refl, length-column, column-true, length-line, length-numbers}
 use Rattle.text.proofs.Reading.{length-lines-numbers, fits, verdict-fits, refusal-read, lines-read}
-use Rattle.text.proofs.Writing.{form, count-most, kind-most}
+use Rattle.text.proofs.Writing.{form, count-most, kind-most, has-text-is}
 use Rattle.text.proofs.Digits.{read-back}
 
 -- every byte list that fits is what writing gives
@@ -224,6 +224,100 @@ verdict-is ws most limits text space kind list p =
         ∙ ap (λ (j : ℕ). line ws (first ∷ j ∷ []) ++ lines ws (perLine first) (linesOf first j) found) (sym (count-back ws most first count rest))
         ∙ ap (λ (j : ℕ). verdictText ws j found) same-first
         ∙ ap (verdictText ws kind) same-list
+
+-- what is read is an admitted plan, or a verdict with a text form
+
+or-false : (a b : Bool) → (a || b) ≡ false → (a ≡ false) × (b ≡ false)
+or-false true true p = (p, p)
+or-false true false p = (p, refl)
+or-false false true p = (refl, p)
+or-false false false p = (refl, refl)
+
+admitted-by : (limits : Limits) (n : ℕ) (ends : List ℕ) → length ends % 2 ≡ 0 → 2 ≤ n → n ≤ limits .vertices → length ends / 2 ≤ limits .edges
+    → (endsAnswer n 0 ends) .number ≡ 0 → Admitted limits n ends
+unfolding admission
+admitted-by limits n ends even two few short z =
+    admission-number limits n ends .0
+    (rw (eq-eqb (length ends % 2) 0 even, le-ltb n 2 two, le-ltb (limits .vertices) n few, le-ltb (limits .edges) (length ends / 2) short) z)
+
+pub plan-admitted : (ws : List ℕ) (most : ℕ) (limits : Limits) (text : List ℕ) (space n : ℕ) (ends : List ℕ)
+    → readPlan ws most limits text space ≡ Reading.read n ends → Admitted limits n ends
+unfolding readPlan readEnds
+plan-admitted ws most limits text space n ends p =
+    go (lineFits ws most 2 text) (ltb first 2 || ltb (limits .vertices) first) refl (ltb (limits .edges) m) refl (ltb space (2 * m)) (linesFit ws most 2 m rest) (eqb ((endsAnswer first 0 found) .number) 0) refl p
+  where
+    first : ℕ
+    first = headerFirst ws text
+
+    m : ℕ
+    m = headerSecond ws text
+
+    rest : List ℕ
+    rest = behindHeader ws text
+
+    found : List ℕ
+    found = linesNumbers ws 2 m rest
+
+    size : length found ≡ 2 * m
+    size = length-lines-numbers ws 2 m rest
+
+    go : (a b : Bool) → (ltb first 2 || ltb (limits .vertices) first) ≡ b → (c : Bool) → ltb (limits .edges) m ≡ c → (d f g : Bool) → eqb ((endsAnswer first 0 found) .number) 0 ≡ g
+        → cond a (cond b (Reading.refused (answer 2 0)) (cond c (Reading.refused (answer 3 0)) (cond d (Reading.refused (answer 6 0))
+        (cond f (cond g (Reading.read first found) (Reading.refused (endsAnswer first 0 found))) (Reading.refused (answer 7 0)))))) (Reading.refused (answer 7 0)) ≡ Reading.read n ends
+        → Admitted limits n ends
+    go false b h c j d f g k q = never _ _ _ q
+    go true true h c j d f g k q = never _ _ _ q
+    go true false h true j d f g k q = never _ _ _ q
+    go true false h false j true f g k q = never _ _ _ q
+    go true false h false j false false g k q = never _ _ _ q
+    go true false h false j false true false k q = never _ _ _ q
+    go true false h false j false true true k q =
+        let same-first : first ≡ n = cc in
+        let same-ends : found ≡ ends = cc in
+        let o = or-false (ltb first 2) (ltb (limits .vertices) first) h in
+        let a = admitted-by limits first found (omega (arith, size)) (ltb-false first 2 (o .0)) (ltb-false (limits .vertices) first (o .1))
+        (omega (arith, size, ltb-false (limits .edges) m j)) (eqb-true ((endsAnswer first 0 found) .number) 0 k) in
+        subst (Admitted limits n) same-ends (subst (λ (x : ℕ). Admitted limits x found) same-first a)
+
+module _ (ws : List ℕ) (kind count : ℕ) (rest : List ℕ) where
+  length-read : length (listRead ws kind count rest) ≡ needed kind count
+  length-read = elim (ℕ-discrete kind 2) [
+    | yes p ↦ let r = refusal-read ws kind count rest p in ap length (r .0) ∙ sym (r .1)
+    | no p ↦ let r = lines-read ws kind count rest p in ap length (r .0) ∙ length-lines-numbers ws (perLine kind) count rest ∙ sym (r .1)
+  ]
+
+pub verdict-has-text : (ws : List ℕ) (most : ℕ) (limits : Limits) (text : List ℕ) (space kind : ℕ) (list : List ℕ)
+    → readVerdict ws most limits text space ≡ Reading.read kind list → hasText limits kind list ≡ true
+unfolding readVerdict
+verdict-has-text ws most limits text space kind list p =
+    go (lineFits ws most 2 text && countFits limits first count) refl (ltb space (needed first count)) (linesFit ws most (perLine first) (linesOf first count) rest) p
+  where
+    first : ℕ
+    first = headerFirst ws text
+
+    count : ℕ
+    count = headerSecond ws text
+
+    rest : List ℕ
+    rest = behindHeader ws text
+
+    found : List ℕ
+    found = listRead ws first count rest
+
+    whole : countFits limits first count ≡ true → hasText limits first found ≡ true
+    whole h = has-text-is limits first found ∙ rw (count-back ws most first count rest, h) (eq-eqb (length found) (needed first count) (length-read ws first count rest))
+
+    go : (a : Bool) → (lineFits ws most 2 text && countFits limits first count) ≡ a → (d f : Bool)
+        → cond a (cond d (Reading.refused (answer 6 0)) (cond f (Reading.read first found) (Reading.refused (answer 8 0)))) (Reading.refused (answer 8 0)) ≡ Reading.read kind list
+        → hasText limits kind list ≡ true
+    go false h d f q = never _ _ _ q
+    go true h true f q = never _ _ _ q
+    go true h false false q = never _ _ _ q
+    go true h false true q =
+        let same-first : first ≡ kind = cc in
+        let same-list : found ≡ list = cc in
+        subst (λ (l : List ℕ). hasText limits kind l ≡ true) same-list (subst (λ (x : ℕ). hasText limits x found ≡ true) same-first
+        (whole (and-true (lineFits ws most 2 text) (countFits limits first count) h .1)))
 
 -- hence two different texts are never read as the same
 pub plan-once : (ws : List ℕ) (most : ℕ) (limits : Limits) (one two : List ℕ) (space room n : ℕ) (ends : List ℕ)
