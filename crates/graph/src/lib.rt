@@ -92,7 +92,7 @@ fn judge_ends(vertices: u16, ends: &[u16]) -> Answer
 }
 
 // 4, 5 or 0 for the edge with these ends.
-fn judge_edge(vertices: u16, left: u16, right: u16) -> u16
+pub fn judge_edge(vertices: u16, left: u16, right: u16) -> u16
     ensures { λ r. ⌜ r ≡ edgeNumber vertices left right ⌝ }
 {
     if vertices <= left {

@@ -1,0 +1,347 @@
+-- Columns and lines, one step at a time: what the loops over them use.
+use mathlib.Core.Path.{_≡_, refl, sym, ap, _∙_}
+use mathlib.Core.Bool.{Bool, true, false, cond, _&&_}
+use mathlib.Core.List.{List, [], _∷_, _++_}
+use Prim.Native.Nat.{ℕ, zero, suc, _+_, _*_, _-_, _^_, _≤_, _<_}
+use native.Mathlib.Omega.{arith}
+use native.Mathlib.Numerals.{add-one}
+use native.Mathlib.Nat.{suc-mul, mul-suc, pow-suc, mul-le-mul-left}
+use native.Mathlib.Decide.{ℕ-discrete}
+use lib.Dec.{eqb, leb}
+use lib.ListN.{length, take, drop, getD, set, length-take, length-drop, length-append, drop-of-length-le}
+use lib.Seq.{sets, length-take-le, drop-cons, take-suc, take-suc-set, take-take, drop-drop, getD-drop, getD-take, take-nil}
+use borrow.Author.Tests.{leb-true, eqb-true, eq-eqb, ne-eqb}
+use Rattle.text.specs.Column.{worths, five, byteAt, column, line, lines, lineSize, digit, value, same, columnFits, lineFits, numbers, linesFit, linesNumbers}
+
+-- lists and tests
+
+pub and-true : (a b : Bool) → (a && b) ≡ true → (a ≡ true) × (b ≡ true)
+and-true true true p = (refl, refl)
+and-true true false p = (refl, p)
+and-true false true p = (p, refl)
+and-true false false p = (p, p)
+
+pub same-true : (a b : List ℕ) → same a b ≡ true → a ≡ b
+unfolding same
+same-true [] [] p = refl
+same-true [] (b ∷ bs) p = cc
+same-true (a ∷ l) [] p = cc
+same-true (a ∷ l) (b ∷ bs) p =
+    let q = and-true (eqb a b) (same l bs) p in
+    let h = eqb-true a b (q .0) in
+    let t = same-true l bs (q .1) in
+    cc
+
+pub same-refl : (l : List ℕ) → same l l ≡ true
+unfolding same
+same-refl [] = refl
+same-refl (a ∷ l) = rw (eq-eqb a a refl) (same-refl l)
+
+pub drop-take : (j n : ℕ) (l : List ℕ) → drop j (take (j + n) l) ≡ take n (drop j l)
+drop-take zero n l = let p : 0 + n ≡ n = omega arith in rw p
+drop-take (suc j) n [] = rw (take-nil {A = ℕ} (suc j + n), take-nil {A = ℕ} n)
+drop-take (suc j) n (x ∷ l) = let p : suc j + n ≡ suc (j + n) = omega arith in rw p (drop-take j n l)
+
+-- columns
+
+pub length-column : (ws : List ℕ) (x : ℕ) → length (column ws x) ≡ length ws
+unfolding column
+length-column [] x = refl
+length-column (p ∷ ws) x = ap suc (length-column ws x)
+
+pub column-next : (ws : List ℕ) (x i : ℕ) → i < length ws → column (drop i ws) x ≡ byteAt (getD ws i 0) x ∷ column (drop (i + 1) ws) x
+unfolding column
+column-next ws x i h = rw (add-one i, drop-cons ws i 0 h)
+
+pub same-next : (ws col : List ℕ) (x i : ℕ) → i < length ws → i < length col
+    → same (column (drop i ws) x) (drop i col) ≡ (eqb (byteAt (getD ws i 0) x) (getD col i 0) && same (column (drop (i + 1) ws) x) (drop (i + 1) col))
+unfolding same
+same-next ws col x i h k = rw (column-next ws x i h, add-one i, drop-cons col i 0 k)
+
+pub value-next : (ws col : List ℕ) (i : ℕ) → i < length ws → i < length col
+    → value (drop i ws) (drop i col) ≡ getD ws i 0 * digit (getD col i 0) + value (drop (i + 1) ws) (drop (i + 1) col)
+unfolding value
+value-next ws col i h k = rw (add-one i, drop-cons ws i 0 h, drop-cons col i 0 k)
+
+digit-most : (b : ℕ) → digit b ≤ 9
+unfolding digit
+digit-most b = go (leb 48 b) (leb b 57) refl
+  where
+    go : (s t : Bool) → leb b 57 ≡ t → cond (s && t) (b - 48) 0 ≤ 9
+    go true true p = omega (arith, leb-true b 57 p)
+    go true false p = omega arith
+    go false true p = omega arith
+    go false false p = omega arith
+
+pub value-most : (w : ℕ) (bytes : List ℕ) → value (worths w) bytes < 10 ^ w
+unfolding value worths
+value-most zero bytes = omega arith
+value-most (suc w) [] = omega (arith, pow-suc 10 w, value-most w [])
+value-most (suc w) (b ∷ bytes) = omega (arith, pow-suc 10 w, value-most w bytes, mul-le-mul-left (10 ^ w) (digit-most b))
+
+pub value-small : (bytes : List ℕ) → value five bytes < 100000
+unfolding worths
+value-small bytes = value-most 5 bytes
+
+pub column-true : (ws : List ℕ) (most : ℕ) (bytes : List ℕ) → columnFits ws most bytes ≡ true → (value ws bytes ≤ most) × (column ws (value ws bytes) ≡ bytes)
+unfolding columnFits
+column-true ws most bytes p =
+    let q = and-true (leb (value ws bytes) most) (same (column ws (value ws bytes)) bytes) p in
+    (leb-true (value ws bytes) most (q .0), same-true _ _ (q .1))
+
+-- a line in the form is not shorter than a line
+pub line-long : (ws : List ℕ) (most k : ℕ) (text : List ℕ) → lineFits ws most k text ≡ true → lineSize ws k ≤ length text
+unfolding lineFits same
+line-long ws most zero [] p = let z : _≡_ {A = ℕ} 0 1 = cc in omega arith
+line-long ws most zero (b ∷ text) p = omega arith
+line-long ws most (suc k) text p =
+    let q = and-true (columnFits ws most (take (length ws) text)) (lineFits ws most k (drop (length ws) text)) p in
+    let l = ap length (column-true ws most (take (length ws) text) (q .0) .1) in
+    omega (arith, suc-mul k (length ws), l, length-column ws (value ws (take (length ws) text)), length-take (length ws) text, length-drop (length ws) text, line-long ws most k (drop (length ws) text) (q .1))
+
+-- what is read of a line is read of its own bytes
+take-less : (w n : ℕ) (text : List ℕ) → take w (take (w + n) text) ≡ take w text
+take-less w n text = take-take w (w + n) text (omega arith)
+
+size-suc : (ws : List ℕ) (k : ℕ) → lineSize ws (suc k) ≡ length ws + lineSize ws k
+size-suc ws k = omega (arith, suc-mul k (length ws))
+
+pub line-part : (ws : List ℕ) (most k : ℕ) (text : List ℕ) → lineFits ws most k (take (lineSize ws k) text) ≡ lineFits ws most k text
+unfolding lineFits
+line-part ws most zero text = let p : 0 * length ws + 1 ≡ 1 = omega arith in rw (p, take-take 1 1 text (omega arith))
+line-part ws most (suc k) text =
+    rw (size-suc ws k, take-less (length ws) (lineSize ws k) text, drop-take (length ws) (lineSize ws k) text, line-part ws most k (drop (length ws) text))
+
+pub numbers-part : (ws : List ℕ) (k : ℕ) (text : List ℕ) → numbers ws k (take (lineSize ws k) text) ≡ numbers ws k text
+unfolding numbers
+numbers-part ws zero text = refl
+numbers-part ws (suc k) text =
+    rw (size-suc ws k, take-less (length ws) (lineSize ws k) text, drop-take (length ws) (lineSize ws k) text, numbers-part ws k (drop (length ws) text))
+
+-- so it may be read of a copy
+module _ (ws : List ℕ) (k : ℕ) (copy text : List ℕ) (p : take (lineSize ws k) copy ≡ take (lineSize ws k) text) where
+  pub line-copied : (most : ℕ) → lineFits ws most k copy ≡ lineFits ws most k text
+  line-copied most = sym (line-part ws most k copy) ∙ ap (lineFits ws most k) p ∙ line-part ws most k text
+
+  pub numbers-copied : numbers ws k copy ≡ numbers ws k text
+  numbers-copied = sym (numbers-part ws k copy) ∙ ap (numbers ws k) p ∙ numbers-part ws k text
+
+pub copy-next : (copy text : List ℕ) (at i : ℕ) → i < length copy → at + i < length text → take i copy ≡ take i (drop at text)
+    → take (i + 1) (set copy i (getD text (at + i) 0)) ≡ take (i + 1) (drop at text)
+copy-next copy text at i h k p =
+    let l : i < length (drop at text) = omega (arith, length-drop at text) in
+    rw (add-one i, take-suc-set copy i (getD text (at + i) 0) h, take-suc (drop at text) i 0 l, getD-drop at text i 0, p)
+
+-- lists filled from a place on
+pub sets-append : (l : List ℕ) (i : ℕ) (xs ys : List ℕ) → sets l i (xs ++ ys) ≡ sets (sets l i xs) (i + length xs) ys
+sets-append l i [] ys = let p : i + 0 ≡ i = omega arith in rw p
+sets-append l i (x ∷ xs) ys =
+    let p : i + suc (length xs) ≡ suc i + length xs = omega arith in
+    rw p (sets-append (set l i x) (suc i) xs ys)
+
+-- what the loops over the five worths use, of the column that begins at a place of a copied line
+module _ (copy : List ℕ) (at i : ℕ) (h : i < 5) (k : at + 5 ≤ length copy) where
+  col-long : i < length (take 5 (drop at copy))
+  col-long = omega (arith, length-take 5 (drop at copy), length-drop at copy)
+
+  col-at : getD (take 5 (drop at copy)) i 0 ≡ getD copy (at + i) 0
+  col-at = getD-take 5 (drop at copy) i 0 h ∙ getD-drop at copy i 0
+
+  pub number-next : (d : ℕ) → d ≡ digit (getD copy (at + i) 0)
+      → value (drop i five) (drop i (take 5 (drop at copy))) ≡ getD five i 0 * d + value (drop (i + 1) five) (drop (i + 1) (take 5 (drop at copy)))
+  number-next d p = value-next five (take 5 (drop at copy)) i h col-long ∙ rw (col-at, p)
+
+  pub bytes-next : (x b : ℕ) → b ≡ byteAt (getD five i 0) x
+      → same (column (drop i five) x) (drop i (take 5 (drop at copy))) ≡ (eqb b (getD copy (at + i) 0) && same (column (drop (i + 1) five) x) (drop (i + 1) (take 5 (drop at copy))))
+  bytes-next x b p = same-next five (take 5 (drop at copy)) x i h col-long ∙ rw (col-at, p)
+
+  pub bytes-same : (x b : ℕ) → b ≡ byteAt (getD five i 0) x → getD copy (at + i) 0 ≡ b
+      → same (column (drop i five) x) (drop i (take 5 (drop at copy))) ≡ same (column (drop (i + 1) five) x) (drop (i + 1) (take 5 (drop at copy)))
+  bytes-same x b p q = bytes-next x b p ∙ rw (eq-eqb b (getD copy (at + i) 0) (sym q))
+
+  pub bytes-differ : (x b : ℕ) → b ≡ byteAt (getD five i 0) x → (getD copy (at + i) 0 ≡ b → ⊥)
+      → same (column (drop i five) x) (drop i (take 5 (drop at copy))) ≡ false
+  bytes-differ x b p q = bytes-next x b p ∙ rw (ne-eqb b (getD copy (at + i) 0) (λ z. q (sym z)))
+
+-- after the last of them
+pub drop-col : (copy : List ℕ) (at i : ℕ) → 5 ≤ i → drop i (take 5 (drop at copy)) ≡ []
+drop-col copy at i h = drop-of-length-le (take 5 (drop at copy)) {i = i} (omega (arith, length-take 5 (drop at copy)))
+
+pub no-worth : (i : ℕ) → 5 ≤ i → drop i five ≡ []
+no-worth i h = drop-of-length-le five {i = i} h
+
+-- each worth is at least 1
+pub worth-some : (i : ℕ) → i < 5 → 0 < getD five i 0
+worth-some zero h = omega arith
+worth-some (suc zero) h = omega arith
+worth-some (suc (suc zero)) h = omega arith
+worth-some (suc (suc (suc zero))) h = omega arith
+worth-some (suc (suc (suc (suc zero)))) h = omega arith
+worth-some (suc (suc (suc (suc (suc i))))) h = absurd (omega arith)
+
+-- lines
+
+pub length-line : (ws xs : List ℕ) → length (line ws xs) ≡ lineSize ws (length xs)
+unfolding line
+length-line ws [] = omega arith
+length-line ws (x ∷ xs) =
+    omega (arith, length-append (column ws x) (line ws xs), length-column ws x, length-line ws xs, suc-mul (length xs) (length ws))
+
+and-right : (a : Bool) → (a && true) ≡ a
+and-right true = refl
+and-right false = refl
+
+-- the columns of a line, from number k on
+module _ (l : List ℕ) (n k : ℕ) (h : k < n) where
+  less : n - k ≡ suc (n - (k + 1))
+  less = omega arith
+
+  on : drop 5 (drop (k * 5) l) ≡ drop ((k + 1) * 5) l
+  on = let p : k * 5 + 5 ≡ (k + 1) * 5 = omega arith in drop-drop 5 (k * 5) l ∙ ap (λ (j : ℕ). drop j l) p
+
+  pub line-next : (most : ℕ) → lineFits five most (n - k) (drop (k * 5) l) ≡ (columnFits five most (take 5 (drop (k * 5) l)) && lineFits five most (n - (k + 1)) (drop ((k + 1) * 5) l))
+  unfolding lineFits
+  line-next most = rw (less, on)
+
+  pub numbers-next : numbers five (n - k) (drop (k * 5) l) ≡ value five (take 5 (drop (k * 5) l)) ∷ numbers five (n - (k + 1)) (drop ((k + 1) * 5) l)
+  unfolding numbers
+  numbers-next = rw (less, on)
+
+  pub line-true : (most : ℕ) → lineFits five most (n - k) (drop (k * 5) l) ≡ true
+      → (value five (take 5 (drop (k * 5) l)) ≤ most) × (lineFits five most (n - (k + 1)) (drop ((k + 1) * 5) l) ≡ true)
+  line-true most p =
+      let q = and-true (columnFits five most (take 5 (drop (k * 5) l))) (lineFits five most (n - (k + 1)) (drop ((k + 1) * 5) l)) (sym (line-next most) ∙ p) in
+      (column-true five most (take 5 (drop (k * 5) l)) (q .0) .0, q .1)
+
+-- behind the last column
+pub line-last : (l : List ℕ) (n k most : ℕ) → n ≤ k → k * 5 < length l → lineFits five most (n - k) (drop (k * 5) l) ≡ eqb (getD l (k * 5) 0) 10
+unfolding lineFits same
+line-last l n k most h j = let p : n - k ≡ 0 = omega arith in rw (p, drop-cons l (k * 5) 0 j) (and-right (eqb (getD l (k * 5) 0) 10))
+
+pub numbers-last : (l : List ℕ) (n k : ℕ) → n ≤ k → numbers five (n - k) l ≡ []
+unfolding numbers
+numbers-last l n k h = let p : n - k ≡ 0 = omega arith in rw p
+
+-- a line that is too short
+pub line-short : (text : List ℕ) (most k : ℕ) → length text < lineSize five k → lineFits five most k text ≡ false
+line-short text most k h = go (lineFits five most k text) refl
+  where
+    go : (t : Bool) → lineFits five most k text ≡ t → lineFits five most k text ≡ false
+    go true p = absurd (omega (arith, line-long five most k text p))
+    go false p = p
+
+-- the two numbers of a copied line
+module _ (copy text : List ℕ) (p : take 11 copy ≡ take 11 text) where
+  pub first-copied : value five (take 5 copy) ≡ getD (numbers five 2 text) 0 0
+  unfolding numbers
+  first-copied = ap (λ (l : List ℕ). getD l 0 0) (numbers-copied five 2 copy text p)
+
+  pub second-copied : value five (take 5 (drop 5 copy)) ≡ getD (numbers five 2 text) 1 0
+  unfolding numbers
+  second-copied = ap (λ (l : List ℕ). getD l 1 0) (numbers-copied five 2 copy text p)
+
+  pub pair-true : (most : ℕ) → lineFits five most 2 text ≡ true → (value five (take 5 copy) ≤ most) × (value five (take 5 (drop 5 copy)) ≤ most)
+  pair-true most q =
+      let r = line-true copy 2 0 (omega arith) most (line-copied five 2 copy text p most ∙ q) in
+      (r .0, line-true copy 2 1 (omega arith) most (r .1) .0)
+
+-- m lines, from a place on
+module _ (columns left at : ℕ) (text : List ℕ) (h : 0 < left) where
+  some : left ≡ suc (left - 1)
+  some = omega arith
+
+  next : drop (columns * 5 + 1) (drop at text) ≡ drop (at + (columns * 5 + 1)) text
+  next = drop-drop (columns * 5 + 1) at text
+
+  pub lines-next : (most : ℕ) → linesFit five most columns left (drop at text) ≡ (lineFits five most columns (drop at text) && linesFit five most columns (left - 1) (drop (at + (columns * 5 + 1)) text))
+  unfolding linesFit
+  lines-next most = go left some
+    where
+      go : (m : ℕ) → m ≡ suc (left - 1) → linesFit five most columns m (drop at text) ≡ (lineFits five most columns (drop at text) && linesFit five most columns (left - 1) (drop (at + (columns * 5 + 1)) text))
+      go m p = rw (p, next)
+
+  pub lines-numbers-next : linesNumbers five columns left (drop at text) ≡ numbers five columns (drop at text) ++ linesNumbers five columns (left - 1) (drop (at + (columns * 5 + 1)) text)
+  unfolding linesNumbers
+  lines-numbers-next = go left some
+    where
+      go : (m : ℕ) → m ≡ suc (left - 1) → linesNumbers five columns m (drop at text) ≡ numbers five columns (drop at text) ++ linesNumbers five columns (left - 1) (drop (at + (columns * 5 + 1)) text)
+      go m p = rw (p, next)
+
+  pub lines-true : (most : ℕ) → linesFit five most columns left (drop at text) ≡ true
+      → (lineFits five most columns (drop at text) ≡ true) × (linesFit five most columns (left - 1) (drop (at + (columns * 5 + 1)) text) ≡ true) × (columns * 5 + 1 ≤ length (drop at text))
+  lines-true most p =
+      let q = and-true (lineFits five most columns (drop at text)) (linesFit five most columns (left - 1) (drop (at + (columns * 5 + 1)) text)) (sym (lines-next most) ∙ p) in
+      (q .0, q .1, line-long five most columns (drop at text) (q .0))
+
+-- writing a line, from its number k on
+module _ (text list : List ℕ) (at from n k : ℕ) (h : k < n) (j : from + n ≤ length list) where
+  columns-next : line five (take (n - k) (drop (from + k) list)) ≡ column five (getD list (from + k) 0) ++ line five (take (n - (k + 1)) (drop (from + (k + 1)) list))
+  unfolding line
+  columns-next =
+      let p : n - k ≡ suc (n - (k + 1)) = omega arith in
+      let q : suc (from + k) ≡ from + (k + 1) = omega arith in
+      rw (p, drop-cons list (from + k) 0 (omega arith), q)
+
+  pub write-next : sets text (at + k * 5) (line five (take (n - k) (drop (from + k) list)))
+      ≡ sets (sets text (at + k * 5) (column five (getD list (from + k) 0))) (at + (k + 1) * 5) (line five (take (n - (k + 1)) (drop (from + (k + 1)) list)))
+  write-next =
+      let p : at + k * 5 + length (column five (getD list (from + k) 0)) ≡ at + (k + 1) * 5 = omega (arith, length-column five (getD list (from + k) 0)) in
+      rw columns-next (sets-append text (at + k * 5) (column five (getD list (from + k) 0)) (line five (take (n - (k + 1)) (drop (from + (k + 1)) list)))
+      ∙ ap (λ (i : ℕ). sets (sets text (at + k * 5) (column five (getD list (from + k) 0))) i (line five (take (n - (k + 1)) (drop (from + (k + 1)) list)))) p)
+
+pub write-last : (text list : List ℕ) (i n k : ℕ) → n ≤ k → sets text i (line five (take (n - k) list)) ≡ set text i 10
+unfolding line
+write-last text list i n k h = let p : n - k ≡ 0 = omega arith in rw p
+
+-- writing m lines, from a place on
+pub write-lines-next : (text list : List ℕ) (at from columns left : ℕ) → 0 < left → from + columns ≤ length list
+    → sets text at (lines five columns left (drop from list))
+    ≡ sets (sets text at (line five (take columns (drop from list)))) (at + (columns * 5 + 1)) (lines five columns (left - 1) (drop (from + columns) list))
+unfolding lines
+write-lines-next text list at from columns left h j = go left (omega arith)
+  where
+    long : length (line five (take columns (drop from list))) ≡ columns * 5 + 1
+    long = length-line five (take columns (drop from list)) ∙ ap (λ (n : ℕ). n * 5 + 1) (length-take-le columns (drop from list) (omega (arith, length-drop from list)))
+
+    go : (m : ℕ) → m ≡ suc (left - 1) → sets text at (lines five columns m (drop from list))
+        ≡ sets (sets text at (line five (take columns (drop from list)))) (at + (columns * 5 + 1)) (lines five columns (left - 1) (drop (from + columns) list))
+    go m p = rw (p, drop-drop columns from list)
+        (sets-append text at (line five (take columns (drop from list))) (lines five columns (left - 1) (drop (from + columns) list))
+        ∙ ap (λ (n : ℕ). sets (sets text at (line five (take columns (drop from list)))) (at + n) (lines five columns (left - 1) (drop (from + columns) list))) long)
+
+-- after the last line
+pub lines-last : (most columns left next : ℕ) (text : List ℕ) → left ≡ 0 → next ≤ length text → linesFit five most columns left (drop next text) ≡ eqb next (length text)
+unfolding linesFit same
+lines-last most columns left next text p h = rw p (elim (ℕ-discrete next (length text)) [
+  | yes q ↦ rw (eq-eqb next (length text) q, drop-of-length-le text {i = next} (omega arith))
+  | no q ↦ rw (ne-eqb next (length text) q, drop-cons text next 0 (omega arith))
+])
+
+pub lines-numbers-last : (columns left : ℕ) (text : List ℕ) → left ≡ 0 → linesNumbers five columns left text ≡ []
+unfolding linesNumbers
+lines-numbers-last columns left text p = rw p
+
+pub write-lines-last : (columns left : ℕ) (list : List ℕ) → left ≡ 0 → lines five columns left list ≡ []
+unfolding lines
+write-lines-last columns left list p = rw p
+
+pub length-numbers : (ws : List ℕ) (k : ℕ) (text : List ℕ) → length (numbers ws k text) ≡ k
+unfolding numbers
+length-numbers ws zero text = refl
+length-numbers ws (suc k) text = ap suc (length-numbers ws k (drop (length ws) text))
+
+-- storing m lines, from a place on
+pub store-lines-next : (list text : List ℕ) (to at columns left : ℕ) → 0 < left
+    → sets list to (linesNumbers five columns left (drop at text))
+    ≡ sets (sets list to (numbers five columns (drop at text))) (to + columns) (linesNumbers five columns (left - 1) (drop (at + (columns * 5 + 1)) text))
+store-lines-next list text to at columns left h =
+    rw (lines-numbers-next columns left at text h)
+    (sets-append list to (numbers five columns (drop at text)) (linesNumbers five columns (left - 1) (drop (at + (columns * 5 + 1)) text))
+    ∙ ap (λ (n : ℕ). sets (sets list to (numbers five columns (drop at text))) (to + n) (linesNumbers five columns (left - 1) (drop (at + (columns * 5 + 1)) text))) (length-numbers five columns (drop at text)))
+
+-- one turn less
+pub one-less : (a b : ℕ) → 0 < b → a * b ≡ a * (b - 1) + a
+one-less a b h = let p : b ≡ suc (b - 1) = omega arith in ap (λ (n : ℕ). a * n) p ∙ mul-suc a (b - 1)
+
+pub less-one : (a b : ℕ) → 0 < b → b * a ≡ (b - 1) * a + a
+less-one a b h = let p : b ≡ suc (b - 1) = omega arith in ap (λ (n : ℕ). n * a) p ∙ suc-mul (b - 1) a

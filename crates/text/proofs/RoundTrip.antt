@@ -1,0 +1,459 @@
+-- A text that is read is the text written of what was read, for all byte lists; and what is written of an admitted plan, or of a verdict
+-- with a text form, is read as the same. Stated for any worths, largest value and limits; the columns of w digits are the last section's.
+use mathlib.Core.Path.{_≡_, refl, sym, ap, _∙_, subst}
+use mathlib.Core.Bool.{Bool, true, false, cond, _&&_, _||_}
+use mathlib.Core.Logic.{⊎-elim}
+use mathlib.Core.List.{List, [], _∷_, _++_, append-assoc}
+use Prim.Native.Nat.{ℕ, zero, suc, _+_, _*_, _/_, _%_, _^_, _≤_, _<_}
+use native.Mathlib.Omega.{arith}
+use native.Mathlib.Nat.{suc-mul, mul-suc, mul-zero, mul-div-cancel-left}
+use native.Mathlib.Decide.{ℕ-discrete, decLt}
+use lib.Dec.{eqb, ltb}
+use lib.ListN.{length, take, drop, getD, length-take, length-drop, take-append-drop, List·getD-eq-default}
+use lib.Seq.{take-at, drop-at, drop-drop, length-take-le, getD-take, getD-drop}
+use borrow.Author.Tests.{le-leb, le-ltb, eq-eqb, ne-eqb, ltb-false, eqb-true}
+use Rattle.connectivity.specs.Admission.{Limits, limits, Answer, answer, Admitted, endsAnswer, admission}
+use Rattle.connectivity.proofs.Admission.{admission-is, admission-number}
+use Rattle.text.specs.Column.{worths, five, largest, column, line, lines, lineSize, value, same, columnFits, lineFits, numbers, linesFit, linesNumbers}
+use Rattle.text.specs.Plan.{Reading, headerFirst, headerSecond, behindHeader, planText, readEnds, readPlan}
+use Rattle.text.specs.Verdict.{perLine, linesOf, needed, countOf, countFits, hasText, verdictText, listRead, readVerdict}
+use Rattle.text.proofs.Laws.{and-true, same-true, same-refl, length-column, column-true, length-line, length-numbers}
+use Rattle.text.proofs.Reading.{length-lines-numbers, fits, verdict-fits, refusal-read, lines-read}
+use Rattle.text.proofs.Writing.{form, count-most, kind-most, has-text-is}
+use Rattle.text.proofs.Digits.{read-back}
+
+-- every byte list that fits is what writing gives
+
+size-suc : (ws : List ℕ) (k : ℕ) → length ws + lineSize ws k ≡ lineSize ws (suc k)
+size-suc ws k = omega (arith, suc-mul k (length ws))
+
+line-is : (ws : List ℕ) (most k : ℕ) (text : List ℕ) → lineFits ws most k text ≡ true → text ≡ line ws (numbers ws k text) ++ drop (lineSize ws k) text
+unfolding lineFits numbers line
+line-is ws most zero text p =
+    let q : 0 * length ws + 1 ≡ 1 = omega arith in
+    rw q (sym (take-append-drop 1 text) ∙ ap (λ (l : List ℕ). l ++ drop 1 text) (same-true (take 1 text) (10 ∷ []) p))
+line-is ws most (suc k) text p =
+    let w = length ws in
+    let q = and-true (columnFits ws most (take w text)) (lineFits ws most k (drop w text)) p in
+    let c = column-true ws most (take w text) (q .0) .1 in
+    let r = line-is ws most k (drop w text) (q .1) in
+    let s : drop (lineSize ws k) (drop w text) ≡ drop (lineSize ws (suc k)) text = drop-drop (lineSize ws k) w text ∙ ap (λ (n : ℕ). drop n text) (size-suc ws k) in
+    sym (take-append-drop w text) ∙ ap (λ (l : List ℕ). l ++ drop w text) (sym c)
+    ∙ ap (λ (l : List ℕ). column ws (value ws (take w text)) ++ l) (r ∙ ap (λ (l : List ℕ). line ws (numbers ws k (drop w text)) ++ l) s)
+    ∙ sym (append-assoc (column ws (value ws (take w text))) (line ws (numbers ws k (drop w text))) (drop (lineSize ws (suc k)) text))
+
+lines-are : (ws : List ℕ) (most k m : ℕ) (text : List ℕ) → linesFit ws most k m text ≡ true → text ≡ lines ws k m (linesNumbers ws k m text)
+unfolding linesFit linesNumbers lines
+lines-are ws most k zero text p = same-true text [] p
+lines-are ws most k (suc m) text p =
+    let rest = drop (lineSize ws k) text in
+    let q = and-true (lineFits ws most k text) (linesFit ws most k m rest) p in
+    let n = numbers ws k text in
+    let r = linesNumbers ws k m rest in
+    line-is ws most k text (q .0) ∙ ap (λ (l : List ℕ). line ws n ++ l) (lines-are ws most k m rest (q .1))
+    ∙ sym (rw (take-at n r k (length-numbers ws k text), drop-at n r k (length-numbers ws k text)))
+
+-- what is written of numbers not above the largest value fits, and gives these numbers
+module _ (ws : List ℕ) (most : ℕ) (exact : (x : ℕ) → x ≤ most → value ws (column ws x) ≡ x) where
+  column-fits : (x : ℕ) → x ≤ most → columnFits ws most (column ws x) ≡ true
+  unfolding columnFits
+  column-fits x h = rw (exact x h, le-leb x most h) (same-refl (column ws x))
+
+  module _ (x : ℕ) (t : List ℕ) where
+    first-column : take (length ws) (column ws x ++ t) ≡ column ws x
+    first-column = take-at (column ws x) t (length ws) (length-column ws x)
+
+    behind-column : drop (length ws) (column ws x ++ t) ≡ t
+    behind-column = drop-at (column ws x) t (length ws) (length-column ws x)
+
+  line-fits : (xs rest : List ℕ) → ((i : ℕ) → getD xs i 0 ≤ most) → lineFits ws most (length xs) (line ws xs ++ rest) ≡ true
+  unfolding lineFits line same
+  line-fits [] rest h = refl
+  line-fits (x ∷ xs) rest h =
+      rw (append-assoc (column ws x) (line ws xs) rest, first-column x (line ws xs ++ rest), behind-column x (line ws xs ++ rest), column-fits x (h 0))
+      (line-fits xs rest (λ i. h (suc i)))
+
+  numbers-back : (xs rest : List ℕ) → ((i : ℕ) → getD xs i 0 ≤ most) → numbers ws (length xs) (line ws xs ++ rest) ≡ xs
+  unfolding numbers line
+  numbers-back [] rest h = refl
+  numbers-back (x ∷ xs) rest h =
+      rw (append-assoc (column ws x) (line ws xs) rest, first-column x (line ws xs ++ rest), behind-column x (line ws xs ++ rest), exact x (h 0))
+      (ap (λ (l : List ℕ). x ∷ l) (numbers-back xs rest (λ i. h (suc i))))
+
+  behind-line : (xs rest : List ℕ) → drop (lineSize ws (length xs)) (line ws xs ++ rest) ≡ rest
+  behind-line xs rest = drop-at (line ws xs) rest (lineSize ws (length xs)) (length-line ws xs)
+
+  part-most : (k : ℕ) (list : List ℕ) → ((i : ℕ) → getD list i 0 ≤ most) → (i : ℕ) → getD (take k list) i 0 ≤ most
+  part-most k list h i = elim (decLt i k) [
+    | yes p ↦ rw (getD-take k list i 0 p) (h i)
+    | no p ↦ omega (arith, List·getD-eq-default (take k list) 0 {n = i} (omega (arith, length-take k list)))
+  ]
+
+  rest-most : (k : ℕ) (list : List ℕ) → ((i : ℕ) → getD list i 0 ≤ most) → (i : ℕ) → getD (drop k list) i 0 ≤ most
+  rest-most k list h i = rw (getD-drop k list i 0) (h (k + i))
+
+  lines-back : (k m : ℕ) (list : List ℕ) → k * m ≡ length list → ((i : ℕ) → getD list i 0 ≤ most)
+      → (linesFit ws most k m (lines ws k m list) ≡ true) × (linesNumbers ws k m (lines ws k m list) ≡ list)
+  unfolding linesFit linesNumbers lines same
+  lines-back k zero [] e h = (refl, refl)
+  lines-back k zero (x ∷ list) e h = absurd (omega (arith, mul-zero k))
+  lines-back k (suc m) list e h =
+      let xs = take k list in
+      let rest = lines ws k m (drop k list) in
+      let l : length xs ≡ k = length-take-le k list (omega (arith, mul-suc k m)) in
+      let r = lines-back k m (drop k list) (omega (arith, mul-suc k m, length-drop k list)) (rest-most k list h) in
+      let a : lineFits ws most k (line ws xs ++ rest) ≡ true = rw l at (line-fits xs rest (part-most k list h)) in
+      let b : numbers ws k (line ws xs ++ rest) ≡ xs = rw l at (numbers-back xs rest (part-most k list h)) in
+      let d : drop (lineSize ws k) (line ws xs ++ rest) ≡ rest = rw l at (behind-line xs rest) in
+      (rw (a, d) (r .0), rw (b, d, r .1) (take-append-drop k list))
+
+-- plan text
+
+never : {A : Type 0} (a : Answer) (n : ℕ) (list : List ℕ) → Reading.refused a ≡ Reading.read n list → A
+never a n list p = let z : _≡_ {A = ℕ} 0 1 = cc in absurd (omega arith)
+
+header-is : (ws text : List ℕ) → numbers ws 2 text ≡ headerFirst ws text ∷ headerSecond ws text ∷ []
+unfolding numbers
+header-is ws text = refl
+
+-- a text with a header in the form
+headed : (ws : List ℕ) (most : ℕ) (text : List ℕ) → lineFits ws most 2 text ≡ true
+    → text ≡ line ws (headerFirst ws text ∷ headerSecond ws text ∷ []) ++ behindHeader ws text
+headed ws most text h = line-is ws most 2 text h ∙ ap (λ (l : List ℕ). line ws l ++ behindHeader ws text) (header-is ws text)
+
+-- 01: each text that is read is the very text that writing gives
+pub plan-is : (ws : List ℕ) (most : ℕ) (limits : Limits) (text : List ℕ) (space n : ℕ) (ends : List ℕ)
+    → readPlan ws most limits text space ≡ Reading.read n ends → text ≡ planText ws n ends
+unfolding readPlan readEnds planText
+plan-is ws most limits text space n ends p =
+    go (lineFits ws most 2 text) refl (ltb first 2 || ltb (limits .vertices) first) (ltb (limits .edges) m) (ltb space (2 * m)) (linesFit ws most 2 m rest) refl (eqb ((endsAnswer first 0 found) .number) 0) p
+  where
+    first : ℕ
+    first = headerFirst ws text
+
+    m : ℕ
+    m = headerSecond ws text
+
+    rest : List ℕ
+    rest = behindHeader ws text
+
+    found : List ℕ
+    found = linesNumbers ws 2 m rest
+
+    half : length found / 2 ≡ m
+    half = omega (arith, length-lines-numbers ws 2 m rest)
+
+    go : (a : Bool) → lineFits ws most 2 text ≡ a → (b c d f : Bool) → linesFit ws most 2 m rest ≡ f → (g : Bool)
+        → cond a (cond b (Reading.refused (answer 2 0)) (cond c (Reading.refused (answer 3 0)) (cond d (Reading.refused (answer 6 0))
+        (cond f (cond g (Reading.read first found) (Reading.refused (endsAnswer first 0 found))) (Reading.refused (answer 7 0)))))) (Reading.refused (answer 7 0)) ≡ Reading.read n ends
+        → text ≡ planText ws n ends
+    go false h b c d f k g q = never _ _ _ q
+    go true h true c d f k g q = never _ _ _ q
+    go true h false true d f k g q = never _ _ _ q
+    go true h false false true f k g q = never _ _ _ q
+    go true h false false false false k g q = never _ _ _ q
+    go true h false false false true k false q = never _ _ _ q
+    go true h false false false true k true q =
+        let same-first : first ≡ n = cc in
+        let same-ends : found ≡ ends = cc in
+        headed ws most text h
+        ∙ ap (λ (l : List ℕ). line ws (first ∷ m ∷ []) ++ l) (lines-are ws most 2 m rest k)
+        ∙ ap (λ (j : ℕ). line ws (first ∷ j ∷ []) ++ lines ws 2 j found) (sym half)
+        ∙ ap (λ (j : ℕ). planText ws j found) same-first
+        ∙ ap (planText ws n) same-ends
+
+-- verdict text
+
+per-line-some : (kind : ℕ) → 0 < perLine kind
+unfolding perLine
+per-line-some kind = go (eqb kind 0)
+  where
+    go : (t : Bool) → 0 < cond t 3 1
+    go true = omega arith
+    go false = omega arith
+
+no-lines-are : (ws : List ℕ) (most k : ℕ) (rest list : List ℕ) → linesFit ws most k 0 rest ≡ true → rest ≡ lines ws k 0 list
+unfolding lines
+no-lines-are ws most k rest list h = lines-are ws most k 0 rest h
+
+module _ (ws : List ℕ) (most kind count : ℕ) (rest : List ℕ) where
+  count-back : countOf kind (listRead ws kind count rest) ≡ count
+  unfolding countOf
+  count-back = elim (ℕ-discrete kind 2) [
+    | yes p ↦ rw (eq-eqb kind 2 p, refusal-read ws kind count rest p .0)
+    | no p ↦ rw (ne-eqb kind 2 p, lines-read ws kind count rest p .0, length-lines-numbers ws (perLine kind) count rest) (mul-div-cancel-left count (per-line-some kind))
+  ]
+
+  verdict-lines : linesFit ws most (perLine kind) (linesOf kind count) rest ≡ true → rest ≡ lines ws (perLine kind) (linesOf kind count) (listRead ws kind count rest)
+  unfolding linesOf
+  verdict-lines = elim (ℕ-discrete kind 2) [
+    | yes p ↦ rw (eq-eqb kind 2 p) (no-lines-are ws most (perLine kind) rest (listRead ws kind count rest))
+    | no p ↦ rw (ne-eqb kind 2 p, lines-read ws kind count rest p .0) (lines-are ws most (perLine kind) count rest)
+  ]
+
+-- 01: each text that is read is the very text that writing gives
+pub verdict-is : (ws : List ℕ) (most : ℕ) (limits : Limits) (text : List ℕ) (space kind : ℕ) (list : List ℕ)
+    → readVerdict ws most limits text space ≡ Reading.read kind list → text ≡ verdictText ws kind list
+unfolding readVerdict verdictText
+verdict-is ws most limits text space kind list p =
+    go (lineFits ws most 2 text && countFits limits first count) refl (ltb space (needed first count)) (linesFit ws most (perLine first) (linesOf first count) rest) refl p
+  where
+    first : ℕ
+    first = headerFirst ws text
+
+    count : ℕ
+    count = headerSecond ws text
+
+    rest : List ℕ
+    rest = behindHeader ws text
+
+    found : List ℕ
+    found = listRead ws first count rest
+
+    go : (a : Bool) → (lineFits ws most 2 text && countFits limits first count) ≡ a → (d f : Bool) → linesFit ws most (perLine first) (linesOf first count) rest ≡ f
+        → cond a (cond d (Reading.refused (answer 6 0)) (cond f (Reading.read first found) (Reading.refused (answer 8 0)))) (Reading.refused (answer 8 0)) ≡ Reading.read kind list
+        → text ≡ verdictText ws kind list
+    go false h d f k q = never _ _ _ q
+    go true h true f k q = never _ _ _ q
+    go true h false false k q = never _ _ _ q
+    go true h false true k q =
+        let same-first : first ≡ kind = cc in
+        let same-list : found ≡ list = cc in
+        headed ws most text (and-true (lineFits ws most 2 text) (countFits limits first count) h .0)
+        ∙ ap (λ (l : List ℕ). line ws (first ∷ count ∷ []) ++ l) (verdict-lines ws most first count rest k)
+        ∙ ap (λ (j : ℕ). line ws (first ∷ j ∷ []) ++ lines ws (perLine first) (linesOf first j) found) (sym (count-back ws most first count rest))
+        ∙ ap (λ (j : ℕ). verdictText ws j found) same-first
+        ∙ ap (verdictText ws kind) same-list
+
+-- what is read is an admitted plan, or a verdict with a text form
+
+or-false : (a b : Bool) → (a || b) ≡ false → (a ≡ false) × (b ≡ false)
+or-false true true p = (p, p)
+or-false true false p = (p, refl)
+or-false false true p = (refl, p)
+or-false false false p = (refl, refl)
+
+admitted-by : (limits : Limits) (n : ℕ) (ends : List ℕ) → length ends % 2 ≡ 0 → 2 ≤ n → n ≤ limits .vertices → length ends / 2 ≤ limits .edges
+    → (endsAnswer n 0 ends) .number ≡ 0 → Admitted limits n ends
+unfolding admission
+admitted-by limits n ends even two few short z =
+    admission-number limits n ends .0
+    (rw (eq-eqb (length ends % 2) 0 even, le-ltb n 2 two, le-ltb (limits .vertices) n few, le-ltb (limits .edges) (length ends / 2) short) z)
+
+pub plan-admitted : (ws : List ℕ) (most : ℕ) (limits : Limits) (text : List ℕ) (space n : ℕ) (ends : List ℕ)
+    → readPlan ws most limits text space ≡ Reading.read n ends → Admitted limits n ends
+unfolding readPlan readEnds
+plan-admitted ws most limits text space n ends p =
+    go (lineFits ws most 2 text) (ltb first 2 || ltb (limits .vertices) first) refl (ltb (limits .edges) m) refl (ltb space (2 * m)) (linesFit ws most 2 m rest) (eqb ((endsAnswer first 0 found) .number) 0) refl p
+  where
+    first : ℕ
+    first = headerFirst ws text
+
+    m : ℕ
+    m = headerSecond ws text
+
+    rest : List ℕ
+    rest = behindHeader ws text
+
+    found : List ℕ
+    found = linesNumbers ws 2 m rest
+
+    size : length found ≡ 2 * m
+    size = length-lines-numbers ws 2 m rest
+
+    go : (a b : Bool) → (ltb first 2 || ltb (limits .vertices) first) ≡ b → (c : Bool) → ltb (limits .edges) m ≡ c → (d f g : Bool) → eqb ((endsAnswer first 0 found) .number) 0 ≡ g
+        → cond a (cond b (Reading.refused (answer 2 0)) (cond c (Reading.refused (answer 3 0)) (cond d (Reading.refused (answer 6 0))
+        (cond f (cond g (Reading.read first found) (Reading.refused (endsAnswer first 0 found))) (Reading.refused (answer 7 0)))))) (Reading.refused (answer 7 0)) ≡ Reading.read n ends
+        → Admitted limits n ends
+    go false b h c j d f g k q = never _ _ _ q
+    go true true h c j d f g k q = never _ _ _ q
+    go true false h true j d f g k q = never _ _ _ q
+    go true false h false j true f g k q = never _ _ _ q
+    go true false h false j false false g k q = never _ _ _ q
+    go true false h false j false true false k q = never _ _ _ q
+    go true false h false j false true true k q =
+        let same-first : first ≡ n = cc in
+        let same-ends : found ≡ ends = cc in
+        let o = or-false (ltb first 2) (ltb (limits .vertices) first) h in
+        let a = admitted-by limits first found (omega (arith, size)) (ltb-false first 2 (o .0)) (ltb-false (limits .vertices) first (o .1))
+        (omega (arith, size, ltb-false (limits .edges) m j)) (eqb-true ((endsAnswer first 0 found) .number) 0 k) in
+        subst (Admitted limits n) same-ends (subst (λ (x : ℕ). Admitted limits x found) same-first a)
+
+module _ (ws : List ℕ) (kind count : ℕ) (rest : List ℕ) where
+  length-read : length (listRead ws kind count rest) ≡ needed kind count
+  length-read = elim (ℕ-discrete kind 2) [
+    | yes p ↦ let r = refusal-read ws kind count rest p in ap length (r .0) ∙ sym (r .1)
+    | no p ↦ let r = lines-read ws kind count rest p in ap length (r .0) ∙ length-lines-numbers ws (perLine kind) count rest ∙ sym (r .1)
+  ]
+
+pub verdict-has-text : (ws : List ℕ) (most : ℕ) (limits : Limits) (text : List ℕ) (space kind : ℕ) (list : List ℕ)
+    → readVerdict ws most limits text space ≡ Reading.read kind list → hasText limits kind list ≡ true
+unfolding readVerdict
+verdict-has-text ws most limits text space kind list p =
+    go (lineFits ws most 2 text && countFits limits first count) refl (ltb space (needed first count)) (linesFit ws most (perLine first) (linesOf first count) rest) p
+  where
+    first : ℕ
+    first = headerFirst ws text
+
+    count : ℕ
+    count = headerSecond ws text
+
+    rest : List ℕ
+    rest = behindHeader ws text
+
+    found : List ℕ
+    found = listRead ws first count rest
+
+    whole : countFits limits first count ≡ true → hasText limits first found ≡ true
+    whole h = has-text-is limits first found ∙ rw (count-back ws most first count rest, h) (eq-eqb (length found) (needed first count) (length-read ws first count rest))
+
+    go : (a : Bool) → (lineFits ws most 2 text && countFits limits first count) ≡ a → (d f : Bool)
+        → cond a (cond d (Reading.refused (answer 6 0)) (cond f (Reading.read first found) (Reading.refused (answer 8 0)))) (Reading.refused (answer 8 0)) ≡ Reading.read kind list
+        → hasText limits kind list ≡ true
+    go false h d f q = never _ _ _ q
+    go true h true f q = never _ _ _ q
+    go true h false false q = never _ _ _ q
+    go true h false true q =
+        let same-first : first ≡ kind = cc in
+        let same-list : found ≡ list = cc in
+        subst (λ (l : List ℕ). hasText limits kind l ≡ true) same-list (subst (λ (x : ℕ). hasText limits x found ≡ true) same-first
+        (whole (and-true (lineFits ws most 2 text) (countFits limits first count) h .1)))
+
+-- hence two different texts are never read as the same
+pub plan-once : (ws : List ℕ) (most : ℕ) (limits : Limits) (one two : List ℕ) (space room n : ℕ) (ends : List ℕ)
+    → readPlan ws most limits one space ≡ Reading.read n ends → readPlan ws most limits two room ≡ Reading.read n ends → one ≡ two
+plan-once ws most limits one two space room n ends p q = plan-is ws most limits one space n ends p ∙ sym (plan-is ws most limits two room n ends q)
+
+pub verdict-once : (ws : List ℕ) (most : ℕ) (limits : Limits) (one two : List ℕ) (space room kind : ℕ) (list : List ℕ)
+    → readVerdict ws most limits one space ≡ Reading.read kind list → readVerdict ws most limits two room ≡ Reading.read kind list → one ≡ two
+verdict-once ws most limits one two space room kind list p q = verdict-is ws most limits one space kind list p ∙ sym (verdict-is ws most limits two room kind list q)
+
+-- what is written is read as the same
+
+pair-most : (most a b : ℕ) → a ≤ most → b ≤ most → (i : ℕ) → getD (a ∷ b ∷ []) i 0 ≤ most
+pair-most most a b h k zero = h
+pair-most most a b h k (suc zero) = k
+pair-most most a b h k (suc (suc i)) = omega arith
+
+ends-most : (limits : Limits) (n : ℕ) (ends : List ℕ) (most : ℕ) → Admitted limits n ends → n ≤ most → (i : ℕ) → getD ends i 0 ≤ most
+ends-most limits n ends most a h i = elim (decLt i (length ends)) [
+  | yes p ↦ elim (ℕ-discrete (i % 2) 0) [
+    | yes q ↦ let e : i ≡ 2 * (i / 2) = omega arith in rw e (omega (arith, a .fit (i / 2) (omega (arith, a .even)) .left))
+    | no q ↦ let e : i ≡ 2 * (i / 2) + 1 = omega arith in rw e (omega (arith, a .fit (i / 2) (omega (arith, a .even)) .right))
+  ]
+  | no p ↦ omega (arith, List·getD-eq-default ends 0 {n = i} (omega arith))
+]
+
+admitted-ends : (limits : Limits) (n : ℕ) (ends : List ℕ) → Admitted limits n ends → (endsAnswer n 0 ends) .number ≡ 0
+unfolding admission
+admitted-ends limits n ends a =
+    ap (λ (x : Answer). x .number) (rw (eq-eqb (length ends % 2) 0 (a .even), le-ltb n 2 (a .two), le-ltb (limits .vertices) n (a .vertices), le-ltb (limits .edges) (length ends / 2) (a .edges))
+    at (admission-is limits n ends .1 a))
+
+empty-fits : (ws : List ℕ) (most k m : ℕ) (list : List ℕ) → m ≡ 0 → linesFit ws most k m (lines ws k m list) ≡ true
+unfolding linesFit lines same
+empty-fits ws most k m list p = rw p
+
+no-lines : (kind count : ℕ) → kind ≡ 2 → linesOf kind count ≡ 0
+unfolding linesOf
+no-lines kind count p = rw (eq-eqb kind 2 p)
+
+count-two : (kind : ℕ) (list : List ℕ) → kind ≡ 2 → countOf kind list ≡ getD list 0 0
+unfolding countOf
+count-two kind list p = rw (eq-eqb kind 2 p)
+
+one-member : (list : List ℕ) → length list ≡ 1 → getD list 0 0 ∷ [] ≡ list
+one-member [] h = absurd (omega arith)
+one-member (x ∷ []) h = refl
+one-member (x ∷ y ∷ list) h = absurd (omega arith)
+
+module _ (ws : List ℕ) (most : ℕ) (exact : (x : ℕ) → x ≤ most → value ws (column ws x) ≡ x) (limits : Limits) (edges : limits .edges ≤ most) where
+  -- the header of a text, and what stands behind it
+  module _ (a b : ℕ) (rest : List ℕ) (h : a ≤ most) (k : b ≤ most) where
+    header-fits : lineFits ws most 2 (line ws (a ∷ b ∷ []) ++ rest) ≡ true
+    header-fits = line-fits ws most exact (a ∷ b ∷ []) rest (pair-most most a b h k)
+
+    header-back : numbers ws 2 (line ws (a ∷ b ∷ []) ++ rest) ≡ a ∷ b ∷ []
+    header-back = numbers-back ws most exact (a ∷ b ∷ []) rest (pair-most most a b h k)
+
+    behind-back : behindHeader ws (line ws (a ∷ b ∷ []) ++ rest) ≡ rest
+    behind-back = behind-line ws most exact (a ∷ b ∷ []) rest
+
+  plan-back : limits .vertices ≤ most → (n : ℕ) (ends : List ℕ) (space : ℕ) → Admitted limits n ends → length ends ≤ space
+      → readPlan ws most limits (planText ws n ends) space ≡ Reading.read n ends
+  unfolding planText
+  plan-back vertices n ends space a room =
+      let m = length ends / 2 in
+      let rest = lines ws 2 m ends in
+      let text = line ws (n ∷ m ∷ []) ++ rest in
+      let h : n ≤ most = omega (arith, a .vertices) in
+      let k : m ≤ most = omega (arith, a .edges) in
+      let numbers-are = header-back n m rest h k in
+      let rest-is = behind-back n m rest h k in
+      let back = lines-back ws most exact 2 m ends (omega (arith, a .even)) (ends-most limits n ends most a h) in
+      let ends-are : linesNumbers ws 2 m (behindHeader ws text) ≡ ends = ap (linesNumbers ws 2 m) rest-is ∙ back .1 in
+      fits ws most limits text space n m (sym (ap (λ (l : List ℕ). getD l 0 0) numbers-are)) (sym (ap (λ (l : List ℕ). getD l 1 0) numbers-are))
+      (header-fits n m rest h k) (a .two) (a .vertices) (a .edges) (omega (arith, a .even)) (ap (linesFit ws most 2 m) rest-is ∙ back .0)
+      (ap (λ (l : List ℕ). (endsAnswer n 0 l) .number) ends-are ∙ admitted-ends limits n ends a)
+      ∙ ap (Reading.read n) ends-are
+
+  -- the lines of a verdict's text
+  lines-kept : (kind : ℕ) (list : List ℕ) → hasText limits kind list ≡ true → ((i : ℕ) → getD list i 0 ≤ most)
+      → let count = countOf kind list in let rest = lines ws (perLine kind) (linesOf kind count) list in
+      (linesFit ws most (perLine kind) (linesOf kind count) rest ≡ true) × (listRead ws kind count rest ≡ list)
+  lines-kept kind list t small =
+      let count = countOf kind list in
+      let rest = lines ws (perLine kind) (linesOf kind count) list in
+      let f = form ws limits kind list 0 t in
+      elim (ℕ-discrete kind 2) [
+        | yes p ↦ let r = refusal-read ws kind count rest p in (
+          empty-fits ws most (perLine kind) (linesOf kind count) list (no-lines kind count p),
+          r .0 ∙ ap (λ (n : ℕ). n ∷ []) (count-two kind list p) ∙ one-member list (f .1 ∙ r .1),
+        )
+        | no p ↦ let r = lines-read ws kind count rest p in
+            let back = lines-back ws most exact (perLine kind) count list (omega (arith, f .1, r .1)) small in
+            (rw (r .2) (back .0), r .0 ∙ rw (r .2) (back .1))
+      ]
+
+  verdict-back : 7 ≤ most → (kind : ℕ) (list : List ℕ) (space : ℕ) → hasText limits kind list ≡ true → ((i : ℕ) → getD list i 0 ≤ most) → length list ≤ space
+      → readVerdict ws most limits (verdictText ws kind list) space ≡ Reading.read kind list
+  unfolding verdictText
+  verdict-back seven kind list space t small room =
+      let count = countOf kind list in
+      let rest = lines ws (perLine kind) (linesOf kind count) list in
+      let text = line ws (kind ∷ count ∷ []) ++ rest in
+      let f = form ws limits kind list 0 t in
+      let h : kind ≤ most = omega (arith, kind-most limits kind count (f .0)) in
+      let k : count ≤ most = ⊎-elim (λ p. omega arith) (λ p. omega arith) (count-most limits kind count (f .0)) in
+      let numbers-are = header-back kind count rest h k in
+      let rest-is = behind-back kind count rest h k in
+      let back = lines-kept kind list t small in
+      verdict-fits ws most limits text space kind count (sym (ap (λ (l : List ℕ). getD l 0 0) numbers-are)) (sym (ap (λ (l : List ℕ). getD l 1 0) numbers-are))
+      (header-fits kind count rest h k) (f .0) (omega (arith, f .1)) (ap (linesFit ws most (perLine kind) (linesOf kind count)) rest-is ∙ back .0)
+      ∙ ap (Reading.read kind) (ap (listRead ws kind count) rest-is ∙ back .1)
+
+-- In columns of w digits, for every largest value that has no more digits and all limits that are not above it: every admitted plan
+-- and every verdict with a text form survives writing and reading.
+module _ (w most : ℕ) (digits : most < 10 ^ w) (limits : Limits) (vertices : limits .vertices ≤ most) (edges : limits .edges ≤ most) where
+  pub plan-kept : (n : ℕ) (ends : List ℕ) (space : ℕ) → Admitted limits n ends → length ends ≤ space
+      → readPlan (worths w) most limits (planText (worths w) n ends) space ≡ Reading.read n ends
+  plan-kept = plan-back (worths w) most (read-back w most digits) limits edges vertices
+
+  pub verdict-kept : 7 ≤ most → (kind : ℕ) (list : List ℕ) (space : ℕ) → hasText limits kind list ≡ true → ((i : ℕ) → getD list i 0 ≤ most) → length list ≤ space
+      → readVerdict (worths w) most limits (verdictText (worths w) kind list) space ≡ Reading.read kind list
+  verdict-kept = verdict-back (worths w) most (read-back w most digits) limits edges
+
+-- in 01's columns
+pub five-worths : five ≡ worths 5
+unfolding worths
+five-worths = refl
+
+pub plan-kept-five : (n : ℕ) (ends : List ℕ) (space : ℕ) → Admitted limits n ends → length ends ≤ space
+    → readPlan five largest limits (planText five n ends) space ≡ Reading.read n ends
+unfolding worths
+plan-kept-five = plan-kept 5 largest (omega arith) limits (omega arith) (omega arith)
+
+pub verdict-kept-five : (kind : ℕ) (list : List ℕ) (space : ℕ) → hasText limits kind list ≡ true → ((i : ℕ) → getD list i 0 ≤ largest) → length list ≤ space
+    → readVerdict five largest limits (verdictText five kind list) space ≡ Reading.read kind list
+unfolding worths
+verdict-kept-five = verdict-kept 5 largest (omega arith) limits (omega arith) (omega arith) (omega arith)

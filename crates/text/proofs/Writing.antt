@@ -1,0 +1,205 @@
+-- What writing gives, by its tests, and how long the texts are.
+use mathlib.Core.Path.{_≡_, refl, sym, ap, _∙_}
+use mathlib.Core.Bool.{Bool, true, false, cond, _&&_}
+use mathlib.Core.Logic.{_⊎_, inl, inr, ⊎-elim}
+use mathlib.Core.List.{List, [], _∷_}
+use Prim.Native.Nat.{ℕ, zero, suc, _+_, _*_, _/_, _≤_, _<_, _%_}
+use native.Mathlib.Omega.{arith}
+use native.Mathlib.Decide.{ℕ-discrete}
+use native.Mathlib.Nat.{mul-suc, suc-mul, mul-zero, mul-le-mul}
+use lib.Dec.{eqb, leb}
+use lib.ListN.{length, take, drop, getD, length-append, length-drop}
+use lib.Seq.{length-take-le}
+use borrow.Author.Tests.{ne-eqb, lt-ltb, le-ltb, eq-eqb, eqb-true, leb-true}
+use Rattle.connectivity.specs.Admission.{Limits, Answer, answer, limits, admission}
+use Rattle.connectivity.proofs.Admission.{admission-number}
+use Rattle.graph.specs.Admission.{toldBy, constructed}
+use Rattle.graph.specs.declared.Answer as declared
+use Rattle.graph.specs.declared.Graph.{Graph}
+use Rattle.graph.specs.declared.Admission.{Admission}
+use Rattle.text.specs.declared.Written.{Written}
+use Rattle.text.specs.Column.{five, line, lines, lineSize}
+use Rattle.text.specs.Plan.{Writing, planText, writePlan}
+use Rattle.text.specs.Verdict.{perLine, linesOf, needed, countOf, countFits, hasText, verdictText, writeVerdict}
+use Rattle.text.specs.Entry.{afterWriting, bytesTold, WritesPlan, WritesVerdict}
+use Rattle.text.proofs.Laws.{and-true, length-line}
+
+-- a result of writing, met by the code's answer and memory
+pub writes-plan : (n : ℕ) (ends lent after : List ℕ) (r : Written) (x : Writing)
+    → writePlan five limits n ends (length lent) ≡ x → r ≡ bytesTold x → after ≡ afterWriting x lent → WritesPlan n ends lent after r
+writes-plan n ends lent after r x p q m = record { answer = q ∙ sym (ap bytesTold p); memory = m ∙ sym (ap (λ (y : Writing). afterWriting y lent) p) }
+
+pub writes-verdict : (kind : ℕ) (list lent after : List ℕ) (r : Written) (x : Writing)
+    → writeVerdict five limits kind list (length lent) ≡ x → r ≡ bytesTold x → after ≡ afterWriting x lent → WritesVerdict kind list lent after r
+writes-verdict kind list lent after r x p q m = record { answer = q ∙ sym (ap bytesTold p); memory = m ∙ sym (ap (λ (y : Writing). afterWriting y lent) p) }
+
+pub length-lines : (ws : List ℕ) (k m : ℕ) (list : List ℕ) → k * m ≤ length list → length (lines ws k m list) ≡ m * lineSize ws k
+unfolding lines
+length-lines ws k zero list h = omega arith
+length-lines ws k (suc m) list h =
+    let l : length (take k list) ≡ k = length-take-le k list (omega (arith, mul-suc k m)) in
+    let p : length (line ws (take k list)) ≡ lineSize ws k = length-line ws (take k list) ∙ ap (lineSize ws) l in
+    let r = length-lines ws k m (drop k list) (omega (arith, mul-suc k m, length-drop k list)) in
+    omega (arith, length-append (line ws (take k list)) (lines ws k m (drop k list)), p, r, suc-mul m (lineSize ws k))
+
+abbrev refusal : ℕ → Writing
+refusal k = Writing.refused (answer k 0)
+
+-- writing a plan
+module _ (ws : List ℕ) (limits : Limits) (n : ℕ) (ends : List ℕ) (space : ℕ) where
+  pub plan-refused : (a : declared.Answer) → constructed limits n ends ≡ Admission.Refused a
+      → (a ≡ toldBy (admission limits n ends)) × (writePlan ws limits n ends space ≡ Writing.refused (admission limits n ends))
+  unfolding constructed writePlan
+  plan-refused a p = go (eqb ((admission limits n ends) .number) 0) refl p
+    where
+      go : (t : Bool) → eqb ((admission limits n ends) .number) 0 ≡ t
+          → cond t (Admission.Admitted (record { vertices = n; edges = length ends / 2 })) (Admission.Refused (toldBy (admission limits n ends))) ≡ Admission.Refused a
+          → (a ≡ toldBy (admission limits n ends)) × (writePlan ws limits n ends space ≡ Writing.refused (admission limits n ends))
+      go true q r = let z : _≡_ {A = ℕ} 0 1 = cc in absurd (omega arith)
+      go false q r = (cc, rw q)
+
+  pub plan-admitted : (g : Graph) → constructed limits n ends ≡ Admission.Admitted g
+      → ((admission limits n ends) .number ≡ 0) × (g .edges ≡ length ends / 2)
+  unfolding constructed
+  plan-admitted g p = go (eqb ((admission limits n ends) .number) 0) refl p
+    where
+      go : (t : Bool) → eqb ((admission limits n ends) .number) 0 ≡ t
+          → cond t (Admission.Admitted (record { vertices = n; edges = length ends / 2 })) (Admission.Refused (toldBy (admission limits n ends))) ≡ Admission.Admitted g
+          → ((admission limits n ends) .number ≡ 0) × (g .edges ≡ length ends / 2)
+      go true q r = let e : g ≡ record { vertices = n; edges = length ends / 2 } = cc in (eqb-true ((admission limits n ends) .number) 0 q, ap (λ (x : Graph). x .edges) e)
+      go false q r = let z : _≡_ {A = ℕ} 0 1 = cc in absurd (omega arith)
+
+  module _ (z : (admission limits n ends) .number ≡ 0) where
+    pub plan-even : (2 * (length ends / 2) ≡ length ends) × (length ends / 2 ≤ limits .edges)
+    plan-even = let a = admission-number limits n ends .0 z in (omega (arith, a .even), a .edges)
+
+    pub length-plan : length (planText ws n ends) ≡ lineSize ws 2 + length ends / 2 * lineSize ws 2
+    unfolding planText
+    length-plan = omega (
+      arith,
+      length-append (line ws (n ∷ (length ends / 2 ∷ []))) (lines ws 2 (length ends / 2) ends),
+      length-line ws (n ∷ (length ends / 2 ∷ [])),
+      length-lines ws 2 (length ends / 2) ends (omega arith),
+    )
+
+    pub plan-short : space < length (planText ws n ends) → writePlan ws limits n ends space ≡ refusal 6
+    unfolding writePlan
+    plan-short h = rw (eq-eqb ((admission limits n ends) .number) 0 z, lt-ltb space (length (planText ws n ends)) h)
+
+    pub plan-written : length (planText ws n ends) ≤ space → writePlan ws limits n ends space ≡ Writing.written (planText ws n ends)
+    unfolding writePlan
+    plan-written h = rw (eq-eqb ((admission limits n ends) .number) 0 z, le-ltb space (length (planText ws n ends)) h)
+
+-- the shape of a verdict's text
+pub per-line-most : (kind : ℕ) → perLine kind ≤ 3
+unfolding perLine
+per-line-most kind = go (eqb kind 0)
+  where
+    go : (t : Bool) → cond t 3 1 ≤ 3
+    go true = omega arith
+    go false = omega arith
+
+pub count-most : (limits : Limits) (kind count : ℕ) → countFits limits kind count ≡ true → (count ≤ limits .edges) ⊎ (count ≤ 7)
+unfolding countFits
+count-most limits kind count = go (eqb kind 0) (eqb kind 1) (eqb kind 2)
+  where
+    go : (r s t : Bool) → cond r (leb count (limits .edges)) (cond s (leb count 2) (cond t (leb 1 count && leb count 7) false)) ≡ true → (count ≤ limits .edges) ⊎ (count ≤ 7)
+    go true s t p = inl (leb-true count (limits .edges) p)
+    go false true t p = inr (omega (arith, leb-true count 2 p))
+    go false false true p = inr (leb-true count 7 (and-true (leb 1 count) (leb count 7) p .1))
+    go false false false p = let z : _≡_ {A = ℕ} 0 1 = cc in absurd (omega arith)
+
+pub kind-most : (limits : Limits) (kind count : ℕ) → countFits limits kind count ≡ true → kind ≤ 2
+unfolding countFits
+kind-most limits kind count = go (eqb kind 0) refl (eqb kind 1) refl (eqb kind 2) refl
+  where
+    go : (r : Bool) → eqb kind 0 ≡ r → (s : Bool) → eqb kind 1 ≡ s → (t : Bool) → eqb kind 2 ≡ t
+        → cond r (leb count (limits .edges)) (cond s (leb count 2) (cond t (leb 1 count && leb count 7) false)) ≡ true → kind ≤ 2
+    go true a s b t c p = omega (arith, eqb-true kind 0 a)
+    go false a true b t c p = omega (arith, eqb-true kind 1 b)
+    go false a false b true c p = omega (arith, eqb-true kind 2 c)
+    go false a false b false c p = let z : _≡_ {A = ℕ} 0 1 = cc in absurd (omega arith)
+
+pub lines-needed : (kind count : ℕ) → (linesOf kind count ≤ count) × (perLine kind * linesOf kind count ≤ needed kind count)
+unfolding linesOf needed
+lines-needed kind count = go (eqb kind 2)
+  where
+    go : (t : Bool) → (cond t 0 count ≤ count) × (perLine kind * cond t 0 count ≤ cond t 1 (perLine kind * count))
+    go true = (omega arith, omega (arith, mul-zero (perLine kind)))
+    go false = (omega arith, omega arith)
+
+-- a verdict has a text form exactly if its header is in the form and it has just as many numbers as that needs
+and-swap : (a b : Bool) → (a && b) ≡ (b && a)
+and-swap true true = refl
+and-swap true false = refl
+and-swap false true = refl
+and-swap false false = refl
+
+thirds : (n : ℕ) → eqb (n % 3) 0 ≡ eqb n (3 * (n / 3))
+thirds n = elim (ℕ-discrete (n % 3) 0) [
+  | yes p ↦ eq-eqb (n % 3) 0 p ∙ sym (eq-eqb n (3 * (n / 3)) (omega arith))
+  | no p ↦ ne-eqb (n % 3) 0 p ∙ sym (ne-eqb n (3 * (n / 3)) (λ q. p (omega arith)))
+]
+
+pub has-text-is : (limits : Limits) (kind : ℕ) (list : List ℕ)
+    → hasText limits kind list ≡ (countFits limits kind (countOf kind list) && eqb (length list) (needed kind (countOf kind list)))
+unfolding hasText countFits countOf needed perLine
+has-text-is limits kind list = go (ℕ-discrete kind 0) (ℕ-discrete kind 1) (ℕ-discrete kind 2)
+  where
+    n : ℕ
+    n = length list
+
+    rows : (eqb (n % 3) 0 && leb (n / 3) (limits .edges)) ≡ (leb (n / 3) (limits .edges) && eqb n (3 * (n / 3)))
+    rows = and-swap (eqb (n % 3) 0) (leb (n / 3) (limits .edges)) ∙ ap (λ (b : Bool). leb (n / 3) (limits .edges) && b) (thirds n)
+
+    singles : leb n 2 ≡ (leb (n / 1) 2 && eqb n (1 * (n / 1)))
+    singles = let p : n / 1 ≡ n = omega arith in let q : n ≡ 1 * n = omega arith in rw (p, eq-eqb n (1 * n) q) (and-swap true (leb n 2))
+
+    go : Dec (kind ≡ 0) → Dec (kind ≡ 1) → Dec (kind ≡ 2)
+        → hasText limits kind list ≡ (countFits limits kind (countOf kind list) && eqb n (needed kind (countOf kind list)))
+    go (yes a) b c = let two : kind ≡ 2 → ⊥ = λ q. omega arith in rw (eq-eqb kind 0 a, ne-eqb kind 2 two) rows
+    go (no a) (yes b) c = let two : kind ≡ 2 → ⊥ = λ q. omega arith in rw (ne-eqb kind 0 a, eq-eqb kind 1 b, ne-eqb kind 2 two) singles
+    go (no a) (no b) (yes c) = rw (ne-eqb kind 0 a, ne-eqb kind 1 b, eq-eqb kind 2 c) (and-swap (eqb n 1) (leb 1 (getD list 0 0) && leb (getD list 0 0) 7))
+    go (no a) (no b) (no c) = rw (ne-eqb kind 0 a, ne-eqb kind 1 b, ne-eqb kind 2 c)
+
+-- writing a verdict
+module _ (ws : List ℕ) (limits : Limits) (kind : ℕ) (list : List ℕ) (space : ℕ) where
+  pub no-form : hasText limits kind list ≡ false → writeVerdict ws limits kind list space ≡ refusal 8
+  unfolding writeVerdict
+  no-form h = rw h
+
+  module _ (h : hasText limits kind list ≡ true) where
+    pub form : (countFits limits kind (countOf kind list) ≡ true) × (length list ≡ needed kind (countOf kind list))
+    form =
+        let q = and-true (countFits limits kind (countOf kind list)) (eqb (length list) (needed kind (countOf kind list))) (sym (has-text-is limits kind list) ∙ h) in
+        (q .0, eqb-true (length list) (needed kind (countOf kind list)) (q .1))
+
+    pub length-verdict : length (verdictText ws kind list) ≡ lineSize ws 2 + linesOf kind (countOf kind list) * lineSize ws (perLine kind)
+    unfolding verdictText
+    length-verdict =
+        let k = perLine kind in
+        let m = linesOf kind (countOf kind list) in
+        let header = kind ∷ (countOf kind list ∷ []) in
+        omega (
+          arith,
+          length-append (line ws header) (lines ws k m list),
+          length-line ws header,
+          length-lines ws k m list (omega (arith, form .1, lines-needed kind (countOf kind list) .1)),
+        )
+
+    pub verdict-short : space < length (verdictText ws kind list) → writeVerdict ws limits kind list space ≡ refusal 6
+    unfolding writeVerdict
+    verdict-short z = rw (h, lt-ltb space (length (verdictText ws kind list)) z)
+
+    pub verdict-written : length (verdictText ws kind list) ≤ space → writeVerdict ws limits kind list space ≡ Writing.written (verdictText ws kind list)
+    unfolding writeVerdict
+    verdict-written z = rw (h, le-ltb space (length (verdictText ws kind list)) z)
+
+-- within 01's limits
+pub verdict-size : (kind : ℕ) (list : List ℕ) → hasText limits kind list ≡ true
+    → (countOf kind list ≤ 4000) × (linesOf kind (countOf kind list) * (perLine kind * 5 + 1) ≤ 64000)
+verdict-size kind list h =
+    let few : countOf kind list ≤ 4000 = ⊎-elim (λ p. p) (λ p. omega arith) (count-most limits kind (countOf kind list) (form five limits kind list 0 h .0)) in
+    let m : linesOf kind (countOf kind list) ≤ 4000 = omega (arith, lines-needed kind (countOf kind list) .0) in
+    let k : perLine kind * 5 + 1 ≤ 16 = omega (arith, per-line-most kind) in
+    (few, mul-le-mul m k)

@@ -1,0 +1,186 @@
+-- `write_verdict` meets its contract: each way out cites the law for its tests.
+use mathlib.Core.Path.{_≡_, refl, sym, ap, _∙_}
+use mathlib.Core.Bool.{true}
+use Prim.Native.Nat.{_+_, _*_}
+use native.Mathlib.Omega.{arith}
+use lib.ListN.{length}
+use lib.Seq.{sets}
+use borrow.Author.Needs.{needs}
+use borrow.Author.Tests.{not-true, not-false}
+use Rattle.connectivity.specs.Admission.{answer, limits}
+use Rattle.text.specs.declared.Written.{Written}
+use Rattle.text.specs.Column.{five}
+use Rattle.text.specs.Plan.{Writing}
+use Rattle.text.specs.Verdict.{perLine, linesOf, countOf, hasText, verdictText}
+use Rattle.text.proofs.Reading.{sets-filled}
+use Rattle.text.proofs.Writing.{writes-verdict, per-line-most, lines-needed, verdict-size, no-form, form, length-verdict, verdict-short, verdict-written}
+use Rattle.text.proofs.write_verdict.Statement.{statement}
+use Rattle.text.proofs.write_verdict.Tie as tie
+
+-- the verdict has a text form
+shown : (c : tie.Else1) → let a = c .before .before .before .before .args in hasText limits (a .kind) (a .list .now) ≡ true
+shown c = sym (c .before .has-text .ensures) ∙ not-false _ (c .if1 .left)
+
+has-text-requires : tie.Need-has-text-requires
+has-text-requires c κs = search needs
+
+refused-writing-requires : tie.Need-refused-writing-requires
+refused-writing-requires c κs = search needs
+
+returns : tie.Need-returns
+returns c =
+    let s = c .before .before in
+    let a = s .before .before .before .args in
+    writes-verdict (a .kind) (a .list .now) (a .text .now) (a .text .now) (c .refused-writing .result) (Writing.refused (answer 8 0))
+    (no-form five limits (a .kind) (a .list .now) (length (a .text .now)) (sym (s .has-text .ensures) ∙ not-true _ (c .before .if1 .taken))) (c .refused-writing .ensures) refl
+
+count-of-requires : tie.Need-count-of-requires
+count-of-requires c κs = search needs
+
+per-line-requires : tie.Need-per-line-requires
+per-line-requires c κs = search needs
+
+lines-of-requires : tie.Need-lines-of-requires
+lines-of-requires c κs = search needs
+
+mul-size : tie.Need-mul-size
+mul-size c =
+    let o = c in
+    let m = o .lines-of in
+    let k = o .before .per-line in
+    let q = o .before .before .count-of in
+    let s = o .before .before .before in
+    let a = s .before .before .before .before .args in
+    let h = shown s in
+    let z = verdict-size (a .kind) (a .list .now) h in
+    omega (arith, k .ensures, per-line-most (a .kind))
+
+add-size : tie.Need-add-size
+add-size c =
+    let o = c in
+    let m = o .lines-of in
+    let k = o .before .per-line in
+    let q = o .before .before .count-of in
+    let s = o .before .before .before in
+    let a = s .before .before .before .before .args in
+    let h = shown s in
+    let z = verdict-size (a .kind) (a .list .now) h in
+    omega (arith, k .ensures, per-line-most (a .kind))
+
+mul-size-2 : tie.Need-mul-size-2
+mul-size-2 c =
+    let o = c in
+    let m = o .lines-of in
+    let k = o .before .per-line in
+    let q = o .before .before .count-of in
+    let s = o .before .before .before in
+    let a = s .before .before .before .before .args in
+    let h = shown s in
+    let z = verdict-size (a .kind) (a .list .now) h in
+    let same : m .result * (k .result * 5 + 1) ≡ linesOf (a .kind) (countOf (a .kind) (a .list .now)) * (perLine (a .kind) * 5 + 1) = rw (m .ensures, k .ensures, q .ensures) in
+    omega (arith, same, z .1)
+
+add-size-2 : tie.Need-add-size-2
+add-size-2 c =
+    let o = c in
+    let m = o .lines-of in
+    let k = o .before .per-line in
+    let q = o .before .before .count-of in
+    let s = o .before .before .before in
+    let a = s .before .before .before .before .args in
+    let h = shown s in
+    let z = verdict-size (a .kind) (a .list .now) h in
+    let same : m .result * (k .result * 5 + 1) ≡ linesOf (a .kind) (countOf (a .kind) (a .list .now)) * (perLine (a .kind) * 5 + 1) = rw (m .ensures, k .ensures, q .ensures) in
+    omega (arith, same, z .1)
+
+refused-writing-requires-2 : tie.Need-refused-writing-requires-2
+refused-writing-requires-2 c κs = search needs
+
+returns-2 : tie.Need-returns-2
+returns-2 c =
+    let o = c .before .before in
+    let m = o .lines-of in
+    let k = o .before .per-line in
+    let q = o .before .before .count-of in
+    let s = o .before .before .before in
+    let a = s .before .before .before .before .args in
+    let h = shown s in
+    let z = verdict-size (a .kind) (a .list .now) h in
+    let same : m .result * (k .result * 5 + 1) ≡ linesOf (a .kind) (countOf (a .kind) (a .list .now)) * (perLine (a .kind) * 5 + 1) = rw (m .ensures, k .ensures, q .ensures) in
+    let n = length-verdict five limits (a .kind) (a .list .now) (length (a .text .now)) h in
+    writes-verdict (a .kind) (a .list .now) (a .text .now) (a .text .now) (c .refused-writing2 .result) (Writing.refused (answer 6 0))
+    (verdict-short five limits (a .kind) (a .list .now) (length (a .text .now)) h (omega (arith, same, n, c .before .if2 .taken))) (c .refused-writing2 .ensures) refl
+
+cast-write-text : tie.Need-cast-write-text
+cast-write-text c =
+    let o = c .before in
+    let m = o .lines-of in
+    let k = o .before .per-line in
+    let q = o .before .before .count-of in
+    let s = o .before .before .before in
+    let a = s .before .before .before .before .args in
+    let h = shown s in
+    let z = verdict-size (a .kind) (a .list .now) h in
+    omega (arith, q .ensures, z .0)
+
+write-text-requires : tie.Need-write-text-requires
+write-text-requires c κs =
+    let o = c .before .before in
+    let m = o .lines-of in
+    let k = o .before .per-line in
+    let q = o .before .before .count-of in
+    let s = o .before .before .before in
+    let a = s .before .before .before .before .args in
+    let h = shown s in
+    let z = verdict-size (a .kind) (a .list .now) h in
+    let same : m .result * (k .result * 5 + 1) ≡ linesOf (a .kind) (countOf (a .kind) (a .list .now)) * (perLine (a .kind) * 5 + 1) = rw (m .ensures, k .ensures, q .ensures) in (
+      omega (arith, k .ensures, per-line-most (a .kind)),
+      rw (m .ensures, k .ensures, q .ensures) (omega (arith, form five limits (a .kind) (a .list .now) (length (a .text .now)) h .1, lines-needed (a .kind) (countOf (a .kind) (a .list .now)) .1)),
+      omega (arith, c .before .if2 .left),
+    )
+
+same-length : tie.Need-same-length
+same-length c = search needs
+
+returns-3 : tie.Need-returns-3
+unfolding verdictText
+returns-3 c =
+    let o = c .before .before .before .before .before in
+    let m = o .lines-of in
+    let k = o .before .per-line in
+    let q = o .before .before .count-of in
+    let s = o .before .before .before in
+    let a = s .before .before .before .before .args in
+    let h = shown s in
+    let z = verdict-size (a .kind) (a .list .now) h in
+    let same : m .result * (k .result * 5 + 1) ≡ linesOf (a .kind) (countOf (a .kind) (a .list .now)) * (perLine (a .kind) * 5 + 1) = rw (m .ensures, k .ensures, q .ensures) in
+    let n = length-verdict five limits (a .kind) (a .list .now) (length (a .text .now)) h in
+    let xs = verdictText five (a .kind) (a .list .now) in
+    let w = c .before .before .write-text in
+    let size : 11 + m .result * (k .result * 5 + 1) ≡ length xs = omega (arith, same, n) in
+    let text : w .last .1 .1 .1 .1 .1 .0 ≡ sets (a .text .now) 0 xs = w .ensures ∙ rw (m .ensures, k .ensures, q .ensures) in
+    writes-verdict (a .kind) (a .list .now) (a .text .now) (w .last .1 .1 .1 .1 .1 .0) (Written.Bytes (11 + m .result * (k .result * 5 + 1))) (Writing.written xs)
+    (verdict-written five limits (a .kind) (a .list .now) (length (a .text .now)) h (omega (arith, size, c .before .before .before .before .if2 .left)))
+    (ap Written.Bytes size)
+    (text ∙ sets-filled (a .text .now) xs (omega (arith, size, c .before .before .before .before .if2 .left)))
+
+pub write-verdict-spec : {M : Type 1} → statement M
+write-verdict-spec =
+    tie.close
+    (tie.spec
+    has-text-requires
+    refused-writing-requires
+    returns
+    count-of-requires
+    per-line-requires
+    lines-of-requires
+    mul-size
+    add-size
+    mul-size-2
+    add-size-2
+    refused-writing-requires-2
+    returns-2
+    cast-write-text
+    write-text-requires
+    same-length
+    returns-3)

@@ -1,0 +1,4 @@
+pub mod Column
+pub mod Plan
+pub mod Verdict
+pub mod Entry

@@ -1,0 +1,175 @@
+// Lines of numbers in columns. A cursor is the text and the place where the next line begins.
+use crate::column::LONGEST;
+use crate::column::WIDTH;
+use crate::column::column_fits;
+use crate::column::number;
+use crate::column::write_column;
+ghost use mathlib.Core.Path.{_≡_};
+ghost use mathlib.Core.Bool.{true};
+ghost use mathlib.Core.List.{_++_, _∷_, []};
+ghost use Prim.Native.Nat.{_+_, _*_, _≤_, _<_};
+ghost use lib.ListN.{length, take, drop, getD};
+ghost use lib.Seq.{sets};
+ghost use Rattle.text.specs.Column.{five, largest, line, lines, lineFits, numbers, linesFit, linesNumbers};
+
+// The bytes of a header: two columns and a line feed.
+pub(crate) const HEADER: usize = 2 * WIDTH + 1;
+
+// The two numbers of a line.
+pub struct Pair {
+    pub first: u16,
+    pub second: u16,
+}
+
+// A copy of the `size` bytes of the line that begins at `at`.
+fn copy_line(text: &[u8], at: usize, size: usize) -> [u8; LONGEST]
+    requires { ⌜ (at + size ≤ length (now text)) × (size ≤ 16) ⌝ }
+    ensures { λ r. ⌜ (take size r ≡ take size (drop at (now (text .entry)))) × (length r ≡ 16) ⌝ }
+{
+    let mut copy = [0u8; LONGEST];
+    let mut i = 0;
+    while i < size {
+        copy[i] = text[at + i];
+        i += 1;
+    }
+    copy
+}
+
+// A line of `columns` numbers in the form begins at `at`.
+pub(crate) fn line_fits(text: &[u8], at: usize, columns: usize) -> bool
+    requires { ⌜ (at ≤ length (now text)) × (columns ≤ 3) ⌝ }
+    ensures { λ r. ⌜ r ≡ lineFits five largest columns (drop at (now (text .entry))) ⌝ }
+{
+    let size = columns * WIDTH + 1;
+    if text.len() - at < size {
+        return false;
+    }
+    let copy = copy_line(text, at, size);
+    columns_fit(&copy, columns)
+}
+
+// The line has `columns` columns in the form and then a line feed.
+fn columns_fit(copy: &[u8; LONGEST], columns: usize) -> bool
+    requires { ⌜ (columns ≤ 3) × (length (now copy) ≡ 16) ⌝ }
+    ensures { λ r. ⌜ r ≡ lineFits five largest columns (now (copy .entry)) ⌝ }
+{
+    let mut k = 0;
+    while k < columns {
+        if !column_fits(copy, k * WIDTH) {
+            return false;
+        }
+        k += 1;
+    }
+    copy[columns * WIDTH] == 10
+}
+
+// From `at` on the text is `count` lines of `columns` numbers each, in the form, and nothing follows the last.
+pub(crate) fn lines_fit(text: &[u8], at: usize, columns: usize, count: usize) -> bool
+    requires { ⌜ (at ≤ length (now text)) × (columns ≤ 3) ⌝ }
+    ensures { λ r. ⌜ r ≡ linesFit five largest columns count (drop at (now (text .entry))) ⌝ }
+{
+    let mut next = at;
+    let mut left = count;
+    while 0 < left {
+        if !line_fits(text, next, columns) {
+            return false;
+        }
+        next += columns * WIDTH + 1;
+        left -= 1;
+    }
+    next == text.len()
+}
+
+// The two numbers of the line that begins at `at`.
+pub(crate) fn two_numbers(text: &[u8], at: usize) -> Pair
+    requires { ⌜ (at ≤ length (now text)) × (lineFits five largest 2 (drop at (now text)) ≡ true) ⌝ }
+    ensures { λ r. ⌜ (r .first ≡ getD (numbers five 2 (drop at (now (text .entry)))) 0 0) × (r .second ≡ getD (numbers five 2 (drop at (now (text .entry)))) 1 0) ⌝ }
+{
+    let copy = copy_line(text, at, HEADER);
+    Pair {
+        first: number(&copy, 0) as u16,
+        second: number(&copy, WIDTH) as u16,
+    }
+}
+
+// Stores the numbers of the line that begins at `at` from `to` on.
+fn store_line(text: &[u8], at: usize, columns: usize, list: &mut [u16], to: usize)
+    requires { ⌜ (at ≤ length (now text)) × (columns ≤ 3) × (to + columns ≤ length (now list)) × (lineFits five largest columns (drop at (now text)) ≡ true) ⌝ }
+    ensures { λ r. ⌜ now (list .exit) ≡ sets (now (list .entry)) to (numbers five columns (drop at (now (text .entry)))) ⌝ }
+{
+    let copy = copy_line(text, at, columns * WIDTH + 1);
+    store_columns(&copy, columns, list, to);
+}
+
+fn store_columns(copy: &[u8; LONGEST], columns: usize, list: &mut [u16], to: usize)
+    requires { ⌜ (columns ≤ 3) × (length (now copy) ≡ 16) × (to + columns ≤ length (now list)) × (lineFits five largest columns (now copy) ≡ true) ⌝ }
+    ensures { λ r. ⌜ now (list .exit) ≡ sets (now (list .entry)) to (numbers five columns (now (copy .entry))) ⌝ }
+{
+    let mut k = 0;
+    while k < columns {
+        list[to + k] = number(copy, k * WIDTH) as u16;
+        k += 1;
+    }
+}
+
+// Stores the numbers of `count` lines of `columns` numbers each.
+pub(crate) fn store_lines(text: &[u8], at: usize, columns: usize, count: usize, list: &mut [u16])
+    requires { ⌜ (at ≤ length (now text)) × (columns ≤ 3) × (columns * count ≤ length (now list)) × (linesFit five largest columns count (drop at (now text)) ≡ true) ⌝ }
+    ensures { λ r. ⌜ now (list .exit) ≡ sets (now (list .entry)) 0 (linesNumbers five columns count (drop at (now (text .entry)))) ⌝ }
+{
+    let mut next = at;
+    let mut to = 0;
+    let mut left = count;
+    while 0 < left {
+        store_line(text, next, columns, list, to);
+        next += columns * WIDTH + 1;
+        to += columns;
+        left -= 1;
+    }
+}
+
+// Writes a line of the `columns` numbers from `from` on.
+fn write_line(list: &[u16], from: usize, columns: usize, text: &mut [u8], at: usize)
+    requires { ⌜ (columns ≤ 3) × (from + columns ≤ length (now list)) × (at + (columns * 5 + 1) ≤ length (now text)) ⌝ }
+    ensures { λ r. ⌜ now (text .exit) ≡ sets (now (text .entry)) at (line five (take columns (drop from (now (list .entry))))) ⌝ }
+{
+    let mut k = 0;
+    while k < columns {
+        write_column(text, at + k * WIDTH, list[from + k] as u32);
+        k += 1;
+    }
+    text[at + columns * WIDTH] = 10;
+}
+
+// Writes `count` lines of `columns` numbers each, from `at` on.
+fn write_lines(list: &[u16], columns: usize, count: usize, text: &mut [u8], at: usize)
+    requires { ⌜ (columns ≤ 3) × (columns * count ≤ length (now list)) × (at + count * (columns * 5 + 1) ≤ length (now text)) ⌝ }
+    ensures { λ r. ⌜ now (text .exit) ≡ sets (now (text .entry)) at (lines five columns count (now (list .entry))) ⌝ }
+{
+    let mut next = at;
+    let mut from = 0;
+    let mut left = count;
+    while 0 < left {
+        write_line(list, from, columns, text, next);
+        next += columns * WIDTH + 1;
+        from += columns;
+        left -= 1;
+    }
+}
+
+// Writes a header of two numbers, then `count` lines of `columns` numbers each.
+pub(crate) fn write_text(
+    first: u16,
+    second: u16,
+    list: &[u16],
+    columns: usize,
+    count: usize,
+    text: &mut [u8],
+)
+    requires { ⌜ (columns ≤ 3) × (columns * count ≤ length (now list)) × (11 + count * (columns * 5 + 1) ≤ length (now text)) ⌝ }
+    ensures { λ r. ⌜ now (text .exit) ≡ sets (now (text .entry)) 0 (line five (first ∷ (second ∷ [])) ++ lines five columns count (now (list .entry))) ⌝ }
+{
+    let header = [first, second];
+    write_line(&header, 0, 2, text, 0);
+    write_lines(list, columns, count, text, HEADER);
+}
