@@ -132,6 +132,10 @@ p9 = case 3 (tab 0 1 (tab 0 1 (tab 0 1 (tab 1 2 (tab 1 2 (tab 1 2 [])))))) 18 fi
 abbrev p10 : Case
 p10 = case 5 (tab 7 7 []) 3 (refused (answer 4 0)) (other 5 [] (answer 4 0) ∷ [])
 
+-- 01's whole example, under "Columns"
+abbrev example : Case
+example = case 3 (tab 0 1 (tab 0 1 (tab 1 2 (tab 1 2 [])))) 12 (weak (0 ∷ 1 ∷ [])) (weakList (0 ∷ 1 ∷ []) passed ∷ weakList (2 ∷ 3 ∷ []) passed ∷ [])
+
 -- Not in 01. The first tab with 4 or 5 decides, not the lower number; 1 before 2 and 2 before 4
 abbrev firstTab : Case
 firstTab = case 3 (tab 0 1 (tab 2 2 (tab 0 3 []))) 9 (refused (answer 5 1)) []
@@ -207,7 +211,7 @@ innerPieces = case 5 (tab 0 1 (tab 0 1 (tab 0 1 (tab 0 2 (tab 2 1 (tab 2 3 (tab 
 
 abbrev pub table : List Case
 table =
-    p1 ∷ p2 ∷ p3 ∷ p4 ∷ p5 ∷ p6 ∷ p7 ∷ p8 ∷ p9 ∷ p10
+    p1 ∷ p2 ∷ p3 ∷ p4 ∷ p5 ∷ p6 ∷ p7 ∷ p8 ∷ p9 ∷ p10 ∷ example
     ∷ firstTab ∷ oddFirst ∷ countFirst ∷ shortSpace ∷ refusedShort ∷ lowestFirst ∷ fewest ∷ thirdPath ∷ secondPath ∷ throughEnd ∷ twice ∷ closedWalk ∷ closedLink ∷ splitLink ∷ innerPieces ∷ []
 
 -- 01: the limits. k tabs between pieces 0 and 1

@@ -1,4 +1,5 @@
--- 01's whole example: the plan's text and its verdict's text, written and read, by computation.
+-- 01's whole example: the plan's text and its verdict's text, written and read, by computation. That this is the plan's verdict is the row
+-- `example` of `connectivity/specs/Table`.
 use mathlib.Core.Path.{_≡_, refl}
 use mathlib.Core.List.{List, [], _∷_, _++_}
 use Prim.Native.Nat.{ℕ}
