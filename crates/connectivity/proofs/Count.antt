@@ -47,7 +47,7 @@ module _ {g : Graph} {a b : ℕ} where
   all-length (legs ∷ walks) f = let h = all-length walks (λ l i. f l (later i)) in
       omega (arith, length-append (edgesOf legs) (allEdges walks), length-append (inner legs) (allInner walks), between-length (f legs (first refl)))
 
-  inner-built : (walks : List (List Leg)) (x : ℕ) → AllBetween g a walks b → In x (allInner walks) → Built g (allEdges walks) x
+  pub inner-built : (walks : List (List Leg)) (x : ℕ) → AllBetween g a walks b → In x (allInner walks) → Built g (allEdges walks) x
   inner-built [] x f i = absurd (not-in i)
   inner-built (legs ∷ walks) x f i = elim (in-cases (inner legs) i) [
     | inl j ↦ omega (arith, degree-append g (edgesOf legs) (allEdges walks) x, between-least x (f legs (first refl)) j)

@@ -17,6 +17,7 @@ pub mod Run
 pub mod Fit
 pub mod Build
 pub mod Count
+pub mod Fresh
 pub mod Stretch
 pub mod Judge
 pub mod Table

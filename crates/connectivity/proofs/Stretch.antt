@@ -18,6 +18,7 @@ use Rattle.connectivity.proofs.Degree.{degree-append, hits-from, in-deg
 use Rattle.connectivity.proofs.Stage.{Bare, bare-edge, all-degree}
 use Rattle.connectivity.proofs.Link.{degree-two, same-link-iff}
 use Rattle.connectivity.proofs.Sound.{stage}
+use Rattle.connectivity.proofs.Fresh.{froms-distinct}
 
 -- Each walk of a stage.
 
@@ -31,10 +32,6 @@ pub record WalkIn (g : Graph) (built : List ℕ) (legs : List Leg) : Type 0 wher
   pub once : Distinct (edgesOf legs)
   pub branch-from : Branch g built from
   pub branch-to : Branch g built to
-
-froms-distinct : {g : Graph} {u w : ℕ} {legs : List Leg} → Walk g u legs w → (In u (inner legs) → ⊥) → Distinct (inner legs) → Distinct (froms legs)
-froms-distinct (last e j) n d = one n d
-froms-distinct (then e j k) n d = one n d
 
 -- it stays one when edges are added
 grown : {g : Graph} {built : List ℕ} {legs : List Leg} (new : List ℕ) → WalkIn g built legs → WalkIn g (new ++ built) legs
