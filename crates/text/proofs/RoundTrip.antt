@@ -121,12 +121,22 @@ headed : (ws : List ℕ) (most : ℕ) (text : List ℕ) → lineFits ws most 2 t
     → text ≡ line ws (headerFirst ws text ∷ headerSecond ws text ∷ []) ++ behindHeader ws text
 headed ws most text h = line-is ws most 2 text h ∙ ap (λ (l : List ℕ). line ws l ++ behindHeader ws text) (header-is ws text)
 
--- 01: each text that is read is the very text that writing gives
-pub plan-is : (ws : List ℕ) (most : ℕ) (limits : Limits) (text : List ℕ) (space n : ℕ) (ends : List ℕ)
-    → readPlan ws most limits text space ≡ Reading.read n ends → text ≡ planText ws n ends
-unfolding readPlan readEnds planText
-plan-is ws most limits text space n ends p =
-    go (lineFits ws most 2 text) refl (ltb first 2 || ltb (limits .vertices) first) (ltb (limits .edges) m) (ltb space (2 * m)) (linesFit ws most 2 m rest) refl (eqb ((endsAnswer first 0 found) .number) 0) p
+-- the tests that a plan text has met once it is read, and what was read
+record PlanRead (ws : List ℕ) (most : ℕ) (limits : Limits) (text : List ℕ) (n : ℕ) (ends : List ℕ) : Type 0 where
+  header : lineFits ws most 2 text ≡ true
+  few : (ltb (headerFirst ws text) 2 || ltb (limits .vertices) (headerFirst ws text)) ≡ false
+  short : ltb (limits .edges) (headerSecond ws text) ≡ false
+  fit : linesFit ws most 2 (headerSecond ws text) (behindHeader ws text) ≡ true
+  joined : eqb ((endsAnswer (headerFirst ws text) 0 (linesNumbers ws 2 (headerSecond ws text) (behindHeader ws text))) .number) 0 ≡ true
+  vertices : headerFirst ws text ≡ n
+  found : linesNumbers ws 2 (headerSecond ws text) (behindHeader ws text) ≡ ends
+
+plan-read : (ws : List ℕ) (most : ℕ) (limits : Limits) (text : List ℕ) (space n : ℕ) (ends : List ℕ)
+    → readPlan ws most limits text space ≡ Reading.read n ends → PlanRead ws most limits text n ends
+unfolding readPlan readEnds
+plan-read ws most limits text space n ends p =
+    go (lineFits ws most 2 text) refl (ltb first 2 || ltb (limits .vertices) first) refl (ltb (limits .edges) m) refl (ltb space (2 * m)) (linesFit ws most 2 m rest) refl
+    (eqb ((endsAnswer first 0 found) .number) 0) refl p
   where
     first : ℕ
     first = headerFirst ws text
@@ -140,27 +150,35 @@ plan-is ws most limits text space n ends p =
     found : List ℕ
     found = linesNumbers ws 2 m rest
 
-    half : length found / 2 ≡ m
-    half = omega (arith, length-lines-numbers ws 2 m rest)
-
-    go : (a : Bool) → lineFits ws most 2 text ≡ a → (b c d f : Bool) → linesFit ws most 2 m rest ≡ f → (g : Bool)
+    go : (a : Bool) → lineFits ws most 2 text ≡ a → (b : Bool) → (ltb first 2 || ltb (limits .vertices) first) ≡ b → (c : Bool) → ltb (limits .edges) m ≡ c
+        → (d f : Bool) → linesFit ws most 2 m rest ≡ f → (g : Bool) → eqb ((endsAnswer first 0 found) .number) 0 ≡ g
         → cond a (cond b (Reading.refused (answer 2 0)) (cond c (Reading.refused (answer 3 0)) (cond d (Reading.refused (answer 6 0))
         (cond f (cond g (Reading.read first found) (Reading.refused (endsAnswer first 0 found))) (Reading.refused (answer 7 0)))))) (Reading.refused (answer 7 0)) ≡ Reading.read n ends
-        → text ≡ planText ws n ends
-    go false h b c d f k g q = never _ _ _ q
-    go true h true c d f k g q = never _ _ _ q
-    go true h false true d f k g q = never _ _ _ q
-    go true h false false true f k g q = never _ _ _ q
-    go true h false false false false k g q = never _ _ _ q
-    go true h false false false true k false q = never _ _ _ q
-    go true h false false false true k true q =
-        let same-first : first ≡ n = cc in
-        let same-ends : found ≡ ends = cc in
-        headed ws most text h
-        ∙ ap (λ (l : List ℕ). line ws (first ∷ m ∷ []) ++ l) (lines-are ws most 2 m rest k)
-        ∙ ap (λ (j : ℕ). line ws (first ∷ j ∷ []) ++ lines ws 2 j found) (sym half)
-        ∙ ap (λ (j : ℕ). planText ws j found) same-first
-        ∙ ap (planText ws n) same-ends
+        → PlanRead ws most limits text n ends
+    go false h b i c j d f k g l q = never _ _ _ q
+    go true h true i c j d f k g l q = never _ _ _ q
+    go true h false i true j d f k g l q = never _ _ _ q
+    go true h false i false j true f k g l q = never _ _ _ q
+    go true h false i false j false false k g l q = never _ _ _ q
+    go true h false i false j false true k false l q = never _ _ _ q
+    go true h false i false j false true k true l q = record { header = h; few = i; short = j; fit = k; joined = l; vertices = cc; found = cc }
+
+-- 01: each text that is read is the very text that writing gives
+pub plan-is : (ws : List ℕ) (most : ℕ) (limits : Limits) (text : List ℕ) (space n : ℕ) (ends : List ℕ)
+    → readPlan ws most limits text space ≡ Reading.read n ends → text ≡ planText ws n ends
+unfolding planText
+plan-is ws most limits text space n ends p =
+    let r = plan-read ws most limits text space n ends p in
+    let first = headerFirst ws text in
+    let m = headerSecond ws text in
+    let rest = behindHeader ws text in
+    let found = linesNumbers ws 2 m rest in
+    let half : length found / 2 ≡ m = omega (arith, length-lines-numbers ws 2 m rest) in
+    headed ws most text (r .header)
+    ∙ ap (λ (l : List ℕ). line ws (first ∷ m ∷ []) ++ l) (lines-are ws most 2 m rest (r .fit))
+    ∙ ap (λ (j : ℕ). line ws (first ∷ j ∷ []) ++ lines ws 2 j found) (sym half)
+    ∙ ap (λ (j : ℕ). planText ws j found) (r .vertices)
+    ∙ ap (planText ws n) (r .found)
 
 -- verdict text
 
@@ -191,11 +209,17 @@ module _ (ws : List ℕ) (most kind count : ℕ) (rest : List ℕ) where
     | no p ↦ rw (ne-eqb kind 2 p, lines-read ws kind count rest p .0) (lines-are ws most (perLine kind) count rest)
   ]
 
--- 01: each text that is read is the very text that writing gives
-pub verdict-is : (ws : List ℕ) (most : ℕ) (limits : Limits) (text : List ℕ) (space kind : ℕ) (list : List ℕ)
-    → readVerdict ws most limits text space ≡ Reading.read kind list → text ≡ verdictText ws kind list
-unfolding readVerdict verdictText
-verdict-is ws most limits text space kind list p =
+-- the tests that a verdict text has met once it is read, and what was read
+record VerdictRead (ws : List ℕ) (most : ℕ) (limits : Limits) (text : List ℕ) (kind : ℕ) (list : List ℕ) : Type 0 where
+  header : (lineFits ws most 2 text && countFits limits (headerFirst ws text) (headerSecond ws text)) ≡ true
+  fit : linesFit ws most (perLine (headerFirst ws text)) (linesOf (headerFirst ws text) (headerSecond ws text)) (behindHeader ws text) ≡ true
+  same-kind : headerFirst ws text ≡ kind
+  found : listRead ws (headerFirst ws text) (headerSecond ws text) (behindHeader ws text) ≡ list
+
+verdict-read : (ws : List ℕ) (most : ℕ) (limits : Limits) (text : List ℕ) (space kind : ℕ) (list : List ℕ)
+    → readVerdict ws most limits text space ≡ Reading.read kind list → VerdictRead ws most limits text kind list
+unfolding readVerdict
+verdict-read ws most limits text space kind list p =
     go (lineFits ws most 2 text && countFits limits first count) refl (ltb space (needed first count)) (linesFit ws most (perLine first) (linesOf first count) rest) refl p
   where
     first : ℕ
@@ -207,23 +231,30 @@ verdict-is ws most limits text space kind list p =
     rest : List ℕ
     rest = behindHeader ws text
 
-    found : List ℕ
-    found = listRead ws first count rest
-
     go : (a : Bool) → (lineFits ws most 2 text && countFits limits first count) ≡ a → (d f : Bool) → linesFit ws most (perLine first) (linesOf first count) rest ≡ f
-        → cond a (cond d (Reading.refused (answer 6 0)) (cond f (Reading.read first found) (Reading.refused (answer 8 0)))) (Reading.refused (answer 8 0)) ≡ Reading.read kind list
-        → text ≡ verdictText ws kind list
+        → cond a (cond d (Reading.refused (answer 6 0)) (cond f (Reading.read first (listRead ws first count rest)) (Reading.refused (answer 8 0)))) (Reading.refused (answer 8 0))
+        ≡ Reading.read kind list
+        → VerdictRead ws most limits text kind list
     go false h d f k q = never _ _ _ q
     go true h true f k q = never _ _ _ q
     go true h false false k q = never _ _ _ q
-    go true h false true k q =
-        let same-first : first ≡ kind = cc in
-        let same-list : found ≡ list = cc in
-        headed ws most text (and-true (lineFits ws most 2 text) (countFits limits first count) h .0)
-        ∙ ap (λ (l : List ℕ). line ws (first ∷ count ∷ []) ++ l) (verdict-lines ws most first count rest k)
-        ∙ ap (λ (j : ℕ). line ws (first ∷ j ∷ []) ++ lines ws (perLine first) (linesOf first j) found) (sym (count-back ws most first count rest))
-        ∙ ap (λ (j : ℕ). verdictText ws j found) same-first
-        ∙ ap (verdictText ws kind) same-list
+    go true h false true k q = record { header = h; fit = k; same-kind = cc; found = cc }
+
+-- 01: each text that is read is the very text that writing gives
+pub verdict-is : (ws : List ℕ) (most : ℕ) (limits : Limits) (text : List ℕ) (space kind : ℕ) (list : List ℕ)
+    → readVerdict ws most limits text space ≡ Reading.read kind list → text ≡ verdictText ws kind list
+unfolding verdictText
+verdict-is ws most limits text space kind list p =
+    let r = verdict-read ws most limits text space kind list p in
+    let first = headerFirst ws text in
+    let count = headerSecond ws text in
+    let rest = behindHeader ws text in
+    let found = listRead ws first count rest in
+    headed ws most text (and-true (lineFits ws most 2 text) (countFits limits first count) (r .header) .0)
+    ∙ ap (λ (l : List ℕ). line ws (first ∷ count ∷ []) ++ l) (verdict-lines ws most first count rest (r .fit))
+    ∙ ap (λ (j : ℕ). line ws (first ∷ j ∷ []) ++ lines ws (perLine first) (linesOf first j) found) (sym (count-back ws most first count rest))
+    ∙ ap (λ (j : ℕ). verdictText ws j found) (r .same-kind)
+    ∙ ap (verdictText ws kind) (r .found)
 
 -- what is read is an admitted plan, or a verdict with a text form
 
@@ -242,42 +273,16 @@ admitted-by limits n ends even two few short z =
 
 pub plan-admitted : (ws : List ℕ) (most : ℕ) (limits : Limits) (text : List ℕ) (space n : ℕ) (ends : List ℕ)
     → readPlan ws most limits text space ≡ Reading.read n ends → Admitted limits n ends
-unfolding readPlan readEnds
 plan-admitted ws most limits text space n ends p =
-    go (lineFits ws most 2 text) (ltb first 2 || ltb (limits .vertices) first) refl (ltb (limits .edges) m) refl (ltb space (2 * m)) (linesFit ws most 2 m rest) (eqb ((endsAnswer first 0 found) .number) 0) refl p
-  where
-    first : ℕ
-    first = headerFirst ws text
-
-    m : ℕ
-    m = headerSecond ws text
-
-    rest : List ℕ
-    rest = behindHeader ws text
-
-    found : List ℕ
-    found = linesNumbers ws 2 m rest
-
-    size : length found ≡ 2 * m
-    size = length-lines-numbers ws 2 m rest
-
-    go : (a b : Bool) → (ltb first 2 || ltb (limits .vertices) first) ≡ b → (c : Bool) → ltb (limits .edges) m ≡ c → (d f g : Bool) → eqb ((endsAnswer first 0 found) .number) 0 ≡ g
-        → cond a (cond b (Reading.refused (answer 2 0)) (cond c (Reading.refused (answer 3 0)) (cond d (Reading.refused (answer 6 0))
-        (cond f (cond g (Reading.read first found) (Reading.refused (endsAnswer first 0 found))) (Reading.refused (answer 7 0)))))) (Reading.refused (answer 7 0)) ≡ Reading.read n ends
-        → Admitted limits n ends
-    go false b h c j d f g k q = never _ _ _ q
-    go true true h c j d f g k q = never _ _ _ q
-    go true false h true j d f g k q = never _ _ _ q
-    go true false h false j true f g k q = never _ _ _ q
-    go true false h false j false false g k q = never _ _ _ q
-    go true false h false j false true false k q = never _ _ _ q
-    go true false h false j false true true k q =
-        let same-first : first ≡ n = cc in
-        let same-ends : found ≡ ends = cc in
-        let o = or-false (ltb first 2) (ltb (limits .vertices) first) h in
-        let a = admitted-by limits first found (omega (arith, size)) (ltb-false first 2 (o .0)) (ltb-false (limits .vertices) first (o .1))
-        (omega (arith, size, ltb-false (limits .edges) m j)) (eqb-true ((endsAnswer first 0 found) .number) 0 k) in
-        subst (Admitted limits n) same-ends (subst (λ (x : ℕ). Admitted limits x found) same-first a)
+    let r = plan-read ws most limits text space n ends p in
+    let first = headerFirst ws text in
+    let m = headerSecond ws text in
+    let found = linesNumbers ws 2 m (behindHeader ws text) in
+    let size = length-lines-numbers ws 2 m (behindHeader ws text) in
+    let o = or-false (ltb first 2) (ltb (limits .vertices) first) (r .few) in
+    let a = admitted-by limits first found (omega (arith, size)) (ltb-false first 2 (o .0)) (ltb-false (limits .vertices) first (o .1))
+    (omega (arith, size, ltb-false (limits .edges) m (r .short))) (eqb-true ((endsAnswer first 0 found) .number) 0 (r .joined)) in
+    subst (Admitted limits n) (r .found) (subst (λ (x : ℕ). Admitted limits x found) (r .vertices) a)
 
 module _ (ws : List ℕ) (kind count : ℕ) (rest : List ℕ) where
   length-read : length (listRead ws kind count rest) ≡ needed kind count
@@ -288,36 +293,15 @@ module _ (ws : List ℕ) (kind count : ℕ) (rest : List ℕ) where
 
 pub verdict-has-text : (ws : List ℕ) (most : ℕ) (limits : Limits) (text : List ℕ) (space kind : ℕ) (list : List ℕ)
     → readVerdict ws most limits text space ≡ Reading.read kind list → hasText limits kind list ≡ true
-unfolding readVerdict
 verdict-has-text ws most limits text space kind list p =
-    go (lineFits ws most 2 text && countFits limits first count) refl (ltb space (needed first count)) (linesFit ws most (perLine first) (linesOf first count) rest) p
-  where
-    first : ℕ
-    first = headerFirst ws text
-
-    count : ℕ
-    count = headerSecond ws text
-
-    rest : List ℕ
-    rest = behindHeader ws text
-
-    found : List ℕ
-    found = listRead ws first count rest
-
-    whole : countFits limits first count ≡ true → hasText limits first found ≡ true
-    whole h = has-text-is limits first found ∙ rw (count-back ws most first count rest, h) (eq-eqb (length found) (needed first count) (length-read ws first count rest))
-
-    go : (a : Bool) → (lineFits ws most 2 text && countFits limits first count) ≡ a → (d f : Bool)
-        → cond a (cond d (Reading.refused (answer 6 0)) (cond f (Reading.read first found) (Reading.refused (answer 8 0)))) (Reading.refused (answer 8 0)) ≡ Reading.read kind list
-        → hasText limits kind list ≡ true
-    go false h d f q = never _ _ _ q
-    go true h true f q = never _ _ _ q
-    go true h false false q = never _ _ _ q
-    go true h false true q =
-        let same-first : first ≡ kind = cc in
-        let same-list : found ≡ list = cc in
-        subst (λ (l : List ℕ). hasText limits kind l ≡ true) same-list (subst (λ (x : ℕ). hasText limits x found ≡ true) same-first
-        (whole (and-true (lineFits ws most 2 text) (countFits limits first count) h .1)))
+    let r = verdict-read ws most limits text space kind list p in
+    let first = headerFirst ws text in
+    let count = headerSecond ws text in
+    let rest = behindHeader ws text in
+    let found = listRead ws first count rest in
+    let fits = and-true (lineFits ws most 2 text) (countFits limits first count) (r .header) .1 in
+    let whole : hasText limits first found ≡ true = has-text-is limits first found ∙ rw (count-back ws most first count rest, fits) (eq-eqb (length found) (needed first count) (length-read ws first count rest)) in
+    subst (λ (l : List ℕ). hasText limits kind l ≡ true) (r .found) (subst (λ (x : ℕ). hasText limits x found ≡ true) (r .same-kind) whole)
 
 -- hence two different texts are never read as the same
 pub plan-once : (ws : List ℕ) (most : ℕ) (limits : Limits) (one two : List ℕ) (space room n : ℕ) (ends : List ℕ)
