@@ -59,12 +59,12 @@ fn parts(vertices: u16, ends: &[u16], edges: u16, cut: &[u16], reached: &mut [bo
     requires { ⌜ (edges ≡ length (now ends) / 2) × Admitted limits vertices (now ends) × (vertices ≤ length (now reached)) ⌝ }
     ensures { λ r. ⌜ Parted vertices (now (ends .entry)) (now (cut .entry)) (now (reached .entry)) (now (reached .exit)) r ⌝ }
 {
-    let mut roles = [0u8; 1000];
+    let mut roles = [0u8; Graph::MAX_VERTICES as usize];
     roles[0] = 1;
-    let mut dead = [0u8; 4000];
+    let mut dead = [0u8; Graph::MAX_EDGES];
     remove(edges, cut, &mut dead);
-    let mut first = [0u16; 1000];
-    let mut order = [0u16; 1000];
+    let mut first = [0u16; Graph::MAX_VERTICES as usize];
+    let mut order = [0u16; Graph::MAX_VERTICES as usize];
     let found = search::explore_admitted(
         vertices,
         ends,

@@ -78,7 +78,7 @@ fn parts(vertices: u16, ends: &[u16], cut: &[u16]) -> bool
     requires { ⌜ Admitted limits vertices (now ends) ⌝ }
     ensures { λ r. ⌜ r ≡ disconnects (graphOf vertices always (now (ends .entry))) (now (cut .entry)) ⌝ }
 {
-    let mut reached = [false; 1000];
+    let mut reached = [false; Graph::MAX_VERTICES as usize];
     let split = graph::cut::disconnects(vertices, ends, cut, &mut reached);
     match split {
         Split::Disconnected => true,
