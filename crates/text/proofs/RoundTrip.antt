@@ -15,11 +15,11 @@ use borrow.Author.Tests.{le-leb, le-ltb, eq-eqb, ne-eqb, ltb-false, eqb-true}
 use Rattle.connectivity.specs.Admission.{Limits, limits, Answer, answer, Admitted, endsAnswer, admission}
 use Rattle.connectivity.proofs.Admission.{admission-is, admission-number}
 use Rattle.text.specs.Column.{worths, five, largest, column, line, lines, lineSize, value, same, columnFits, lineFits, numbers, linesFit, linesNumbers}
-use Rattle.text.specs.Plan.{Reading, headerFirst, headerSecond, behindHeader, planText, readEnds, readPlan}
-use Rattle.text.specs.Verdict.{perLine, linesOf, needed, countOf, countFits, hasText, verdictText, listRead, readVerdict}
+use Rattle.text.specs.Plan.{Reading, Writing, headerFirst, headerSecond, behindHeader, planText, readEnds, readPlan, writePlan}
+use Rattle.text.specs.Verdict.{perLine, linesOf, needed, countOf, countFits, hasText, verdictText, listRead, readVerdict, writeVerdict}
 use Rattle.text.proofs.Laws.{and-true, same-true, same-refl, length-column, column-true, length-line, length-numbers}
 use Rattle.text.proofs.Reading.{length-lines-numbers, fits, verdict-fits, refusal-read, lines-read}
-use Rattle.text.proofs.Writing.{form, count-most, kind-most, has-text-is}
+use Rattle.text.proofs.Writing.{form, count-most, kind-most, has-text-is, plan-written, verdict-written}
 use Rattle.text.proofs.Digits.{read-back}
 
 -- every byte list that fits is what writing gives
@@ -302,6 +302,20 @@ verdict-has-text ws most limits text space kind list p =
     let fits = and-true (lineFits ws most 2 text) (countFits limits first count) (r .header) .1 in
     let whole : hasText limits first found ≡ true = has-text-is limits first found ∙ rw (count-back ws most first count rest, fits) (eq-eqb (length found) (needed first count) (length-read ws first count rest)) in
     subst (λ (l : List ℕ). hasText limits kind l ≡ true) (r .found) (subst (λ (x : ℕ). hasText limits x found ≡ true) (r .same-kind) whole)
+
+-- so writing, with space enough, gives the text again
+pub plan-again : (ws : List ℕ) (most : ℕ) (limits : Limits) (text : List ℕ) (space room n : ℕ) (ends : List ℕ)
+    → readPlan ws most limits text space ≡ Reading.read n ends → length text ≤ room → writePlan ws limits n ends room ≡ Writing.written text
+plan-again ws most limits text space room n ends p h =
+    let same = plan-is ws most limits text space n ends p in
+    let z = admission-number limits n ends .1 (plan-admitted ws most limits text space n ends p) in
+    plan-written ws limits n ends room z (subst (λ (l : List ℕ). length l ≤ room) same h) ∙ ap Writing.written (sym same)
+
+pub verdict-again : (ws : List ℕ) (most : ℕ) (limits : Limits) (text : List ℕ) (space room kind : ℕ) (list : List ℕ)
+    → readVerdict ws most limits text space ≡ Reading.read kind list → length text ≤ room → writeVerdict ws limits kind list room ≡ Writing.written text
+verdict-again ws most limits text space room kind list p h =
+    let same = verdict-is ws most limits text space kind list p in
+    verdict-written ws limits kind list room (verdict-has-text ws most limits text space kind list p) (subst (λ (l : List ℕ). length l ≤ room) same h) ∙ ap Writing.written (sym same)
 
 -- hence two different texts are never read as the same
 pub plan-once : (ws : List ℕ) (most : ℕ) (limits : Limits) (one two : List ℕ) (space room n : ℕ) (ends : List ℕ)

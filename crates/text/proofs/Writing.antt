@@ -11,10 +11,10 @@ use lib.Dec.{eqb, leb}
 use lib.ListN.{length, take, drop, getD, length-append, length-drop}
 use lib.Seq.{length-take-le}
 use borrow.Author.Tests.{ne-eqb, lt-ltb, le-ltb, eq-eqb, eqb-true, leb-true}
-use Rattle.connectivity.specs.Admission.{Limits, Answer, answer, limits, admission}
+use Rattle.connectivity.specs.Admission.{Limits, Answer, answer, limits, Admitted, admission}
 use Rattle.connectivity.proofs.Admission.{admission-number}
-use Rattle.graph.specs.Admission.{toldBy, constructed}
-use Rattle.graph.specs.declared.Answer as declared
+use Rattle.graph.specs.Admission.{constructed}
+use Rattle.graph.proofs.Lent.{constructed-admitted}
 use Rattle.graph.specs.declared.Graph.{Graph}
 use Rattle.graph.specs.declared.Admission.{Admission}
 use Rattle.text.specs.declared.Written.{Written}
@@ -45,29 +45,15 @@ length-lines ws k (suc m) list h =
 abbrev refusal : ℕ → Writing
 refusal k = Writing.refused (answer k 0)
 
+-- what the constructor says of a plan that it admits
+pub plan-made : (n : ℕ) (ends : List ℕ) {g : Graph} → constructed limits n ends ≡ Admission.Admitted g → ((admission limits n ends) .number ≡ 0) × (g .edges ≡ length ends / 2)
+plan-made n ends p = let q = constructed-admitted n ends p in (admission-number limits n ends .1 (q .0), q .2)
+
 -- writing a plan
 module _ (ws : List ℕ) (limits : Limits) (n : ℕ) (ends : List ℕ) (space : ℕ) where
-  pub plan-refused : (a : declared.Answer) → constructed limits n ends ≡ Admission.Refused a
-      → (a ≡ toldBy (admission limits n ends)) × (writePlan ws limits n ends space ≡ Writing.refused (admission limits n ends))
-  unfolding constructed writePlan
-  plan-refused a p = go (eqb ((admission limits n ends) .number) 0) refl p
-    where
-      go : (t : Bool) → eqb ((admission limits n ends) .number) 0 ≡ t
-          → cond t (Admission.Admitted (record { vertices = n; edges = length ends / 2 })) (Admission.Refused (toldBy (admission limits n ends))) ≡ Admission.Refused a
-          → (a ≡ toldBy (admission limits n ends)) × (writePlan ws limits n ends space ≡ Writing.refused (admission limits n ends))
-      go true q r = let z : _≡_ {A = ℕ} 0 1 = cc in absurd (omega arith)
-      go false q r = (cc, rw q)
-
-  pub plan-admitted : (g : Graph) → constructed limits n ends ≡ Admission.Admitted g
-      → ((admission limits n ends) .number ≡ 0) × (g .edges ≡ length ends / 2)
-  unfolding constructed
-  plan-admitted g p = go (eqb ((admission limits n ends) .number) 0) refl p
-    where
-      go : (t : Bool) → eqb ((admission limits n ends) .number) 0 ≡ t
-          → cond t (Admission.Admitted (record { vertices = n; edges = length ends / 2 })) (Admission.Refused (toldBy (admission limits n ends))) ≡ Admission.Admitted g
-          → ((admission limits n ends) .number ≡ 0) × (g .edges ≡ length ends / 2)
-      go true q r = let e : g ≡ record { vertices = n; edges = length ends / 2 } = cc in (eqb-true ((admission limits n ends) .number) 0 q, ap (λ (x : Graph). x .edges) e)
-      go false q r = let z : _≡_ {A = ℕ} 0 1 = cc in absurd (omega arith)
+  pub plan-refused : (Admitted limits n ends → ⊥) → writePlan ws limits n ends space ≡ Writing.refused (admission limits n ends)
+  unfolding writePlan
+  plan-refused h = rw (ne-eqb ((admission limits n ends) .number) 0 (λ z. h (admission-number limits n ends .0 z)))
 
   module _ (z : (admission limits n ends) .number ≡ 0) where
     pub plan-even : (2 * (length ends / 2) ≡ length ends) × (length ends / 2 ≤ limits .edges)

@@ -7,11 +7,12 @@ use lib.ListN.{length}
 use lib.Seq.{sets}
 use borrow.Author.Needs.{needs}
 use Rattle.connectivity.specs.Admission.{answer, limits, admission}
+use Rattle.graph.proofs.Lent.{constructed-refused}
 use Rattle.text.specs.declared.Written.{Written}
 use Rattle.text.specs.Column.{five, line, lines}
 use Rattle.text.specs.Plan.{Writing, planText}
 use Rattle.text.proofs.Reading.{sets-filled}
-use Rattle.text.proofs.Writing.{writes-plan, plan-refused, plan-admitted, plan-even, length-plan, plan-short, plan-written}
+use Rattle.text.proofs.Writing.{writes-plan, plan-made, plan-refused, plan-even, length-plan, plan-short, plan-written}
 use Rattle.text.proofs.write_plan.Statement.{statement}
 use Rattle.text.proofs.write_plan.Tie as tie
 
@@ -42,7 +43,7 @@ returns c =
     let s = k .before .before .before in
     let a = s .before .before .before .args in
     let y = k .before .admission2 .given in
-    let p = plan-admitted five limits (a .vertices) (a .ends .now) (length (a .text .now)) (y .0 .0) (sym (s .new .ensures) ∙ y .1) in
+    let p = plan-made (a .vertices) (a .ends .now) (sym (s .new .ensures) ∙ y .1) in
     let v = plan-even five limits (a .vertices) (a .ends .now) (length (a .text .now)) (p .0) in
     let n = length-plan five limits (a .vertices) (a .ends .now) (length (a .text .now)) (p .0) in
     writes-plan (a .vertices) (a .ends .now) (a .text .now) (a .text .now) (c .refused-writing .result) (Writing.refused (answer 6 0))
@@ -54,7 +55,7 @@ write-text-requires c κs =
     let s = k .before .before .before in
     let a = s .before .before .before .args in
     let y = k .before .admission2 .given in
-    let p = plan-admitted five limits (a .vertices) (a .ends .now) (length (a .text .now)) (y .0 .0) (sym (s .new .ensures) ∙ y .1) in
+    let p = plan-made (a .vertices) (a .ends .now) (sym (s .new .ensures) ∙ y .1) in
     let v = plan-even five limits (a .vertices) (a .ends .now) (length (a .text .now)) (p .0) in
     let n = length-plan five limits (a .vertices) (a .ends .now) (length (a .text .now)) (p .0) in
     (omega arith, omega arith, omega (arith, n, p .1, c .before .if1 .left))
@@ -64,9 +65,9 @@ returns-2 c =
     let s = c .before .before .before in
     let a = s .before .before .before .args in
     let y = c .before .admission .given in
-    let p = plan-refused five limits (a .vertices) (a .ends .now) (length (a .text .now)) (y .0 .0) (sym (s .new .ensures) ∙ y .1) in
+    let p = constructed-refused (a .vertices) (a .ends .now) (sym (s .new .ensures) ∙ y .1) in
     writes-plan (a .vertices) (a .ends .now) (a .text .now) (a .text .now) (Written.Refused (y .0 .0)) (Writing.refused (admission limits (a .vertices) (a .ends .now)))
-    (p .1) (ap Written.Refused (p .0)) refl
+    (plan-refused five limits (a .vertices) (a .ends .now) (length (a .text .now)) (p .0)) (ap Written.Refused (p .1)) refl
 
 same-length : tie.Need-same-length
 same-length c = search needs
@@ -78,7 +79,7 @@ returns-3 c =
     let s = k .before .before .before in
     let a = s .before .before .before .args in
     let y = k .before .admission2 .given in
-    let p = plan-admitted five limits (a .vertices) (a .ends .now) (length (a .text .now)) (y .0 .0) (sym (s .new .ensures) ∙ y .1) in
+    let p = plan-made (a .vertices) (a .ends .now) (sym (s .new .ensures) ∙ y .1) in
     let v = plan-even five limits (a .vertices) (a .ends .now) (length (a .text .now)) (p .0) in
     let n = length-plan five limits (a .vertices) (a .ends .now) (length (a .text .now)) (p .0) in
     let xs = planText five (a .vertices) (a .ends .now) in
