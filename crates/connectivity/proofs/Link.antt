@@ -88,7 +88,14 @@ weld {g} {built} {t = t} {arms = arms} (end {u = y} {v = z} e l j n b) a f x i =
   a = z;
   legs = record { edge = e; from = z } ∷ arms;
   b = t;
-  link = record { walk = k; over = inside; once = once; from = b; to = arm-branch a; two = two };
+  link = record {
+    walk = k;
+    over = inside;
+    once = once;
+    from = b;
+    to = arm-branch a;
+    two = λ v i. let n = arm-plain a i in omega (arith, inner-least v k i, part-degree g (e ∷ edgesOf arms) built v once inside);
+  };
   here = i;
   there = i;
 }
@@ -101,9 +108,6 @@ weld {g} {built} {t = t} {arms = arms} (end {u = y} {v = z} e l j n b) a f x i =
 
     once : Distinct (e ∷ edgesOf arms)
     once = one (λ i. f (lead-only a i (hits-from j))) (arm-once a)
-
-    two : (v : ℕ) → In v (froms arms) → degree g built v ≡ 2
-    two v i = let n = arm-plain a i in omega (arith, inner-least v k i, part-degree g (e ∷ edgesOf arms) built v once inside)
 weld {g} {built} {arms = arms} (more {u = y} {v = v} e l j n m q) a f x i =
     weld q (more e (l .0) (joins-sym j) (arm-plain q (from-first (arm-walk q))) off a)
     (λ p. arm-off q n m (Memᴰ·cast (sym p) (lead-in q)) (hits-from j)) x (later i)
