@@ -62,14 +62,14 @@ module _ (g : Graph) (built : List ℕ) (legs : List Leg) where
   w = stop g legs
 
   -- 14
-  record EarFits : Type 0 where
-    begins : Built g built u
-    ends : Built g built w
-    fresh : (v : ℕ) → In v (inner legs) → Built g built v → ⊥
-    simple : Distinct (inner legs)
-    closed : u ≡ w → Branch g built u
+  pub record EarFits : Type 0 where
+    pub begins : Built g built u
+    pub ends : Built g built w
+    pub fresh : (v : ℕ) → In v (inner legs) → Built g built v → ⊥
+    pub simple : Distinct (inner legs)
+    pub closed : u ≡ w → Branch g built u
 
-  ear-fits : Decides (earFits g built legs) EarFits
+  pub ear-fits : Decides (earFits g built legs) EarFits
   unfolding earFits
   ear-fits = decides-to
       (decides-and
@@ -86,7 +86,7 @@ module _ (g : Graph) (built : List ℕ) (legs : List Leg) where
       (λ f. (((f .begins, f .ends), (f .fresh, f .simple)), elim (ℕ-discrete u w) [ yes e ↦ inr (f .closed e) | no n ↦ inl n ]))
 
   -- 15, in terms of bare edges
-  links-fit : Vertex g w → Decides (linksFit g built legs) ((Branch g built u ⊎ Branch g built w) ⊎ (Reach g (Bare g built) u w → ⊥))
+  pub links-fit : Vertex g w → Decides (linksFit g built legs) ((Branch g built u ⊎ Branch g built w) ⊎ (Reach g (Bare g built) u w → ⊥))
   unfolding linksFit
   links-fit h = decides-or (decides-or (is-branch g built u) (is-branch g built w)) (decides-not (same-link-is g built u w h))
 

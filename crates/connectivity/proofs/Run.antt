@@ -79,7 +79,7 @@ data Begun (g : Graph) : List Leg → Type 0 where
   nothing : Begun g []
   some : {a b : ℕ} {walk : List Leg} → Walk g a walk b → Begun g walk
 
-comes-to : {g : Graph} {a b v : ℕ} {walk : List Leg} → Walk g a walk b → T (comesTo g walk v) → b ≡ v
+pub comes-to : {g : Graph} {a b v : ℕ} {walk : List Leg} → Walk g a walk b → T (comesTo g walk v) → b ≡ v
 unfolding comesTo
 comes-to {g} {v = v} (last e j) t = sym (walk-stop (last e j)) ∙ eqb→eq _ v t
 comes-to {g} {v = v} (then e j k) t = sym (walk-stop (then e j k)) ∙ eqb→eq _ v t
@@ -91,7 +91,7 @@ one-more {g} {r = r} nothing f = (r .from, far g (r .edge) (r .from), last (r .e
 one-more {g} {r = r} (some {a = a} {walk = walk} k) f =
     (a, far g (r .edge) (r .from), walk-snoc (subst (Walk g a walk) (comes-to k (f .comes)) k) (joins-far (f .edge) (f .end)))
 
-more-distinct : {g : Graph} {done : List (List Leg)} {walk : List Leg} {r : Row} → RowFits g done walk r → Distinct (edgesOf walk ++ allEdges done)
+pub more-distinct : {g : Graph} {done : List (List Leg)} {walk : List Leg} {r : Row} → RowFits g done walk r → Distinct (edgesOf walk ++ allEdges done)
     → Distinct (edgesOf (walk ++ (legOf r ∷ [])) ++ allEdges done)
 more-distinct {done = done} {walk = walk} {r = r} f d = rw (edges-snoc walk (legOf r)) (distinct-between (edgesOf walk) (allEdges done) (f .new) (f .unused) d)
 

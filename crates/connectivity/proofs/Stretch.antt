@@ -47,7 +47,7 @@ grown {g} {built} new w = record {
 }
 
 -- one of several walks
-inner-of : (walks : List (List Leg)) {legs : List Leg} → In legs walks → (v : ℕ) → In v (inner legs) → In v (allInner walks)
+pub inner-of : (walks : List (List Leg)) {legs : List Leg} → In legs walks → (v : ℕ) → In v (inner legs) → In v (allInner walks)
 inner-of (k ∷ walks) (first p) v i = in-left (allInner walks) (subst (λ (l : List Leg). In v (inner l)) p i)
 inner-of (k ∷ walks) (later m) v i = in-right (inner k) (inner-of walks m v i)
 
@@ -55,7 +55,7 @@ inner-simple : (walks : List (List Leg)) {legs : List Leg} → In legs walks →
 inner-simple (k ∷ walks) (first p) d = subst (λ (l : List Leg). Distinct (inner l)) (sym p) (left-distinct (inner k) (allInner walks) d)
 inner-simple (k ∷ walks) (later m) d = inner-simple walks m (right-distinct (inner k) d)
 
-edges-of : (walks : List (List Leg)) {legs : List Leg} → In legs walks → (e : ℕ) → In e (edgesOf legs) → In e (allEdges walks)
+pub edges-of : (walks : List (List Leg)) {legs : List Leg} → In legs walks → (e : ℕ) → In e (edgesOf legs) → In e (allEdges walks)
 edges-of (k ∷ walks) (first p) e i = in-left (allEdges walks) (subst (λ (l : List Leg). In e (edgesOf l)) p i)
 edges-of (k ∷ walks) (later m) e i = in-right (edgesOf k) (edges-of walks m e i)
 
@@ -123,15 +123,15 @@ pub data Place : List Leg → ℕ → ℕ → ℕ → Type 0 where
   now : {e v : ℕ} {legs : List Leg} → Place (record { edge = e; from = v } ∷ legs) 0 e v
   next : {l : Leg} {k e v : ℕ} {legs : List Leg} → Place legs k e v → Place (l ∷ legs) (suc k) e v
 
-place-vertex : {k e v : ℕ} {legs : List Leg} → Place legs k e v → In v (froms legs)
+pub place-vertex : {k e v : ℕ} {legs : List Leg} → Place legs k e v → In v (froms legs)
 place-vertex now = first refl
 place-vertex (next p) = later (place-vertex p)
 
-place-edge : {k e v : ℕ} {legs : List Leg} → Place legs k e v → In e (edgesOf legs)
+pub place-edge : {k e v : ℕ} {legs : List Leg} → Place legs k e v → In e (edgesOf legs)
 place-edge now = first refl
 place-edge (next p) = later (place-edge p)
 
-edge-place : {e : ℕ} (legs : List Leg) → In e (edgesOf legs) → (k : ℕ) × (v : ℕ) × Place legs k e v
+pub edge-place : {e : ℕ} (legs : List Leg) → In e (edgesOf legs) → (k : ℕ) × (v : ℕ) × Place legs k e v
 edge-place [] i = absurd (not-in i)
 edge-place (l ∷ legs) (first p) = rw p (0, l .from, now)
 edge-place (l ∷ legs) (later i) = let q = edge-place legs i in (suc (q .0), q .1, next (q .2))
@@ -149,7 +149,7 @@ place-once s (next p) (next q) = ap suc (place-once (tail-distinct s) p q)
 
 module _ {g : Graph} where
   -- a leg leads to the vertex of the next one, or to the walk's last
-  leads : {k e u v w : ℕ} {legs : List Leg} → Walk g u legs w → Place legs k e v
+  pub leads : {k e u v w : ℕ} {legs : List Leg} → Walk g u legs w → Place legs k e v
       → (x : ℕ) × Joins g e v x × ((x ≡ w) ⊎ ((d : ℕ) × Place legs (suc k) d x))
   leads (last {v = v} e j) now = (v, j, inl refl)
   leads (then {v = v} e j k) now = (v, j, inr (opens k))

@@ -1,1 +1,10 @@
 pub mod Weak
+pub mod Rows
+pub mod Going
+pub mod Paths
+pub mod Ears
+pub mod Ending
+pub mod Adding
+pub mod Tests
+pub mod Turns
+pub mod Judged

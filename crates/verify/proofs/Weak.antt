@@ -13,7 +13,7 @@ use borrow.Author.Tests.{lt-ltb, le-ltb, le-leb, lt-leb, ne-eqb}
 use Rattle.connectivity.specs.Graph.{Graph, Edge, graphOf, always, isEdge}
 use Rattle.connectivity.specs.Cut.{disconnects}
 use Rattle.connectivity.specs.Admission.{Answer, Limits, limits, answer, passed, andThen, Admitted, admission}
-use Rattle.connectivity.specs.Judge.{ascending, judgeFirm, judgeWeak, judgeGraph, judge}
+use Rattle.connectivity.specs.Judge.{ascending, judgeWeak, judgeGraph, judge}
 use Rattle.connectivity.proofs.Lists.{T-true, T-false}
 use Rattle.connectivity.proofs.Admission.{passed-then, failed-then, admission-number, admitted-edge}
 use Rattle.connectivity.proofs.Search.{is-edge}
@@ -52,14 +52,14 @@ unfolding ascending
 turn-over g list k low p = rw (p, drop-length list)
 
 -- the edges of an admitted plan are the numbers below their count
-below : (n : ℕ) (ends : List ℕ) {e : ℕ} → Edge (graphOf n always ends) e → e < length ends / 2
+pub edge-size : (n : ℕ) (ends : List ℕ) {e : ℕ} → Edge (graphOf n always ends) e → e < length ends / 2
 unfolding graphOf
-below n ends k = k .below
+edge-size n ends k = k .below
 
 pub admitted-all : {limits : Limits} {n : ℕ} {ends : List ℕ} → Admitted limits n ends → (e : ℕ) → isEdge (graphOf n always ends) e ≡ ltb e (length ends / 2)
 admitted-all {n = n} {ends = ends} a e = elim (decLt e (length ends / 2)) [
   | yes h ↦ T-true _ (is-edge (graphOf n always ends) e .1 (admitted-edge a e h)) ∙ sym (lt-ltb e (length ends / 2) h)
-  | no h ↦ T-false _ (λ t. h (below n ends (is-edge (graphOf n always ends) e .0 t))) ∙ sym (le-ltb e (length ends / 2) (omega (arith, h)))
+  | no h ↦ T-false _ (λ t. h (edge-size n ends (is-edge (graphOf n always ends) e .0 t))) ∙ sym (le-ltb e (length ends / 2) (omega (arith, h)))
 ]
 
 -- a mark for each of 1,000 vertices is enough
@@ -95,7 +95,3 @@ module _ (limits : Limits) (n : ℕ) (kept : ℕ → Bool) (ends : List ℕ) (ki
   pub judge-admitted : Admitted limits n ends → judge limits n kept ends kind list ≡ judgeGraph (graphOf n kept ends) kind list
   unfolding judge
   judge-admitted a = passed-then (admission limits n ends) _ (admission-number limits n ends .1 a)
-
-pub kind-weak : (g : Graph) (list : List ℕ) → judgeGraph g 1 list ≡ judgeWeak g list
-unfolding judgeGraph
-kind-weak g list = refl
