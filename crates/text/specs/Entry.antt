@@ -1,14 +1,15 @@
 -- What the four entries answer, and what the lent memory holds afterwards.
 use mathlib.Core.Path.{_≡_}
-use mathlib.Core.List.{List, _++_}
+use mathlib.Core.List.{List, [], _∷_, _++_}
 use Prim.Native.Nat.{ℕ, _/_}
 use lib.ListN.{length, drop}
 use Rattle.connectivity.specs.Admission as meaning
 use Rattle.graph.specs.Admission.{toldBy}
+use Rattle.graph.specs.declared.Answer.{Answer}
 use Rattle.graph.specs.declared.Admission.{Admission}
 use Rattle.text.specs.declared.VerdictRead.{VerdictRead}
 use Rattle.text.specs.declared.Written.{Written}
-use Rattle.text.specs.Column.{five, largest}
+use Rattle.text.specs.Column.{five, largest, line}
 use Rattle.text.specs.Plan.{Reading, Writing, readPlan, writePlan}
 use Rattle.text.specs.Verdict.{readVerdict, writeVerdict}
 
@@ -71,3 +72,7 @@ pub record WritesPlan (n : ℕ) (ends lent after : List ℕ) (r : Written) : Typ
 pub record WritesVerdict (kind : ℕ) (list lent after : List ℕ) (r : Written) : Type 0 where
   pub answer : r ≡ bytesTold (writeVerdict five meaning.limits kind list (length lent))
   pub memory : after ≡ afterWriting (writeVerdict five meaning.limits kind list (length lent)) lent
+
+-- 01: number and place in two columns on one line
+unfoldable pub answerText : List ℕ → Answer → List ℕ
+answerText ws a = line ws (a .number ∷ (a .place ∷ []))

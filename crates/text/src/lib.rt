@@ -13,7 +13,16 @@ ghost use Rattle.connectivity.specs.Admission.{edgeNumber, endsAnswer, limits};
 ghost use Rattle.graph.specs.Admission.{toldBy};
 ghost use Rattle.text.specs.Column.{five, largest, lineFits, numbers, linesFit, linesNumbers};
 ghost use Rattle.text.specs.Verdict.{perLine, linesOf, needed, countOf, countFits, hasText};
-ghost use Rattle.text.specs.Entry.{ReadsPlan, ReadsVerdict, WritesPlan, WritesVerdict};
+ghost use Rattle.text.specs.Entry.{ReadsPlan, ReadsVerdict, WritesPlan, WritesVerdict, answerText};
+
+// The bytes of the longest plan text.
+pub const PLAN_SIZE: usize = line::HEADER + Graph::MAX_EDGES * line::HEADER;
+
+// The bytes of the longest verdict text: a firm one, with a row for each edge.
+pub const VERDICT_SIZE: usize = line::HEADER + Graph::MAX_EDGES * column::LONGEST;
+
+// The bytes of an answer's line.
+pub const ANSWER_SIZE: usize = line::HEADER;
 
 pub enum VerdictRead {
     // the verdict's kind, and how many numbers its list has
@@ -268,4 +277,14 @@ fn numbers_needed(kind: u16, count: usize) -> usize
         return 3 * count;
     }
     count
+}
+
+// The line of an answer: number and place in two columns.
+pub fn answer_line(answer: Answer) -> [u8; ANSWER_SIZE]
+    ensures { λ r. ⌜ r ≡ answerText five answer ⌝ }
+{
+    let mut text = [0u8; ANSWER_SIZE];
+    let none = [0u16; 0];
+    line::write_text(answer.number, answer.place, &none, 1, 0, &mut text);
+    text
 }

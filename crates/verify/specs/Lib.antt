@@ -1,2 +1,4 @@
 pub mod Marks
 pub mod Weak
+pub mod Texts
+pub mod Board

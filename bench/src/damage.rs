@@ -1,0 +1,238 @@
+//! Random small verdicts: good ones, damaged ones and made-up ones.
+
+use crate::grow::{Case, Growth};
+use crate::random::Random;
+
+/// A random verdict about a random graph, most of 2 to 8 vertices.
+pub fn random_case(random: &mut Random) -> Case {
+    let mut case = match random.below(8) {
+        0 => scattered(random),
+        1..=3 => record(random, true),
+        _ => record(random, false),
+    };
+    if random.once_in(4) {
+        stroll(random, &mut case);
+    }
+    while random.once_in(2) {
+        damage(random, &mut case);
+    }
+    case
+}
+
+/// A grown graph with its record. If careless, ears may end inside one link and the last ears may be missing.
+fn record(random: &mut Random, careless: bool) -> Case {
+    let most = match random.below(200) {
+        0 => 200,
+        1..=25 => 40,
+        _ => 8,
+    };
+    let vertices = 2 + random.below(most - 1);
+    let mut growth = Growth::new([0; 3].map(|_| random.below(vertices.min(most / 4 + 1))));
+    while growth.vertices() < vertices {
+        let inner = random.below(vertices - growth.vertices() + 1);
+        ear(random, &mut growth, inner, careless);
+    }
+    if !careless || random.once_in(2) {
+        growth.close(random);
+    }
+    for _ in 0..random.below(3) {
+        ear(random, &mut growth, 0, careless);
+    }
+    growth.shuffle(random)
+}
+
+fn ear(random: &mut Random, growth: &mut Growth, inner: usize, careless: bool) {
+    let (a, b) = (growth.any(random), growth.any(random));
+    if careless && a != b {
+        growth.ear(a, inner, b);
+    } else {
+        growth.random_ear(random, None, inner);
+    }
+}
+
+/// A random graph, and a list that walks each edge once.
+fn scattered(random: &mut Random) -> Case {
+    let vertices = 2 + random.below(7);
+    let mut ends = Vec::new();
+    for _ in 0..random.below(14) {
+        let pair = random.order(vertices);
+        ends.extend(&pair[..2]);
+    }
+    let mut case = Case {
+        vertices: vertices as u16,
+        ends,
+        kind: 0,
+        list: Vec::new(),
+    };
+    stroll(random, &mut case);
+    case
+}
+
+/// From some row on, other walks over the edges that are left, in steps that end at random.
+fn stroll(random: &mut Random, case: &mut Case) {
+    case.list
+        .truncate(3 * random.below(case.list.len() / 3 + 1));
+    let mut step = case.list.chunks_exact(3).last().map_or(0, |row| row[0] + 1);
+    let mut left = random.order(case.ends.len() / 2);
+    left.retain(|e| case.list.chunks_exact(3).all(|row| row[1] != *e));
+    let mut at = None;
+    while !left.is_empty() {
+        let next = if random.once_in(3) { None } else { at };
+        let next = next.and_then(|v| left.iter().position(|&e| pair(&case.ends, e).contains(&v)));
+        if next.is_none() && at.is_some() {
+            step += 1;
+            at = None;
+        }
+        let edge = left.remove(next.unwrap_or(0));
+        let [a, b] = pair(&case.ends, edge);
+        let from = at.unwrap_or(if random.once_in(2) { a } else { b });
+        case.list.extend([step, edge, from]);
+        at = Some(if from == a { b } else { a });
+    }
+}
+
+fn pair(ends: &[u16], edge: u16) -> [u16; 2] {
+    let at = 2 * edge as usize;
+    [ends[at], ends[at + 1]]
+}
+
+fn damage(random: &mut Random, case: &mut Case) {
+    match random.below(16) {
+        0 => kind(random, case),
+        1 | 2 => weak(random, case),
+        3 => refusal(random, case),
+        4 => length(random, case),
+        5 => noise(random, case),
+        6 | 7 => swap(random, case),
+        8 => repeat(random, case),
+        9..=11 => shift(random, case),
+        12 | 13 => end(random, case),
+        _ => number(random, case),
+    }
+}
+
+/// A number that is likely to mean something, seldom any.
+fn likely(random: &mut Random, case: &Case) -> u16 {
+    let edges = case.ends.len() / 2;
+    match random.below(8) {
+        0 => random.below(65536) as u16,
+        1..=3 => random.below(case.vertices as usize + 1) as u16,
+        _ => random.below(edges + 1) as u16,
+    }
+}
+
+/// A place in a list, if it has any; the later ones are likelier.
+fn place(random: &mut Random, length: usize) -> Option<usize> {
+    (length > 0).then(|| random.below(length).max(random.below(length)))
+}
+
+fn kind(random: &mut Random, case: &mut Case) {
+    case.kind = match random.below(4) {
+        0 => random.below(65536) as u16,
+        other => other as u16 - 1,
+    };
+}
+
+/// A weak list, for the most part ascending; often with fewer edges in the graph.
+fn weak(random: &mut Random, case: &mut Case) {
+    case.kind = 1;
+    if random.once_in(2) {
+        case.ends
+            .truncate(2 * random.below(case.ends.len() / 2 + 1));
+    }
+    let count = random.below(8).min(random.below(4));
+    case.list = (0..count).map(|_| likely(random, case)).collect();
+    if !random.once_in(4) {
+        case.list.sort();
+    }
+}
+
+/// One of the graph's own faults.
+fn refusal(random: &mut Random, case: &mut Case) {
+    match random.below(8) {
+        0 => case.ends.push(likely(random, case)),
+        1 => case.vertices = random.below(2) as u16,
+        2 => case.vertices = 1000 + random.below(3) as u16,
+        3 if random.once_in(50) => case.ends.resize(8000 + 2 * random.below(2), 1),
+        4 => case.vertices -= case.vertices.min(1),
+        5 => case.vertices += 1,
+        _ => {
+            if let Some(i) = place(random, case.ends.len()) {
+                case.ends[i] = likely(random, case);
+            }
+        }
+    }
+}
+
+/// Numbers cut off or added.
+fn length(random: &mut Random, case: &mut Case) {
+    if random.once_in(2) {
+        case.list.truncate(random.below(case.list.len() + 1));
+    } else {
+        for _ in 0..1 + random.below(3) {
+            case.list.push(likely(random, case));
+        }
+    }
+}
+
+fn noise(random: &mut Random, case: &mut Case) {
+    for i in 0..case.list.len() {
+        case.list[i] = likely(random, case);
+    }
+}
+
+/// Two rows in each other's place.
+fn swap(random: &mut Random, case: &mut Case) {
+    let rows = case.list.len() / 3;
+    if let (Some(a), Some(b)) = (place(random, rows), place(random, rows)) {
+        for i in 0..3 {
+            case.list.swap(3 * a + i, 3 * b + i);
+        }
+    }
+}
+
+/// A row in the place of another.
+fn repeat(random: &mut Random, case: &mut Case) {
+    let rows = case.list.len() / 3;
+    if let (Some(a), Some(b)) = (place(random, rows), place(random, rows)) {
+        case.list.copy_within(3 * a..3 * a + 3, 3 * b);
+    }
+}
+
+/// The steps from some row on counted one up or down: a step falls into two, or two become one.
+fn shift(random: &mut Random, case: &mut Case) {
+    if let Some(row) = place(random, case.list.len() / 3) {
+        let up = random.once_in(2);
+        for step in case.list.iter_mut().skip(3 * row).step_by(3) {
+            *step = if up {
+                step.saturating_add(1)
+            } else {
+                step.saturating_sub(1)
+            };
+        }
+    }
+}
+
+/// An end of an edge moved to another vertex; the row that walks the edge may go along.
+fn end(random: &mut Random, case: &mut Case) {
+    if let Some(at) = place(random, case.ends.len()) {
+        let old = case.ends[at];
+        case.ends[at] = random.below(case.vertices.max(1) as usize) as u16;
+        let edge = (at / 2) as u16;
+        for row in case.list.chunks_exact_mut(3) {
+            if row[1] == edge && row[2] == old {
+                row[2] = case.ends[at];
+            }
+        }
+    }
+}
+
+fn number(random: &mut Random, case: &mut Case) {
+    if let Some(i) = place(random, case.list.len()) {
+        case.list[i] = match random.below(3) {
+            0 => case.list[i].saturating_add(1),
+            1 => case.list[i].saturating_sub(1),
+            _ => likely(random, case),
+        };
+    }
+}
