@@ -133,7 +133,7 @@ rows-length (legs ∷ walks) = omega (arith, length-append (rows walks) (stepRow
 
 -- Which edges.
 
-walk-edges : {g : Graph} {e u w : ℕ} {legs : List Leg} → Walk g u legs w → In e (edgesOf legs) → Edge g e
+pub walk-edges : {g : Graph} {e u w : ℕ} {legs : List Leg} → Walk g u legs w → In e (edgesOf legs) → Edge g e
 walk-edges {g} (last d j) i = subst (Edge g) (sym (eq-of-singleton i)) (j .edge)
 walk-edges {g} (then d j k) (first p) = subst (Edge g) (sym p) (j .edge)
 walk-edges (then d j k) (later i) = walk-edges k i

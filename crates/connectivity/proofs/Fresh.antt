@@ -25,7 +25,7 @@ pub froms-distinct : {g : Graph} {u w : ℕ} {legs : List Leg} → Walk g u legs
 froms-distinct (last e j) n d = one n d
 froms-distinct (then e j k) n d = one n d
 
-first-apart : {g : Graph} {u w : ℕ} {legs : List Leg} → Walk g u legs w → Distinct (froms legs) → In u (inner legs) → ⊥
+pub first-apart : {g : Graph} {u w : ℕ} {legs : List Leg} → Walk g u legs w → Distinct (froms legs) → In u (inner legs) → ⊥
 first-apart (last e j) d = head-distinct d
 first-apart (then e j k) d = head-distinct d
 

@@ -70,3 +70,18 @@ distinct-between {x} (y ∷ l) r n m (one h d) = one off (distinct-between l r (
       | inl j ↦ elim (in-cases l j) [ inl k ↦ h (in-left r k) | inr k ↦ n (first (sym (eq-of-singleton k))) ]
       | inr j ↦ h (in-right l j)
     ]
+
+-- the last edge
+abbrev pub final : List Leg → ℕ
+final [] = 0
+final (l ∷ []) = l .edge
+final (l ∷ (m ∷ legs)) = final (m ∷ legs)
+
+pub final-snoc : (legs : List Leg) (l : Leg) → final (legs ++ (l ∷ [])) ≡ l .edge
+final-snoc [] l = refl
+final-snoc (k ∷ []) l = refl
+final-snoc (k ∷ (m ∷ legs)) l = final-snoc (m ∷ legs) l
+
+pub final-cons : {g : Graph} {u w : ℕ} {legs : List Leg} (l : Leg) → Walk g u legs w → final (l ∷ legs) ≡ final legs
+final-cons l (last e j) = refl
+final-cons l (then e j k) = refl

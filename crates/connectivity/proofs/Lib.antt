@@ -21,3 +21,7 @@ pub mod Fresh
 pub mod Stretch
 pub mod Judge
 pub mod Table
+pub mod Label
+pub mod Grow
+pub mod Theta
+pub mod Once

@@ -23,7 +23,7 @@ data Arm (g : Graph) (built : List ℕ) (live : ℕ → Type 0) : ℕ → List L
       → Arm g built live v legs w → Arm g built live u (record { edge = e; from = u } ∷ legs) w
 
 -- the first edge
-abbrev lead : List Leg → ℕ
+abbrev pub lead : List Leg → ℕ
 lead [] = 0
 lead (l ∷ legs) = l .edge
 
@@ -132,7 +132,7 @@ some-link {g} {built} x s h n =
     weld q a (arm-live q (lead-in q) .1) x (from-first (arm-walk a))
 
 -- a link has every built edge at its inner vertices
-link-full : {g : Graph} {built : List ℕ} {a b : ℕ} {legs : List Leg} → Link g built a legs b → (x e : ℕ) → In x (inner legs) → In e built → hits g e x ≡ 1
+pub link-full : {g : Graph} {built : List ℕ} {a b : ℕ} {legs : List Leg} → Link g built a legs b → (x e : ℕ) → In x (inner legs) → In e built → hits g e x ≡ 1
     → In e (edgesOf legs)
 link-full {g} {built} {legs = legs} k x e i = full g (edgesOf legs) built x e (k .once) (k .over) (λ b. omega (arith, k .two x i)) (inner-least x (k .walk) i)
 
@@ -183,7 +183,7 @@ pub same-link-iff : {g : Graph} {built : List ℕ} {u w : ℕ} → Stage g built
 same-link-iff s h n = (link-bare, same-link s h n)
 
 -- each edge of a walk leaves one of its vertices
-walk-edge : {g : Graph} {e u w : ℕ} {legs : List Leg} → Walk g u legs w → In e (edgesOf legs) → (v : ℕ) × In v (froms legs) × (hits g e v ≡ 1)
+pub walk-edge : {g : Graph} {e u w : ℕ} {legs : List Leg} → Walk g u legs w → In e (edgesOf legs) → (v : ℕ) × In v (froms legs) × (hits g e v ≡ 1)
 walk-edge (last {u = u} d j) m = (u, first refl, rw (eq-of-singleton m) (hits-from j))
 walk-edge (then {u = u} d j k) (first p) = (u, first refl, rw p (hits-from j))
 walk-edge (then d j k) (later m) = let q = walk-edge k m in (q .0, later (q .1), q .2)

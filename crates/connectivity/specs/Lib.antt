@@ -2,6 +2,7 @@ pub mod Lists
 pub mod Graph
 pub mod Reach
 pub mod Cut
+pub mod Label
 pub mod Walk
 pub mod Link
 pub mod Mader

@@ -1,6 +1,6 @@
 -- What is said of a set of edges: whether it disconnects the graph, and which vertices the lowest one then reaches.
 use mathlib.Core.Path.{_≡_}
-use mathlib.Core.Bool.{Bool, true, false, not}
+use mathlib.Core.Bool.{Bool, true, false, not, _&&_}
 use mathlib.Core.List.{List, List·Memᴰ as In}
 use Prim.Native.Nat.{ℕ, _≤_, _<_}
 use lib.Dec.{eqb, leb}
@@ -26,6 +26,10 @@ Answered n ends cut reached₀ reached Connected =
     (lent n ends (leb n (length reached₀)) ≡ meaning.passed) × Parted n ends cut reached₀ reached false
 Answered n ends cut reached₀ reached Disconnected =
     (lent n ends (leb n (length reached₀)) ≡ meaning.passed) × Parted n ends cut reached₀ reached true
+
+-- an admitted plan, and a set that disconnects it
+unfoldable pub isCut : meaning.Limits → ℕ → List ℕ → List ℕ → Bool
+isCut limits n ends cut = eqb ((meaning.admission limits n ends) .number) 0 && disconnects (graphOf n always ends) cut
 
 -- `remove`: the marks of the edges of `cut` are set
 pub record Removed (edges : ℕ) (cut dead₀ dead : List ℕ) : Type 0 where

@@ -10,7 +10,7 @@ ghost use Prim.Native.Nat.{_/_, _<_, _≤_};
 ghost use lib.ListN.{length, set};
 ghost use lib.Dec.{ltb};
 ghost use Rattle.connectivity.specs.Admission.{Admitted, limits};
-ghost use Rattle.graph.specs.Cut.{Answered, Parted, Removed, Copied};
+ghost use Rattle.graph.specs.Cut.{isCut, Answered, Parted, Removed, Copied};
 
 // What is said of a set of edges (01: a set of tabs): refused; the rest is connected (one body); or it is not (the set parts the sheet).
 pub enum Split {
@@ -28,6 +28,19 @@ pub fn disconnects(vertices: u16, ends: &[u16], cut: &[u16], reached: &mut [bool
     match made {
         Admission::Refused(answer) => Split::Refused(answer),
         Admission::Admitted(graph) => part_admitted(vertices, ends, graph.edges, cut, reached),
+    }
+}
+
+// The plan is admitted and the edges of `cut` disconnect it.
+pub fn is_cut(vertices: u16, ends: &[u16], cut: &[u16]) -> bool
+    ensures { λ r. ⌜ r ≡ isCut limits vertices (now (ends .entry)) (now (cut .entry)) ⌝ }
+{
+    let mut reached = [false; Graph::MAX_VERTICES as usize];
+    let split = disconnects(vertices, ends, cut, &mut reached);
+    match split {
+        Split::Disconnected => true,
+        Split::Connected => false,
+        Split::Refused(_) => false,
     }
 }
 

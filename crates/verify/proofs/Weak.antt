@@ -62,12 +62,6 @@ admitted-all {n = n} {ends = ends} a e = elim (decLt e (length ends / 2)) [
   | no h ↦ T-false _ (λ t. h (edge-size n ends (is-edge (graphOf n always ends) e .0 t))) ∙ sym (le-ltb e (length ends / 2) (omega (arith, h)))
 ]
 
--- a mark for each of 1,000 vertices is enough
-pub marks-enough : {n : ℕ} {ends : List ℕ} → Admitted limits n ends → ((lent n ends (leb n (length {A = Bool} (replicate 1000 false)))) .number ≡ 0 → ⊥) → ⊥
-marks-enough {n} a h =
-    let long = length-replicate {A = Bool} 1000 false in
-    h (ap (λ (x : Answer). x .number) (lent-enough (leb n (length {A = Bool} (replicate 1000 false))) a (le→leb n _ (omega (arith, a .vertices, long)))))
-
 -- the whole answer, by its tests
 
 module _ (g : Graph) (list : List ℕ) where

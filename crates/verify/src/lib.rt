@@ -2,12 +2,10 @@
 use graph::Admission;
 use graph::Answer;
 use graph::Graph;
-use graph::cut::Split;
 ghost use mathlib.Core.Path.{_≡_};
 ghost use Prim.Native.Nat.{_/_, _≤_};
 ghost use lib.ListN.{length};
 ghost use Rattle.connectivity.specs.Graph.{graphOf, always};
-ghost use Rattle.connectivity.specs.Cut.{disconnects};
 ghost use Rattle.connectivity.specs.Admission.{Admitted, limits};
 ghost use Rattle.connectivity.specs.Judge.{judgeWeak, judgeGraph, judge};
 ghost use Rattle.graph.specs.Admission.{toldBy};
@@ -57,7 +55,7 @@ fn weak_admitted(vertices: u16, ends: &[u16], edges: u16, list: &[u16]) -> Answe
     if number != 0 {
         return turn;
     }
-    if parts(vertices, ends, list) {
+    if graph::cut::is_cut(vertices, ends, list) {
         return answer(0, 0);
     }
     answer(17, 0)
@@ -91,18 +89,4 @@ fn rises(edges: u16, list: &[u16]) -> Answer
         i += 1;
     }
     answer(0, 0)
-}
-
-// The edges of `cut` disconnect the graph.
-fn parts(vertices: u16, ends: &[u16], cut: &[u16]) -> bool
-    requires { ⌜ Admitted limits vertices (now ends) ⌝ }
-    ensures { λ r. ⌜ r ≡ disconnects (graphOf vertices always (now (ends .entry))) (now (cut .entry)) ⌝ }
-{
-    let mut reached = [false; Graph::MAX_VERTICES as usize];
-    let split = graph::cut::disconnects(vertices, ends, cut, &mut reached);
-    match split {
-        Split::Disconnected => true,
-        Split::Connected => false,
-        Split::Refused(_) => false,
-    }
 }

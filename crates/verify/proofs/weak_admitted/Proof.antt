@@ -12,6 +12,7 @@ use Rattle.connectivity.specs.Judge.{ascending}
 use Rattle.graph.specs.declared.Answer.{Answer}
 use Rattle.graph.specs.Admission.{toldBy}
 use Rattle.verify.specs.Weak.{InTurn}
+use Rattle.graph.proofs.Lent.{cut-admitted}
 use Rattle.verify.proofs.Weak.{admitted-all, weak-long, weak-turn, weak-cut}
 use Rattle.verify.proofs.weak_admitted.Statement.{statement}
 use Rattle.verify.proofs.weak_admitted.Tie as tie
@@ -37,32 +38,32 @@ returns-2 c =
     let t = turn (start .args .list .now) (start .pre .0) (start .pre .1) (rises .rises .ensures) in
     t ∙ sym (ap toldBy (weak-turn _ _ (rises .before .if1 .left) (λ z. c .if2 .taken (ap (λ (x : Answer). x .number) t ∙ z))))
 
-parts-requires : tie.Need-parts-requires
-parts-requires c κs = search needs
+is-cut-requires : tie.Need-is-cut-requires
+is-cut-requires c κs = search needs
 
 answer-requires-2 : tie.Need-answer-requires-2
 answer-requires-2 c κs = search needs
 
 returns-3 : tie.Need-returns-3
 returns-3 c =
-    let parts = c .before .before in
-    let rises = parts .before .before in
+    let cut = c .before .before in
+    let rises = cut .before .before in
     let start = rises .before .before .before .before in
     let t = turn (start .args .list .now) (start .pre .0) (start .pre .1) (rises .rises .ensures) in
-    let z = sym (ap (λ (x : Answer). x .number) t) ∙ parts .before .if2 .left in
-    c .answer2 .ensures ∙ sym (ap toldBy (weak-cut _ _ (rises .before .if1 .left) _ z (sym (c .before .if3 .taken) ∙ parts .parts .ensures)))
+    let z = sym (ap (λ (x : Answer). x .number) t) ∙ cut .before .if2 .left in
+    c .answer2 .ensures ∙ sym (ap toldBy (weak-cut _ _ (rises .before .if1 .left) _ z (sym (c .before .if3 .taken) ∙ cut .is-cut .ensures ∙ cut-admitted _ _ _ (start .pre .1))))
 
 answer-requires-3 : tie.Need-answer-requires-3
 answer-requires-3 c κs = search needs
 
 returns-4 : tie.Need-returns-4
 returns-4 c =
-    let parts = c .before .before in
-    let rises = parts .before .before in
+    let cut = c .before .before in
+    let rises = cut .before .before in
     let start = rises .before .before .before .before in
     let t = turn (start .args .list .now) (start .pre .0) (start .pre .1) (rises .rises .ensures) in
-    let z = sym (ap (λ (x : Answer). x .number) t) ∙ parts .before .if2 .left in
-    c .answer3 .ensures ∙ sym (ap toldBy (weak-cut _ _ (rises .before .if1 .left) _ z (sym (c .before .if3 .left) ∙ parts .parts .ensures)))
+    let z = sym (ap (λ (x : Answer). x .number) t) ∙ cut .before .if2 .left in
+    c .answer3 .ensures ∙ sym (ap toldBy (weak-cut _ _ (rises .before .if1 .left) _ z (sym (c .before .if3 .left) ∙ cut .is-cut .ensures ∙ cut-admitted _ _ _ (start .pre .1))))
 
 pub weak-admitted-spec : {M : Type 1} → statement M
 weak-admitted-spec =
@@ -72,7 +73,7 @@ weak-admitted-spec =
     returns
     rises-requires
     returns-2
-    parts-requires
+    is-cut-requires
     answer-requires-2
     returns-3
     answer-requires-3

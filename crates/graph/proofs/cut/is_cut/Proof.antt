@@ -1,8 +1,8 @@
--- `parts` meets its contract: the lent marks are enough for every admitted plan, so the test is never refused.
+-- `is_cut` meets its contract: the lent marks are enough for every admitted plan, so the test is refused only where the plan is.
 use borrow.Author.Needs.{needs}
-use Rattle.verify.proofs.Weak.{marks-enough}
-use Rattle.verify.proofs.parts.Statement.{statement}
-use Rattle.verify.proofs.parts.Tie as tie
+use Rattle.graph.proofs.Lent.{cut-told, cut-refused}
+use Rattle.graph.proofs.cut.is_cut.Statement.{statement}
+use Rattle.graph.proofs.cut.is_cut.Tie as tie
 
 slice-aggregate-disconnects : tie.Need-slice-aggregate-disconnects
 slice-aggregate-disconnects c = search needs
@@ -23,23 +23,22 @@ returns : tie.Need-returns
 returns c =
     let cut = c .before .before .before in
     let e = rw (c .enum-told .given .1) at (cut .disconnects .ensures) in
-    e .1 .answer
+    cut-told _ _ _ _ (e .0) (e .1 .answer)
 
 returns-2 : tie.Need-returns-2
 returns-2 c =
     let cut = c .before .before .before in
     let e = rw (c .enum-told2 .given .1) at (cut .disconnects .ensures) in
-    e .1 .answer
+    cut-told _ _ _ _ (e .0) (e .1 .answer)
 
 returns-3 : tie.Need-returns-3
 returns-3 c =
     let cut = c .before .before .before in
-    let start = cut .before .before .before .before in
     let e = rw (c .enum-told3 .given .1) at (cut .disconnects .ensures) in
-    absurd (marks-enough (start .pre) (e .0 .0))
+    cut-refused _ _ _ (e .0 .0)
 
-pub parts-spec : {M : Type 1} → statement M
-parts-spec =
+pub is-cut-spec : {M : Type 1} → statement M
+is-cut-spec =
     tie.close
     (tie.spec
     slice-aggregate-disconnects
