@@ -162,8 +162,10 @@ module _ {limits : Limits} {n : ℕ} {ends : List ℕ} (a : Admitted limits n en
   unfolding graphOf
   admitted-edge e h = record { below = h; left = record { below = a .fit e h .left; kept = tt }; right = record { below = a .fit e h .right; kept = tt } }
 
-  pub admitted-edges : length (edges (graphOf n always ends)) ≡ length ends / 2
+  pub admitted-range : edges (graphOf n always ends) ≡ range 0 (length ends / 2)
   unfolding edges graphOf
-  admitted-edges = ap length (keep-all (isEdge (graphOf n always ends)) (range 0 (length ends / 2))
-      (λ e i. is-edge (graphOf n always ends) e .1 (admitted-edge e (omega (arith, range-is e 0 (length ends / 2) .0 i .1)))))
-      ∙ length-range 0 (length ends / 2)
+  admitted-range = keep-all (isEdge (graphOf n always ends)) (range 0 (length ends / 2))
+      (λ e i. is-edge (graphOf n always ends) e .1 (admitted-edge e (omega (arith, range-is e 0 (length ends / 2) .0 i .1))))
+
+  pub admitted-edges : length (edges (graphOf n always ends)) ≡ length ends / 2
+  admitted-edges = ap length admitted-range ∙ length-range 0 (length ends / 2)

@@ -18,7 +18,7 @@ use Rattle.connectivity.proofs.Disconnects.{disconnects-is, connected-i
 use Rattle.connectivity.proofs.Order.{ordered-append, ordered-edges, before-rest, before-not, before-or, insert}
 
 -- the sets of one and of two edges
-singles-in : {e : ℕ} {l : List ℕ} → In e l → In (e ∷ []) (singles l)
+pub singles-in : {e : ℕ} {l : List ℕ} → In e l → In (e ∷ []) (singles l)
 unfolding singles
 singles-in (first p) = first (ap (λ (x : ℕ). x ∷ []) p)
 singles-in (later i) = later (singles-in i)

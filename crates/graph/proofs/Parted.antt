@@ -90,7 +90,7 @@ module _ (m k n edges : ℕ) (ends cut dead : List ℕ) (a : Admitted limits n e
         zero-of v l i = elim (ℕ-discrete (getD first v 0) 0) [ yes q ↦ q | no h ↦ absurd (cut-off-not low cut i .1 (seen v l h)) ]
 
     -- fewer were seen than there are exactly where the cut disconnects
-    fewer : ltb count n ≡ disconnects g cut
+    pub fewer : ltb count n ≡ disconnects g cut
     fewer = elim (T-dec (empty (cutOff g cut))) [
       | yes t ↦
           let full = tally-full first n (λ v l z. elim (cut-off-or low cut (admitted-vertex a v l)) [ inl i ↦ empty-none (cutOff g cut) t i | inr h ↦ marked v l h z ]) in
