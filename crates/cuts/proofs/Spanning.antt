@@ -1,0 +1,65 @@
+-- The search from vertex 0 over all edges: it has seen fewer vertices than there are exactly where the graph is not connected; else its
+-- tree spans the graph.
+use mathlib.Core.Path.{_≡_, refl, sym, ap, _∙_, subst}
+use mathlib.Core.Logic.{inl, inr}
+use mathlib.Core.Bool.{Bool, true, false, not}
+use mathlib.Core.List.{List, [], List·Memᴰ·not-nil as not-in}
+use Prim.Native.Nat.{ℕ, _/_}
+use native.Mathlib.Omega.{arith}
+use lib.Dec.{T, ltb}
+use lib.ListN.{length, getD, replicate, length-set, length-replicate}
+use borrow.Author.Tests.{ltb-false}
+use Rattle.connectivity.specs.Graph.{graphOf, always}
+use Rattle.connectivity.specs.Label.{Balanced}
+use Rattle.connectivity.specs.Admission.{Answer, limits, Admitted}
+use Rattle.graph.specs.Admission.{lent}
+use Rattle.graph.specs.Search.{Live, Start, Pass, Goal, Found, Whole, enough}
+use Rattle.graph.specs.Cut.{Removed}
+use Rattle.graph.proofs.Tally.{tally-lt, tally-le}
+use Rattle.graph.proofs.Explore.{enough-room}
+use Rattle.graph.proofs.Parted.{rolesFrom0, only-start, fewer}
+use Rattle.cuts.specs.Labels.{Spanning, Searched, Labelled}
+
+none-removed : (edges k : ℕ) → Removed edges [] (replicate k 0) (replicate k 0)
+none-removed edges k = record { long = refl; in-cut = λ e l i. absurd (not-in i); out = λ e n. refl }
+
+module _ (m k : ℕ) {n : ℕ} {ends : List ℕ} (a : Admitted limits n ends) {first₀ order₀ first order : List ℕ} {count : ℕ}
+    (f : Found (graphOf n always ends) (Live (replicate k 0)) (Pass (rolesFrom0 m)) (Start (rolesFrom0 m)) n first₀ order₀ first order count)
+    (w : Whole (graphOf n always ends) (Live (replicate k 0)) (Pass (rolesFrom0 m)) (Start (rolesFrom0 m)) (Goal (rolesFrom0 m)) n first order count) where
+  module _ (p : ltb count n ≡ false) where
+    all : count ≡ n
+    all = omega (arith, ltb-false count n p, f .counted, tally-le first n)
+
+    spanning : Spanning n ends first order
+    spanning = record {
+      valid = λ k l. f .tree .valid k (omega (arith, all));
+      listed = λ v l. let o = f .tree .listed v l (λ z. omega (arith, all, f .counted, tally-lt first n v l z)) in (o .0, omega (arith, all, o .1), o .2);
+      once = λ j k jk l. f .tree .once j k jk (omega (arith, all));
+      marked = λ k l. let h = f .tree .marked k (omega (arith, all)) in omega (arith, h);
+      tree = λ k z l. elim (f .tree .tree k (omega (arith, all))) [
+        | inl h ↦ absurd (f .tree .once 0 k z (omega (arith, all))
+            (only-start m (getD order 0 0) (f .tree .leading 0 k z (omega (arith, all)) h) ∙ sym (only-start m (getD order k 0) h)))
+        | inr r ↦ (r .place, r .earlier, r .joins)
+      ];
+    }
+
+  pub searched : Searched n ends first order (ltb count n)
+  searched = record { answer = fewer m k n (length ends / 2) ends [] (replicate k 0) a refl (none-removed (length ends / 2) k) f w; tree = spanning }
+
+-- the slices of such a search are long enough
+pub enough-lent : {n : ℕ} {ends : List ℕ} (first order : List ℕ) → Admitted limits n ends → length first ≡ 1000 → length order ≡ 1000
+    → ((lent n ends (enough n ends (rolesFrom0 999) (replicate 4000 0) first order)) .number ≡ 0 → ⊥) → ⊥
+enough-lent {n} {ends} first order a p q h =
+    let thousand = length-replicate {A = ℕ} 1000 0 in
+    let roles = length-set {A = ℕ} (replicate 1000 0) 0 1 in
+    let edges = length-replicate {A = ℕ} 4000 0 in
+    h (ap (λ (x : Answer). x .number) (enough-room n ends (rolesFrom0 999) (replicate 4000 0) first order a
+    (omega (arith, a .vertices), (omega (arith, a .edges), (omega (arith, a .vertices), omega (arith, a .vertices))))))
+
+-- the answer for a graph that is not connected, and for one that is and has been labelled
+pub labelled-not : {n : ℕ} {ends first order : List ℕ} (labels : List ℕ) → Searched n ends first order true → Labelled n ends labels false
+labelled-not labels s = record { answer = ap not (s .answer); balanced = λ p. absurd (subst (λ (b : Bool). T (not b)) p tt) }
+
+pub labelled-yes : {n : ℕ} {ends first order : List ℕ} (labels : List ℕ) → Searched n ends first order false
+    → Balanced (graphOf n always ends) (λ e. getD labels e 0) → Labelled n ends labels true
+labelled-yes labels s b = record { answer = ap not (s .answer); balanced = λ p. b }

@@ -1,0 +1,42 @@
+-- `balance` meets its contract: labels and sums begin as 0, and agree from there on.
+use native.Mathlib.Omega.{arith}
+use borrow.Author.Needs.{needs}
+use Rattle.cuts.proofs.Sums.{summed-start}
+use Rattle.cuts.proofs.labels.balance.Statement.{statement}
+use Rattle.cuts.proofs.labels.balance.Tie as tie
+
+clear-requires : tie.Need-clear-requires
+clear-requires c κs = search needs
+
+slice-aggregate-scatter : tie.Need-slice-aggregate-scatter
+slice-aggregate-scatter c = search needs
+
+scatter-requires : tie.Need-scatter-requires
+scatter-requires c κs =
+    let clear = c .before .before .before .before in
+    let start = clear .before .before .before .before .before .before in
+    (start .pre .0, summed-start (start .pre .0) (omega (arith, start .pre .4)) (clear .clear .ensures))
+
+slice-aggregate-settle : tie.Need-slice-aggregate-settle
+slice-aggregate-settle c = search needs
+
+settle-requires : tie.Need-settle-requires
+settle-requires c κs = search needs
+
+same-length : tie.Need-same-length
+same-length c = search needs
+
+returns : tie.Need-returns
+returns c = search needs
+
+pub balance-spec : {M : Type 1} → statement M
+balance-spec =
+    tie.close
+    (tie.spec
+    clear-requires
+    slice-aggregate-scatter
+    scatter-requires
+    slice-aggregate-settle
+    settle-requires
+    same-length
+    returns)
