@@ -1,0 +1,14 @@
+pub mod Written
+pub mod Paths
+pub mod Rising
+pub mod Marking
+pub mod Doors
+pub mod Roots
+pub mod ThreeRows
+pub mod Meeting
+pub mod Opened
+pub mod Exits
+pub mod Filling
+pub mod Rooms
+pub mod FromLink
+pub mod FromEdge

@@ -1,0 +1,54 @@
+-- `built_only` meets its contract. The loop's invariant: the first e edges are marked.
+use Prim.Native.Nat.{_-_, _≤_}
+use native.Mathlib.Omega.{arith}
+use Rattle.certify.specs.Growth.{BuiltOnly}
+use Rattle.certify.proofs.Filling.{Filling, filling-start, filling-step, filling-end}
+use Rattle.certify.proofs.ear.built_only.Statement.{statement}
+use Rattle.certify.proofs.ear.built_only.Tie as tie
+
+abbrev Inv-loop : tie.InvT-loop
+Inv-loop edges used dead₀ e₀ dead e = (e ≤ edges) × Filling (BuiltOnly used) dead₀ dead e
+
+abbrev μ-loop : tie.MeasureT-loop
+μ-loop edges used dead₀ e₀ dead e = edges - e
+
+loop-holds : tie.Need-loop-holds Inv-loop μ-loop
+loop-holds c = (omega arith, filling-start _ _)
+
+built-mark-requires : tie.Need-built-mark-requires Inv-loop μ-loop
+built-mark-requires c κs = omega arith
+
+slice-write-dead : tie.Need-slice-write-dead Inv-loop μ-loop
+slice-write-dead c = let l = c .before .before in omega (arith, l .loop .inv .1 .long, l .before .before .before .pre .1)
+
+add-e : tie.Need-add-e Inv-loop μ-loop
+add-e c = omega arith
+
+loop-less : tie.Need-loop-less Inv-loop μ-loop
+loop-less c = omega arith
+
+loop-again : tie.Need-loop-again Inv-loop μ-loop
+loop-again c =
+    let l = c .before .before in
+    (omega arith, filling-step (l .loop .inv .1) (omega (arith, l .before .before .before .pre .1)) (c .built-mark .ensures))
+
+same-length : tie.Need-same-length Inv-loop μ-loop
+same-length c = c .before .loop .inv .1 .long
+
+returns : tie.Need-returns Inv-loop μ-loop
+returns c = filling-end (c .before .loop .inv .1) (omega arith)
+
+pub built-only-spec : {M : Type 1} → statement M
+built-only-spec =
+    tie.close
+    (tie.spec
+    Inv-loop
+    μ-loop
+    loop-holds
+    built-mark-requires
+    slice-write-dead
+    add-e
+    loop-less
+    loop-again
+    same-length
+    returns)
