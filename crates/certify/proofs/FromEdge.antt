@@ -26,7 +26,8 @@ use Rattle.graph.specs.Search.{Live, Pass, Start, Goal, FromStart}
 use Rattle.graph.proofs.Leads.{vertex-below, joins-edge}
 use Rattle.certify.specs.Step.{Climbing, Written, Growing, Grown}
 use Rattle.certify.specs.Growth as roles
-use Rattle.certify.specs.Growth.{Filled, LessEdge, EndRole, Exiting, Exited, Opens, Opening, OpenEdge, Readable, Crossing, Across, RowAdded}
+use Rattle.certify.specs.Opening.{withRow}
+use Rattle.certify.specs.Growth.{Filled, LessEdge, EndRole, Exiting, Exited, Opens, Opening, OpenEdge, Readable, Crossing, Across}
 use Rattle.certify.proofs.Exits.{path-apart}
 use Rattle.certify.proofs.Rooms.{most-edges, written-more, written-none}
 use Rattle.certify.proofs.FromLink.{unused-new, is-built, built-is, through-edges}
@@ -134,7 +135,7 @@ module _ {n : ℕ} {ends degrees used : List ℕ} {room : ℕ} (c : Growing n en
     pub edge-room : 3 * 0 + 2 < room
     edge-room = omega (arith, c .fits, c .left)
 
-    pub edge-grown : {step : ℕ} {before after : List ℕ} → length before ≡ room → (getD degrees u 0 ≡ 0 → ⊥) → RowAdded 0 step e u before after
+    pub edge-grown : {step : ℕ} {before after : List ℕ} → length before ≡ room → (getD degrees u 0 ≡ 0 → ⊥) → after ≡ withRow before 0 step e u
         → Grown n ends grown step before after 1
     edge-grown {step} {before} {after} long h r = record {
       from = u;
@@ -261,7 +262,7 @@ module _ {n : ℕ} {ends degrees used : List ℕ} {room : ℕ} (c : Growing n en
         long-room p = (rw p long-fits, omega (arith, p, y .short, c .admitted .vertices))
 
         pub long-grown : {step count : ℕ} {before mid after : List ℕ} → length before ≡ room
-            → Written (stepRows step (y .legs)) before mid × (count ≡ length (y .legs)) → RowAdded count step e u mid after
+            → Written (stepRows step (y .legs)) before mid × (count ≡ length (y .legs)) → after ≡ withRow mid count step e u
             → Grown n ends grown step before after (count + 1)
         long-grown {step} {count} {before} {mid} {after} same w added = record {
           from = t;
@@ -269,6 +270,6 @@ module _ {n : ℕ} {ends degrees used : List ℕ} {room : ℕ} (c : Growing n en
           legs = long;
           ear = long-ear;
           once = long-once;
-          written = written-more step (y .legs) e u before mid after (w .0) (omega (arith, long-fits, same)) (subst (λ (k : ℕ). RowAdded k step e u mid after) (w .1) added);
+          written = written-more step (y .legs) e u before mid after (w .0) (omega (arith, long-fits, same)) (subst (λ (k : ℕ). after ≡ withRow mid k step e u) (w .1) added);
           count = omega (arith, w .1, length-append (y .legs) (leg e u ∷ []));
         }

@@ -16,7 +16,7 @@ use Rattle.connectivity.proofs.Degree.{part-length}
 use Rattle.connectivity.proofs.Admission.{admitted-edges}
 use Rattle.connectivity.proofs.Legs.{leg}
 use Rattle.certify.specs.Step.{Written}
-use Rattle.certify.specs.Growth.{RowAdded}
+use Rattle.certify.specs.Opening.{withRow}
 
 -- Different edges of the graph are no more than it has.
 
@@ -64,7 +64,7 @@ drop-three list k h =
     (drop-cons list (suc k) 0 (omega (arith, h)) ∙ ap (λ (l : List ℕ). getD list (suc k) 0 ∷ l) (drop-cons list (suc (suc k)) 0 h))
 
 pub written-more : (s : ℕ) (legs : List Leg) (e v : ℕ) (before mid after : List ℕ) → Written (stepRows s legs) before mid
-    → 3 * length legs + 2 < length before → RowAdded (length legs) s e v mid after → Written (stepRows s (legs ++ (leg e v ∷ []))) before after
+    → 3 * length legs + 2 < length before → after ≡ withRow mid (length legs) s e v → Written (stepRows s (legs ++ (leg e v ∷ []))) before after
 written-more s legs e v before mid after w h r =
     let k = length (stepRows s legs) in
     let p : mid ≡ stepRows s legs ++ _ = w ∙ ap (λ (l : List ℕ). stepRows s legs ++ l) (drop-three before k (omega (arith, rows-length s legs))) in

@@ -1,6 +1,5 @@
 -- What the parts of the search for the next ear answer.
 use mathlib.Core.Path.{_≡_}
-use mathlib.Core.Bool.{Bool, true, false}
 use mathlib.Core.Logic.{_⊎_}
 use mathlib.Core.List.{List, List·Memᴰ as In}
 use Prim.Native.Nat.{ℕ, _+_, _*_, _/_, _≤_, _<_}
@@ -12,11 +11,6 @@ use Rattle.connectivity.specs.Admission.{Admitted, limits}
 use Rattle.connectivity.proofs.Grow.{Inside}
 use Rattle.graph.specs.Search.{Live, Pass, Start, Goal, Marked, FromStart}
 use Rattle.certify.specs.Step.{Path, Marks, Growing}
-
--- a test tells whether a fact holds
-abbrev pub Tells : Bool → Type 0 → Type 0
-Tells true P = P
-Tells false P = P → ⊥
 
 -- each of the first k entries stands in a relation to its place
 pub record Filled (R : ℕ → ℕ → Type 0) (k : ℕ) (list : List ℕ) : Type 0 where
@@ -170,7 +164,3 @@ pub record GrowingEdge (n : ℕ) (ends degrees used : List ℕ) (e u room : ℕ)
   pub opened : OpenEdge ends degrees used e
   pub across : Across n ends degrees e u
   pub new : getD degrees u 0 ≡ 0
-
--- after a row is stored behind `count` rows
-abbrev pub RowAdded : ℕ → ℕ → ℕ → ℕ → List ℕ → List ℕ → Type 0
-RowAdded count step e v before after = after ≡ set (set (set before (3 * count) step) (3 * count + 1) e) (3 * count + 2) v

@@ -15,11 +15,6 @@ use Rattle.connectivity.specs.Admission.{Admitted, limits}
 use Rattle.graph.specs.Search.{Marked}
 use Rattle.certify.specs.Step.{Path, Written, Climbing}
 
--- what a test tells of a fact
-abbrev pub Tells : Bool → Type 0 → Type 0
-Tells true P = P
-Tells false P = P → ⊥
-
 -- the rows with one written after the first `count`
 abbrev pub withRow : List ℕ → ℕ → ℕ → ℕ → ℕ → List ℕ
 withRow rows count step e v = set (set (set rows (3 * count) step) (3 * count + 1) e) (3 * count + 2) v

@@ -8,8 +8,8 @@ ghost use mathlib.Core.Bool.{cond};
 ghost use Prim.Native.Nat.{_+_, _*_, _/_, _≤_, _<_};
 ghost use lib.Dec.{eqb};
 ghost use lib.ListN.{length, getD};
-ghost use Rattle.certify.specs.Step.{Growing, GrownBy};
-ghost use Rattle.certify.specs.Growth.{Tells, Filled, PlainVertex, BuiltOnly, LessEdge, LinkRole, EarRole, EndRole, Linked, MarkedBy, Exiting, Exited, Rooting, Rooted, Opens, Opening, OpenEdge, Crossing, Crossed, GrowingLink, GrowingBranch, GrowingEdge, Readable, RowAdded};
+ghost use Rattle.certify.specs.Step.{Tells, Growing, GrownBy};
+ghost use Rattle.certify.specs.Growth.{Filled, PlainVertex, BuiltOnly, LessEdge, LinkRole, EarRole, EndRole, Linked, MarkedBy, Exiting, Exited, Rooting, Rooted, Opens, Opening, OpenEdge, Crossing, Crossed, GrowingLink, GrowingBranch, GrowingEdge, Readable};
 
 // Writes the rows of the next ear at the front of `rows`; how many there are. `degree` counts the built edges at each vertex, `used` is 1
 // for each built edge and 0 for any other.
@@ -196,23 +196,10 @@ fn root(vertices: u16, ends: &[u16], first: &[u16], v: u16) -> u16
         if first[at as usize] == 65535 {
             return at;
         }
-        at = other_end(ends, first[at as usize] - 1, at);
+        at = walk::other_end(ends, first[at as usize] - 1, at);
         left -= 1;
     }
     at
-}
-
-// The end of `e` that is not `v`.
-fn other_end(ends: &[u16], e: u16, v: u16) -> u16
-    requires { ⌜ e < length (now ends) / 2 ⌝ }
-    ensures { λ r. ⌜ r ≡ cond (eqb (getD (now (ends .entry)) (2 * e) 0) v) (getD (now (ends .entry)) (2 * e + 1) 0) (getD (now (ends .entry)) (2 * e) 0) ⌝ }
-{
-    let k = 2 * (e as usize);
-    let l = ends[k];
-    if l == v {
-        return ends[k + 1];
-    }
-    l
 }
 
 // An ear where every built vertex is a branch: over the lowest edge that is not built and has a built end.
@@ -232,7 +219,7 @@ fn branch_ear(
     if degree[u as usize] == 0 {
         return edge_ear(vertices, ends, degree, used, e, u, step, rows);
     }
-    add_row(rows, 0, step, e, u);
+    walk::write_row(rows, 0, step, e, u);
     1
 }
 
@@ -303,7 +290,7 @@ fn edge_ear(
     let mut first = [0u16; Graph::MAX_VERTICES as usize];
     let t = exit(vertices, ends, &roles, &dead, &mut first);
     let count = walk::climb(ends, &first, t, u, step, rows);
-    add_row(rows, count, step, e, u);
+    walk::write_row(rows, count, step, e, u);
     count + 1
 }
 
@@ -354,15 +341,4 @@ fn less_mark(used: &[u8], d: u16, e: usize) -> u8
         return 1;
     }
     used[e]
-}
-
-// Stores a row behind `count` rows.
-fn add_row(rows: &mut [u16], count: u16, step: u16, e: u16, v: u16)
-    requires { ⌜ 3 * count + 2 < length (now rows) ⌝ }
-    ensures { λ _. ⌜ RowAdded count step e v (now (rows .entry)) (now (rows .exit)) ⌝ }
-{
-    let k = 3 * (count as usize);
-    rows[k] = step;
-    rows[k + 1] = e;
-    rows[k + 2] = v;
 }

@@ -46,8 +46,8 @@ same-length c = search needs
 returns : tie.Need-returns
 returns c = search needs
 
-add-row-requires : tie.Need-add-row-requires
-add-row-requires c κs = search needs
+write-row-requires : tie.Need-write-row-requires
+write-row-requires c κs = search needs
 
 same-length-2 : tie.Need-same-length-2
 same-length-2 c = search needs
@@ -59,7 +59,7 @@ returns-2 c =
     let across = test .before .before in
     let edge = across .before in
     let s = edge .before .before .before .before .before in
-    λ growing. edge-grown growing (s .pre .branches) (edge .open-edge .ensures) (across .across .ensures _ (growing .admitted)) refl (test .if1 .left) (row .add-row .ensures)
+    λ growing. edge-grown growing (s .pre .branches) (edge .open-edge .ensures) (across .across .ensures _ (growing .admitted)) refl (test .if1 .left) (row .write-row .ensures)
 
 pub branch-ear-spec : {M : Type 1} → statement M
 branch-ear-spec =
@@ -73,6 +73,6 @@ branch-ear-spec =
     edge-ear-requires
     same-length
     returns
-    add-row-requires
+    write-row-requires
     same-length-2
     returns-2)

@@ -68,8 +68,8 @@ told c =
     long-room (g .growing) (g .branches) (g .opened) (g .across) (g .new) r d (exit .exit .ensures)
     (c .climb .ensures (edge-climbing (g .growing) (g .branches) (g .opened) (g .across) (g .new) r d (exit .exit .ensures) room) .1)
 
-add-row-requires : tie.Need-add-row-requires
-add-row-requires c κs =
+write-row-requires : tie.Need-write-row-requires
+write-row-requires c κs =
     let t = told (c .before .before .before) in
     omega (arith, t .0)
 
@@ -96,7 +96,7 @@ returns c =
     let d = dead .less-edge .ensures in
     let y = exit .exit .ensures in
     long-grown growing (p .branches) (p .opened) (p .across) (p .new) r d y refl
-    (climb .climb .ensures (edge-climbing growing (p .branches) (p .opened) (p .across) (p .new) r d y room)) (row .add-row .ensures)
+    (climb .climb .ensures (edge-climbing growing (p .branches) (p .opened) (p .across) (p .new) r d y room)) (row .write-row .ensures)
 
 pub edge-ear-spec : {M : Type 1} → statement M
 edge-ear-spec =
@@ -112,7 +112,7 @@ edge-ear-spec =
     exit-requires
     slice-aggregate-climb
     climb-requires
-    add-row-requires
+    write-row-requires
     add-result
     same-length
     returns)
