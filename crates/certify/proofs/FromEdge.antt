@@ -44,7 +44,7 @@ table-joins : {n : ℕ} {ends : List ℕ} → Admitted limits n ends → (e : �
 unfolding graphOf
 table-joins a e h = record { edge = admitted-edge a e h; ends = inl (refl, refl) }
 
-edge-below : (n : ℕ) (ends : List ℕ) (e : ℕ) → Edge (graphOf n always ends) e → e < length ends / 2
+pub edge-below : (n : ℕ) (ends : List ℕ) (e : ℕ) → Edge (graphOf n always ends) e → e < length ends / 2
 unfolding graphOf
 edge-below n ends e h = h .below
 

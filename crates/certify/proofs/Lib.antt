@@ -12,3 +12,5 @@ pub mod Filling
 pub mod Rooms
 pub mod FromLink
 pub mod FromEdge
+pub mod Counting
+pub mod Recording

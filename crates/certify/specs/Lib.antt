@@ -1,3 +1,4 @@
 pub mod Step
 pub mod Opening
 pub mod Growth
+pub mod Record
