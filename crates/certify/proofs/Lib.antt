@@ -14,3 +14,4 @@ pub mod FromLink
 pub mod FromEdge
 pub mod Counting
 pub mod Recording
+pub mod Answering
