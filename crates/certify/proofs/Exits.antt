@@ -29,7 +29,7 @@ module _ {g : Graph} {live pass start : ℕ → Type 0} {n : ℕ} {marks order :
   climb-path (top h) c = paths.there
   climb-path (up {k = k} r u) c = paths.up {v = getD order k 0} (omega (arith, t .marked k c)) (joins-sym (r .joins)) (climb-path u (omega (arith, r .earlier)))
 
-  climb-short : {k s : ℕ} {legs : List Leg} → Climb g live pass start marks order k legs s → length legs ≤ k
+  pub climb-short : {k s : ℕ} {legs : List Leg} → Climb g live pass start marks order k legs s → length legs ≤ k
   climb-short (top h) = omega arith
   climb-short (up r u) = omega (arith, r .earlier, climb-short u)
 

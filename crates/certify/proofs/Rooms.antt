@@ -15,6 +15,7 @@ use Rattle.connectivity.proofs.Search.{edges-are}
 use Rattle.connectivity.proofs.Degree.{part-length}
 use Rattle.connectivity.proofs.Admission.{admitted-edges}
 use Rattle.connectivity.proofs.Legs.{leg}
+use Rattle.certify.proofs.Written.{rows-length}
 use Rattle.certify.specs.Step.{Written}
 use Rattle.certify.specs.Opening.{withRow}
 
@@ -33,10 +34,6 @@ most-edges {n} {ends} legs built a d f h =
     omega (arith, p, length-append (edgesOf legs) built, legs-edges legs, admitted-edges a)
 
 -- A row behind others.
-
-pub rows-length : (s : ℕ) (legs : List Leg) → length (stepRows s legs) ≡ 3 * length legs
-rows-length s [] = refl
-rows-length s (l ∷ legs) = omega (arith, rows-length s legs)
 
 rows-snoc : (s : ℕ) (legs : List Leg) (l : Leg) (rest : List ℕ)
     → stepRows s (legs ++ (l ∷ [])) ++ rest ≡ stepRows s legs ++ (s ∷ (l .edge ∷ (l .from ∷ rest)))

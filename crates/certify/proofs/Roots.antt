@@ -11,7 +11,6 @@ use Rattle.connectivity.specs.Graph.{Graph, graphOf, always}
 use Rattle.connectivity.specs.Reach.{Through, stay, leave}
 use Rattle.connectivity.specs.Walk.{Leg, froms}
 use Rattle.connectivity.specs.Admission.{Answer, Admitted, limits}
-use Rattle.connectivity.proofs.Reach.{joins-sym}
 use Rattle.graph.specs.Search.{Live, Pass, Start, Goal, Marked, Tree, Found, Whole, Answered}
 use Rattle.graph.specs.declared.search.Explored.{Explored}
 use Rattle.graph.specs.declared.search.Explored.the-variants.{Refused, Seen, Met}
@@ -22,21 +21,9 @@ use Rattle.graph.proofs.Parted.{zeros}
 use Rattle.graph.proofs.Tally.{tally-le}
 use Rattle.certify.specs.Step.{Path, there, up}
 use Rattle.certify.specs.Opening.{Around, Up, Rooted}
+use Rattle.certify.proofs.Exits.{climb-path, climb-short}
 
 -- The search's tree as ways up.
-
-module _ {g : Graph} {live pass start : ℕ → Type 0} {n : ℕ} {marks order : List ℕ} {count : ℕ} (t : Tree g live pass start n marks order count) where
-  seen : (k : ℕ) → k < count → 1 ≤ getD marks (getD order k 0) 0
-  seen k c = omega (arith, t .marked k c)
-
-  pub climb-path : {k s : ℕ} {legs : List Leg} → trees.Climb g live pass start marks order k legs s → k < count → Path g marks (getD order k 0) legs (getD order s 0)
-  climb-path (trees.top h) c = there
-  climb-path (trees.up {k = k} r u) c = up (seen k c) (joins-sym (r .joins)) (climb-path u (omega (arith, r .earlier, c)))
-
-climb-short : {g : Graph} {live pass start : ℕ → Type 0} {marks order : List ℕ} {k s : ℕ} {legs : List Leg}
-    → trees.Climb g live pass start marks order k legs s → length legs ≤ k
-climb-short (trees.top h) = omega arith
-climb-short (trees.up r u) = omega (arith, r .earlier, climb-short u)
 
 climb-off : {g : Graph} {live pass start : ℕ → Type 0} {marks order : List ℕ} {k s x : ℕ} {legs : List Leg} → ((v : ℕ) → pass v → v ≡ x → ⊥)
     → trees.Climb g live pass start marks order k legs s → (getD order k 0 ≡ x → ⊥) → In x (froms legs) → ⊥
@@ -123,7 +110,7 @@ module _ (n r x : ℕ) (ends blank dead : List ℕ) (a : Admitted limits n ends)
             once = trees.climb-once t u c;
             apart = λ i. omega (arith, path-edge n ends path i, a .edges, t .roots r root role-r);
             off = climb-off pass-off u (λ q. d (sym p ∙ q));
-            short = omega (arith, climb-short u, c, f .counted, tally-le marks n, a .vertices);
+            short = omega (arith, climb-short t u, c, f .counted, tally-le marks n, a .vertices);
           }
 
 -- the answer of the search on arrays of the limits' size
