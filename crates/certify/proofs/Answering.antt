@@ -1,15 +1,12 @@
 -- The writer's answer: refused, weak or firm as the definition has it, and what the lent list then holds.
 use mathlib.Core.Path.{_≡_, refl, sym, ap, subst, _∙_}
-use mathlib.Core.Bool.{Bool, cond}
 use mathlib.Core.List.{List, [], _∷_, _++_}
 use mathlib.Core.Option.{Option, none, some}
 use Prim.Native.Nat.{ℕ, _*_, _/_, _≤_, _<_}
 use native.Mathlib.Omega.{arith}
-use lib.Dec.{eqb}
 use lib.ListN.{length, take, drop}
 use lib.Seq.{take-at, drop-at}
-use borrow.Author.Tests.{eq-eqb, le-ltb}
-use Rattle.connectivity.specs.Graph.{graphOf, always, edges}
+use Rattle.connectivity.specs.Graph.{graphOf, always}
 use Rattle.connectivity.specs.Reach.{ThreeEdgeConnected}
 use Rattle.connectivity.specs.Cut.{lowestCut}
 use Rattle.connectivity.specs.Admission.{Admitted, limits, answer, passed, admission}
@@ -17,7 +14,7 @@ use Rattle.connectivity.specs.Verdict as meaning
 use Rattle.connectivity.specs.Judge.{judge}
 use Rattle.connectivity.proofs.Admission.{admission-number, admitted-edges, admitted-vertex}
 use Rattle.connectivity.proofs.LowestCut.{three-edge-connected}
-use Rattle.connectivity.proofs.Verdict.{verdict-short, verdict-refused, verdict-firm}
+use Rattle.connectivity.proofs.Verdict.{verdict-short, verdict-refused, reaches}
 use Rattle.connectivity.proofs.Judge.{firm-passes}
 use Rattle.graph.specs.Admission.{toldBy}
 use Rattle.graph.specs.declared.Answer.{Answer}
@@ -82,9 +79,8 @@ module _ (n : ℕ) (ends lent : List ℕ) where
     answers-short h q = still (meaning.refused (answer 6 0)) (verdict-short a (length lent) (omega (arith, h, admitted-edges a))) refused-firm q
 
     module _ (h : 3 * (length ends / 2) ≤ length lent) where
-      reaches : meaning.verdict limits n always ends (length lent) ≡ meaning.verdictOn (lowestCut (graphOf n always ends))
-      unfolding meaning.verdict
-      reaches = rw (admission-number limits n ends .1 a, le-ltb (length lent) (3 * length (edges (graphOf n always ends))) (omega (arith, h, admitted-edges a)))
+      on-cut : meaning.verdict limits n always ends (length lent) ≡ meaning.verdictOn (lowestCut (graphOf n always ends))
+      on-cut = reaches a (length lent) (omega (arith, h, admitted-edges a))
 
       found : {l : Lightest} → l ≡ lowestTold limits n ends → l ≡ cutOf (lowestCut (graphOf n always ends))
       unfolding lowestTold
@@ -94,7 +90,7 @@ module _ (n : ℕ) (ends lent : List ℕ) where
       unfolding meaning.verdictOn
       answers-weak c p q =
           let (list, at, same) = some-cut (lowestCut (graphOf n always ends)) (sym q ∙ found p) in
-          still (meaning.weak list) (reaches ∙ ap meaning.verdictOn at) weak-firm same
+          still (meaning.weak list) (on-cut ∙ ap meaning.verdictOn at) weak-firm same
 
       module _ {l : Lightest} (p : l ≡ lowestTold limits n ends) (q : l ≡ light.NoCut) where
         uncut : lowestCut (graphOf n always ends) ≡ none
@@ -117,7 +113,7 @@ module _ (n : ℕ) (ends lent : List ℕ) where
         }
           where
             firm : meaning.verdict limits n always ends (length lent) ≡ meaning.firm
-            firm = reaches ∙ ap meaning.verdictOn uncut
+            firm = on-cut ∙ ap meaning.verdictOn uncut
 
             front : take (3 * (length ends / 2)) after ≡ c .list
             front = ap (take (3 * (length ends / 2))) (c .written) ∙ take-at (c .list) (drop (length (c .list)) lent) (3 * (length ends / 2)) (c .long)

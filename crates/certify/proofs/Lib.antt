@@ -15,3 +15,5 @@ pub mod FromEdge
 pub mod Counting
 pub mod Recording
 pub mod Answering
+pub mod Outcomes
+pub mod Demands

@@ -25,6 +25,10 @@ told (meaning.weak (e ∷ [])) = record { outcome = Weak; cut = record { count =
 told (meaning.weak (e ∷ (d ∷ l))) = record { outcome = Weak; cut = record { count = 2; first = e; second = d } }
 told meaning.firm = record { outcome = Firm; cut = unnamed }
 
+-- the edges that a cut names
+abbrev pub named : Lowest → List ℕ
+named cut = take (cut .count) (cut .first ∷ (cut .second ∷ []))
+
 -- 01: firm: the record passes and the numbers behind it stay; weak or refused: the lent record is unchanged
 pub record Answered (n : ℕ) (ends before after : List ℕ) (r : Finding) : Type 0 where
   pub answer : r ≡ told (meaning.verdict limits n always ends (length before))

@@ -18,7 +18,7 @@ use Rattle.connectivity.proofs.Stage.{AllBetween, all-degree, all-inner
 use Rattle.connectivity.proofs.Build.{steps-edges, edges-count}
 
 -- a walk has one edge more than inner vertices
-walk-length : {g : Graph} {u w : ℕ} {legs : List Leg} → Walk g u legs w → length (edgesOf legs) ≡ suc (length (inner legs))
+pub walk-length : {g : Graph} {u w : ℕ} {legs : List Leg} → Walk g u legs w → length (edgesOf legs) ≡ suc (length (inner legs))
 walk-length (last e j) = refl
 walk-length (then e j (last d i)) = refl
 walk-length (then e j (then d i k)) = let h = walk-length (then d i k) in omega arith

@@ -100,7 +100,7 @@ paths-fresh {g} {a} {b} {legs} walks some before k whole = (there, back)
 
 -- One row more.
 
-froms-snoc : (legs : List Leg) (l : Leg) → froms (legs ++ (l ∷ [])) ≡ froms legs ++ (l .from ∷ [])
+pub froms-snoc : (legs : List Leg) (l : Leg) → froms (legs ++ (l ∷ [])) ≡ froms legs ++ (l .from ∷ [])
 froms-snoc [] l = refl
 froms-snoc (m ∷ legs) l = ap (λ (r : List ℕ). m .from ∷ r) (froms-snoc legs l)
 

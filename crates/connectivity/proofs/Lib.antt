@@ -25,3 +25,8 @@ pub mod Label
 pub mod Grow
 pub mod Theta
 pub mod Once
+pub mod Shorten
+pub mod First
+pub mod Ears
+pub mod Find
+pub mod Complete

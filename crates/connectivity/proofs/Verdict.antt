@@ -44,7 +44,7 @@ module _ {limits : Limits} {n : ℕ} {ends : List ℕ} (a : Admitted limits n en
 
   -- enough
   module _ (h : 3 * length (edges g) ≤ space) where
-    reaches : verdict limits n always ends space ≡ verdictOn (lowestCut g)
+    pub reaches : verdict limits n always ends space ≡ verdictOn (lowestCut g)
     unfolding verdict
     reaches = rw (admission-is limits n ends .1 a, le-ltb space (3 * length (edges g)) h)
 

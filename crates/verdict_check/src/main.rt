@@ -3,12 +3,12 @@ use libc::STDOUT_FILENO;
 ghost use Rattle.io.specs.Counts.{Counts};
 
 fn main() {
-    // One byte more than the longest text in the form: a longer text is answered as its front is (proofs/Longer of `verify`).
+    // One byte more than the longest text in the form: a longer text is answered as its front is (proofs/Longer of `verify_texts`).
     let mut plan = [0u8; text::PLAN_SIZE + 1];
     let mut verdict = [0u8; text::VERDICT_SIZE + 1];
     let plan_length = read_file(b"plan.txt", &mut plan);
     let verdict_length = read_file(b"verdict.txt", &mut verdict);
-    let answer = verify::texts::check_texts(&plan[..plan_length], &verdict[..verdict_length]);
+    let answer = verify_texts::check_texts(&plan[..plan_length], &verdict[..verdict_length]);
     io::write_all(STDOUT_FILENO, &text::answer_line(answer));
 }
 

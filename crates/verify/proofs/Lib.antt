@@ -8,7 +8,3 @@ pub mod Adding
 pub mod Tests
 pub mod Turns
 pub mod Judged
-pub mod Numbers
-pub mod TwoTexts
-pub mod Stored
-pub mod Longer

@@ -1,4 +1,2 @@
 pub mod Marks
 pub mod Weak
-pub mod Texts
-pub mod Board

@@ -13,8 +13,6 @@ ghost use Rattle.verify.specs.Weak.{InTurn};
 
 mod state; // state.rt: the build state of a firm verdict
 mod firm; // firm.rt: its rows in turn
-pub mod texts; // texts.rt: the check of a plan text and a verdict text
-pub mod board; // board.rt: both for C, as a board's firmware calls them
 
 // A verdict of the kind `kind` with the numbers `list` about a plan: 0 and 0 if it passes, else the plan's own 1 to 5 or the first of 9
 // to 17 in 01's order. It only reads.

@@ -1,0 +1,115 @@
+-- `write_admitted` meets its contract: the table of rows has room for every admitted plan, so it is weak or firm, and what is found of it is
+-- written.
+use mathlib.Core.Path.{_≡_}
+use Prim.Native.Nat.{ℕ, _*_, _/_, _≤_}
+use native.Mathlib.Omega.{arith}
+use lib.ListN.{length, take, length-take, length-replicate}
+use borrow.Author.Needs.{needs}
+use Rattle.certify.specs.Answered.{named}
+use Rattle.certify_texts.specs.Says.{SaysOf}
+use Rattle.certify_texts.proofs.Saying.{never-refused, says-weak, says-firm}
+use Rattle.certify_texts.proofs.write_admitted.Statement.{statement}
+use Rattle.certify_texts.proofs.write_admitted.Tie as tie
+
+-- a weak plan
+said-weak : (o : tie.After-enum-told) → let start = o .before .before .before .before .before .before .before in let cut = o .before .before .before .verdict .result .cut in
+    (cut .count ≤ 2) × SaysOf (start .args .vertices) (start .args .ends .now) 1 (named cut)
+said-weak o = says-weak (o .before .before .before .before .before .before .before .pre) (length-replicate {A = ℕ} 12000 0) (o .before .before .before .verdict .ensures) (o .enum-told .given .1)
+
+-- src/lib.rt:41:50
+slice-aggregate-verdict : tie.Need-slice-aggregate-verdict
+slice-aggregate-verdict c = search needs
+
+-- src/lib.rt:41:9
+verdict-requires : tie.Need-verdict-requires
+verdict-requires c κs = search needs
+
+-- src/lib.rt:44:26
+enum-known-outcome : tie.Need-enum-known-outcome
+enum-known-outcome c = search needs
+
+-- src/lib.rt:44:37
+write-refusal-requires : tie.Need-write-refusal-requires
+write-refusal-requires c κs = search needs
+
+-- src/lib.rt:45:48
+enum-told : tie.Need-enum-told
+enum-told c = search needs
+
+-- src/lib.rt:45:26
+write-weak-requires : tie.Need-write-weak-requires
+write-weak-requires c κs = said-weak (c .before) .0
+
+-- src/lib.rt:47:29
+enum-told-2 : tie.Need-enum-told-2
+enum-told-2 c = search needs
+
+-- src/lib.rt:47:24
+mul-size : tie.Need-mul-size
+mul-size c = search needs
+
+-- src/lib.rt:48:36
+array-share-prefix-rows : tie.Need-array-share-prefix-rows
+array-share-prefix-rows c = search needs
+
+-- src/lib.rt:48:36
+slice-aggregate-write-verdict : tie.Need-slice-aggregate-write-verdict
+slice-aggregate-write-verdict c = simp length-take (omega (arith, c .before .before .before .before .before .before .before .before .pre .edges))
+
+-- src/lib.rt:48:13
+write-verdict-requires : tie.Need-write-verdict-requires
+write-verdict-requires c κs = search needs
+
+-- src/lib.rt:36:1
+same-length : tie.Need-same-length
+same-length c = search needs
+
+-- src/lib.rt:36:1
+returns : tie.Need-returns
+returns c =
+    let o = c .before .before .before .before .before in
+    never-refused (o .before .before .before .before .before .before .before .pre) (length-replicate {A = ℕ} 12000 0) (o .before .before .before .verdict .ensures) (o .outcome .given .1)
+
+-- src/lib.rt:36:1
+same-length-2 : tie.Need-same-length-2
+same-length-2 c = search needs
+
+-- src/lib.rt:36:1
+returns-2 : tie.Need-returns-2
+returns-2 c = record { kind = 1; list = _; says = said-weak (c .before .before .before .before) .1; written = c .before .before .write-weak .ensures }
+
+-- src/lib.rt:36:1
+same-length-3 : tie.Need-same-length-3
+same-length-3 c = search needs
+
+-- src/lib.rt:36:1
+returns-3 : tie.Need-returns-3
+returns-3 c =
+    let o = c .before .before .before .before .before in record {
+      kind = 0;
+      list = _;
+      says = says-firm (o .before .before .before .before .before .before .before .pre) (length-replicate {A = ℕ} 12000 0) (o .before .before .before .verdict .ensures) (o .enum-told2 .given .1);
+      written = c .before .before .write-verdict .ensures;
+    }
+
+pub write-admitted-spec : {M : Type 1} → statement M
+write-admitted-spec =
+    tie.close
+    (tie.spec
+    slice-aggregate-verdict
+    verdict-requires
+    enum-known-outcome
+    write-refusal-requires
+    enum-told
+    write-weak-requires
+    enum-told-2
+    mul-size
+    array-share-prefix-rows
+    slice-aggregate-write-verdict
+    write-verdict-requires
+    same-length
+    returns
+    same-length-2
+    returns-2
+    same-length-3
+    returns-3)

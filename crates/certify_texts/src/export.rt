@@ -1,0 +1,50 @@
+// The writer for C: include/hearthtansy_writer.h declares these functions. A slice is a pointer and a length.
+use certify::Finding;
+use certify::Outcome;
+use text::Written;
+ghost use mathlib.Core.Path.{_≡_};
+ghost use Rattle.certify_texts.specs.Packed.{four, packed, Packed, bytesIn, TextLength};
+
+// The verdict on a plan; a firm one's record stands at the front of `rows`.
+#[no_mangle]
+pub extern "C" fn hearthtansy_verdict(vertices: u16, ends: &[u16], rows: &mut [u16]) -> u64
+    ensures { λ r. ⌜ Packed vertices (now (ends .entry)) (now (rows .entry)) (now (rows .exit)) r ⌝ }
+{
+    pack(certify::verdict(vertices, ends, rows))
+}
+
+// The verdict text of a plan text; how many bytes it has, or 0 where `text` is shorter.
+#[no_mangle]
+pub extern "C" fn hearthtansy_verdict_text(plan: &[u8], text: &mut [u8]) -> usize
+    ensures { λ r. ⌜ TextLength (now (plan .entry)) (now (text .entry)) (now (text .exit)) r ⌝ }
+{
+    count(crate::verdict_text(plan, text))
+}
+
+fn pack(found: Finding) -> u64
+    ensures { λ r. ⌜ r ≡ packed found ⌝ }
+{
+    let cut = found.cut;
+    let outcome = found.outcome;
+    match outcome {
+        Outcome::Firm => 0,
+        Outcome::Weak => join(1, cut.count, cut.first, cut.second),
+        Outcome::Refused(answer) => join(2, answer.number, answer.place, 0),
+    }
+}
+
+// Four numbers in one.
+fn join(a: u16, b: u16, c: u16, d: u16) -> u64
+    ensures { λ r. ⌜ r ≡ four a b c d ⌝ }
+{
+    ((a as u64 * 65536 + b as u64) * 65536 + c as u64) * 65536 + d as u64
+}
+
+fn count(written: Written) -> usize
+    ensures { λ r. ⌜ r ≡ bytesIn written ⌝ }
+{
+    match written {
+        Written::Bytes(count) => count,
+        Written::Refused(_) => 0,
+    }
+}

@@ -1,0 +1,133 @@
+-- Where no ear is left, every edge is built: an exit of a link and an exit from an edge each give an ear.
+use mathlib.Core.Path.{_≡_, refl, sym, subst}
+use mathlib.Core.Logic.{_⊎_, inl, inr}
+use mathlib.Core.List.{List, [], _∷_, _++_, List·Memᴰ as In, List·Memᴰ·not-nil as not-in, List·Memᴰ·cases-cons as in-cons}
+use Prim.Native.Nat.{ℕ}
+use native.Mathlib.Omega.{arith}
+use native.Mathlib.Decide.{ℕ-discrete, decLe}
+use Rattle.connectivity.specs.Lists.{Distinct, none, one}
+use Rattle.connectivity.specs.Graph.{Graph, Edge, Joins}
+use Rattle.connectivity.specs.Reach.{Without, ThreeEdgeConnected, Through}
+use Rattle.connectivity.specs.Walk.{Leg, Walk, last, froms, edgesOf, allEdges, degree, Built, Branch}
+use Rattle.connectivity.specs.Mader.{Ear, Steps, theta, ear}
+use Rattle.connectivity.proofs.Lists.{in-dec}
+use Rattle.connectivity.proofs.Distinct.{join-distinct}
+use Rattle.connectivity.proofs.Reach.{joins-sym}
+use Rattle.connectivity.proofs.Degree.{degree-append, built-vertex}
+use Rattle.connectivity.proofs.Stage.{all-degree}
+use Rattle.connectivity.proofs.Sound.{stage}
+use Rattle.connectivity.proofs.Legs.{leg, walk-snoc, edges-snoc, distinct-between}
+use Rattle.connectivity.proofs.Build.{steps-edges}
+use Rattle.connectivity.proofs.Fresh.{Fresh, ear-fresh, fresh-snoc}
+use Rattle.connectivity.proofs.Grow.{Inside, FromLink, link-exit, branch-exit, next-edge, ear-from-link, ear-from-branch}
+use Rattle.connectivity.proofs.Once.{walk-once, ear-once}
+use Rattle.connectivity.proofs.Shorten.{path-live, path-new, edge-path, Back, back}
+
+-- an ear over edges that are not built, none twice
+pub record Next (g : Graph) (built : List ℕ) : Type 0 where
+  pub from : ℕ
+  pub legs : List Leg
+  pub to : ℕ
+  pub ear : Ear g built from legs to
+  pub once : Distinct (edgesOf legs ++ built)
+
+module _ {g : Graph} {built : List ℕ} (once : Distinct built) where
+  -- from a built vertex outside a link back into it
+  link-ear : {p s t : ℕ} → Built g built p → Inside g built p s → Built g built t → (Inside g built p t → ⊥)
+      → Through g (Without built) (FromLink g built p) s t → Next g built
+  link-ear {p} {s} {t} h i b n r = elim (back (λ v k. k) i r) [
+    | inl k ↦ absurd (n k)
+    | inr k ↦ let way = k .way in
+        let q = ear-from-link h (way .ends) b n (edge-path (k .joins) (way .path)) (λ v m. path-new (way .path) m) (way .once) in
+        record {
+          from = t;
+          legs = leg (k .edge) t ∷ way .legs;
+          to = way .to;
+          ear = q;
+          once = ear-once q (λ o. n (subst (Inside g built p) (sym o) (way .ends)))
+              (λ e m. elim (in-cons m) [ inl o ↦ rw o (k .over) | inr o ↦ path-live (way .path) o ]) once;
+        }
+  ]
+
+  module _ (all : (v : ℕ) → Built g built v → Branch g built v) {e a u : ℕ} (j : Joins g e a u) (h : Built g built a) (new : In e built → ⊥) where
+    -- an edge between built vertices
+    edge-ear : Built g built u → Next g built
+    edge-ear b = record {
+      from = u;
+      legs = leg e u ∷ [];
+      to = a;
+      ear = ear-from-branch all h b (last e (joins-sym j)) (λ v i. absurd (not-in i)) none;
+      once = one new once;
+    }
+
+    -- from a built vertex back to the end u of an edge, and over the edge
+    abbrev Off : ℕ → Type 0
+    Off v = (Built g built v → ⊥) × (v ≡ u → ⊥)
+
+    abbrev Live : ℕ → Type 0
+    Live x = (In x built → ⊥) × (x ≡ e → ⊥)
+
+    module _ (fresh : Built g built u → ⊥) {t : ℕ} (b : Built g built t) (k : Back g Live Off (λ v. v ≡ u) t) where
+      abbrev low : List Leg
+      low = leg (k .edge) t ∷ k .way .legs
+
+      to-u : Walk g t low u
+      to-u = subst (Walk g t low) (k .way .ends) (edge-path (k .joins) (k .way .path))
+
+      over-low : {x : ℕ} → In x (edgesOf low) → Live x
+      over-low i = elim (in-cons i) [ inl p ↦ rw p (k .over) | inr m ↦ path-live (k .way .path) m ]
+
+      off-u : In u (froms low) → ⊥
+      off-u i = elim (in-cons i) [ inl p ↦ fresh (rw p b) | inr m ↦ path-new (k .way .path) m .1 refl ]
+
+      low-once : Distinct (froms low)
+      low-once = one (λ i. path-new (k .way .path) i .0 b) (k .way .once)
+
+      long-fresh : Fresh g built (low ++ (leg e u ∷ []))
+      long-fresh = fresh-snoc e to-u .1 (record { once = low-once; new = λ v i. path-new (k .way .path) i .0 }, off-u, fresh)
+
+      long-ear : Next g built
+      long-ear = let w = walk-snoc to-u (joins-sym j) in let f = ear-fresh w b .1 long-fresh in record {
+        from = t;
+        legs = low ++ (leg e u ∷ []);
+        to = a;
+        ear = ear-from-branch all h b w (f .1) (f .0);
+        once = subst (λ (l : List ℕ). Distinct (l ++ built)) (sym (edges-snoc low (leg e u))) (distinct-between (edgesOf low) built (λ i. over-low i .1 refl) new
+            (join-distinct (edgesOf low) (walk-once to-u low-once off-u) once (λ x i. over-low i .0)));
+      }
+
+-- some vertex is built
+pub steps-built : {g : Graph} {walks : List (List Leg)} → Steps g walks → (v : ℕ) × Built g (allEdges walks) v
+steps-built (theta {a = a} {walks = walks} t) = (a, omega (arith, t .three, all-degree walks (t .between)))
+steps-built {g} (ear {walks = walks} {u = u} {legs = legs} s k) = (u, omega (arith, k .begins, degree-append g (edgesOf legs) (allEdges walks) u))
+
+module _ {g : Graph} {walks : List (List Leg)} (t : ThreeEdgeConnected g) (s : Steps g walks) (once : Distinct (allEdges walks))
+    (stuck : Next g (allEdges walks) → ⊥) where
+  abbrev built : List ℕ
+  built = allEdges walks
+
+  -- every built vertex is a branch
+  branches : (v : ℕ) → Built g built v → Branch g built v
+  branches v h = elim (decLe 3 (degree g built v)) [
+    | yes b ↦ b
+    | no n ↦ absurd (link-exit t (stage s once) h n (λ u w i b o hw r. stuck (link-ear once h i b o r)))
+  ]
+
+  -- an edge at a built vertex is built
+  at-built : (e a u : ℕ) → Joins g e a u → Built g built a → In e built
+  at-built e a u j h = elim (in-dec e built) [
+    | yes i ↦ i
+    | no n ↦ elim (decLe 1 (degree g built u)) [
+      | yes b ↦ absurd (stuck (edge-ear once branches j h n b))
+      | no f ↦ absurd (branch-exit {built = built} t j h (λ w b r. elim (back new refl r) [
+        | inl p ↦ f (rw (← p) b)
+        | inr k ↦ stuck (long-ear once branches j h n f b k)
+      ]))
+    ]
+  ]
+    where
+      new : (v : ℕ) → (Built g built v → ⊥) → (v ≡ u) ⊎ ((Built g built v → ⊥) × (v ≡ u → ⊥))
+      new v m = elim (ℕ-discrete v u) [ yes p ↦ inl p | no n ↦ inr (m, n) ]
+
+  pub every-edge : (e : ℕ) → Edge g e → In e built
+  every-edge = let (v, b) = steps-built s in next-edge t at-built v (built-vertex built (λ e i. steps-edges s i) b) b

@@ -1,0 +1,4 @@
+pub mod Numbers
+pub mod TwoTexts
+pub mod Stored
+pub mod Longer

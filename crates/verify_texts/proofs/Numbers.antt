@@ -1,0 +1,89 @@
+-- The check's own answers are 0 to 5 and 9 to 17: 6, 7 and 8 are the lent space's and the texts'.
+use mathlib.Core.Logic.{_⊎_, inl, inr}
+use mathlib.Core.Bool.{Bool, _&&_, _||_}
+use mathlib.Core.List.{List, [], _∷_, _++_}
+use Prim.Native.Nat.{ℕ, suc, _*_, _/_, _%_, _≤_}
+use native.Mathlib.Omega.{arith}
+use lib.Dec.{eqb, ltb, leb}
+use lib.ListN.{length}
+use Rattle.connectivity.specs.Lists.{all}
+use Rattle.connectivity.specs.Graph.{Graph, graphOf, isEdge, vertices, edges}
+use Rattle.connectivity.specs.Cut.{disconnects}
+use Rattle.connectivity.specs.Walk.{Leg, allEdges, isBranch}
+use Rattle.connectivity.specs.Admission.{Limits, Answer, andThen, edgeNumber, endsAnswer, admission}
+use Rattle.connectivity.specs.Judge.{Row, rowsOf, legOf, stepFits, edgeFits, fromFits, rowNumber, pathsFit, earFits, linksFit, stepNumber, closingNumber, isLast, judgeRows, ascending, judgeFirm, judgeWeak, judgeGraph, judge}
+use Rattle.connectivity.proofs.Admission.{cond-both}
+
+abbrev pub Own : ℕ → Type 0
+Own k = (k ≤ 5) ⊎ ((9 ≤ k) × (k ≤ 17))
+
+abbrev pub Owned : Answer → Type 0
+Owned a = Own (a .number)
+
+then-own : (x y : Answer) → Owned x → Owned y → Owned (andThen x y)
+unfolding andThen
+then-own x y p q = cond-both Owned (eqb (x .number) 0) q p
+
+-- an edge's, 4 and 5
+edge-five : (n a b : ℕ) → edgeNumber n a b ≤ 5
+unfolding edgeNumber
+edge-five n a b = cond-both (λ k. k ≤ 5) (ltb a n && ltb b n) (cond-both (λ k. k ≤ 5) (eqb a b) (omega arith) (omega arith)) (omega arith)
+
+pub ends-five : (n e : ℕ) (ends : List ℕ) → (endsAnswer n e ends) .number ≤ 5
+unfolding endsAnswer andThen
+ends-five n e [] = omega arith
+ends-five n e (a ∷ []) = omega arith
+ends-five n e (a ∷ (b ∷ ends)) = cond-both (λ (x : Answer). x .number ≤ 5) (eqb (edgeNumber n a b) 0) (ends-five n (suc e) ends) (edge-five n a b)
+
+admission-own : (limits : Limits) (n : ℕ) (ends : List ℕ) → Own ((admission limits n ends) .number)
+unfolding admission
+admission-own limits n ends = cond-both Owned (eqb (length ends % 2) 0)
+    (cond-both Owned (ltb n 2 || ltb (limits .vertices) n) (inl (omega arith)) (cond-both Owned (ltb (limits .edges) (length ends / 2)) (inl (omega arith)) (inl (ends-five n 0 ends))))
+    (inl (omega arith))
+
+row-own : (g : Graph) (done : List (List Leg)) (walk : List Leg) (r : Row) → Own (rowNumber g done walk r)
+unfolding rowNumber
+row-own g done walk r = cond-both Own (stepFits done r)
+    (cond-both Own (edgeFits g done walk r) (cond-both Own (fromFits g walk r) (inl (omega arith)) (inr (omega arith, omega arith))) (inr (omega arith, omega arith)))
+    (inr (omega arith, omega arith))
+
+step-own : (g : Graph) (done : List (List Leg)) (walk : List Leg) → Own (stepNumber g done walk)
+unfolding stepNumber
+step-own g done walk = cond-both Own (ltb (length done) 3)
+    (cond-both Own (pathsFit g done walk) (inl (omega arith)) (inr (omega arith, omega arith)))
+    (cond-both Own (earFits g (allEdges done) walk) (cond-both Own (linksFit g (allEdges done) walk) (inl (omega arith)) (inr (omega arith, omega arith))) (inr (omega arith, omega arith)))
+
+closing-own : (g : Graph) (done : List (List Leg)) → Own (closingNumber g done)
+unfolding closingNumber
+closing-own g done = cond-both Own (leb 3 (length done) && all (isBranch g (allEdges done)) (vertices g)) (inl (omega arith)) (inr (omega arith, omega arith))
+
+rows-own : (g : Graph) (done : List (List Leg)) (walk : List Leg) (k : ℕ) (rows : List Row) → Owned (judgeRows g done walk k rows)
+unfolding judgeRows
+rows-own g done walk k [] = closing-own g done
+rows-own g done walk k (r ∷ rest) =
+    let longer = walk ++ (legOf r ∷ []) in
+    then-own _ _ (row-own g done walk r)
+    (cond-both Owned (isLast r rest) (then-own _ _ (step-own g done longer) (rows-own g (longer ∷ done) [] (suc k) rest)) (rows-own g done longer (suc k) rest))
+
+ascending-own : (g : Graph) (k low : ℕ) (list : List ℕ) → Owned (ascending g k low list)
+unfolding ascending
+ascending-own g k low [] = inl (omega arith)
+ascending-own g k low (e ∷ list) = cond-both Owned (isEdge g e && leb low e) (ascending-own g (suc k) (suc e) list) (inr (omega arith, omega arith))
+
+firm-own : (g : Graph) (list : List ℕ) → Owned (judgeFirm g list)
+unfolding judgeFirm
+firm-own g list = cond-both Owned (eqb (length list) (3 * length (edges g))) (rows-own g [] [] 0 (rowsOf list)) (inr (omega arith, omega arith))
+
+weak-own : (g : Graph) (list : List ℕ) → Owned (judgeWeak g list)
+unfolding judgeWeak
+weak-own g list = cond-both Owned (leb (length list) 2)
+    (then-own _ _ (ascending-own g 0 0 list) (cond-both Owned (disconnects g list) (inl (omega arith)) (inr (omega arith, omega arith))))
+    (inr (omega arith, omega arith))
+
+graph-own : (g : Graph) (kind : ℕ) (list : List ℕ) → Owned (judgeGraph g kind list)
+unfolding judgeGraph
+graph-own g kind list = cond-both Owned (eqb kind 0) (firm-own g list) (cond-both Owned (eqb kind 1) (weak-own g list) (inr (omega arith, omega arith)))
+
+pub judge-own : (limits : Limits) (n : ℕ) (kept : ℕ → Bool) (ends : List ℕ) (kind : ℕ) (list : List ℕ) → Own ((judge limits n kept ends kind list) .number)
+unfolding judge
+judge-own limits n kept ends kind list = then-own _ _ (admission-own limits n ends) (graph-own (graphOf n kept ends) kind list)

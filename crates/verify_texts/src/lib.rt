@@ -1,0 +1,40 @@
+// The check of a plan text and a verdict text. The tables of both have room for every text in the form.
+use graph::Admission;
+use graph::Answer;
+use graph::Graph;
+use text::VerdictRead;
+ghost use mathlib.Core.Path.{_≡_};
+ghost use Rattle.connectivity.specs.Admission.{limits};
+ghost use Rattle.graph.specs.Admission.{toldBy};
+ghost use Rattle.text.specs.Column.{five, largest};
+ghost use Rattle.text.specs.Plan.{Reading};
+ghost use Rattle.verify_texts.specs.Texts.{verdictIn, judgeRead, judgeTexts};
+
+pub mod board; // board.rt: the check for C, as a board's firmware calls it
+
+// The plan is read first, and any refusal there is the answer.
+pub fn check_texts(plan: &[u8], verdict: &[u8]) -> Answer
+    ensures { λ r. ⌜ r ≡ toldBy (judgeTexts (now (plan .entry)) (now (verdict .entry))) ⌝ }
+{
+    let mut ends = [0u16; 2 * Graph::MAX_EDGES];
+    let read = text::read_plan(plan, &mut ends);
+    match read {
+        Admission::Refused(answer) => answer,
+        Admission::Admitted(graph) => {
+            let size = 2 * graph.edges as usize;
+            check_verdict(graph.vertices, &ends[..size], verdict)
+        }
+    }
+}
+
+// Then the verdict, about a plan that has been read.
+fn check_verdict(vertices: u16, ends: &[u16], verdict: &[u8]) -> Answer
+    ensures { λ r. ⌜ r ≡ toldBy (judgeRead limits (Reading.read vertices (now (ends .entry))) (verdictIn five largest limits (now (verdict .entry)))) ⌝ }
+{
+    let mut list = [0u16; 3 * Graph::MAX_EDGES];
+    let read = text::read_verdict(verdict, &mut list);
+    match read {
+        VerdictRead::Refused(answer) => answer,
+        VerdictRead::Read { kind, count } => verify::check(vertices, ends, kind, &list[..count]),
+    }
+}

@@ -1,0 +1,63 @@
+/*
+ * Hearthtansy: the writer of verdicts, for a program that prepares plans. A board's firmware needs hearthtansy.h alone.
+ *
+ * Both functions keep nothing between calls and always return. No input is taken on trust: every number and every byte is judged, and
+ * what can't be taken is answered by a refusal.
+ *
+ * The caller sees to it that each pointer is not null, also where its length is 0, that it is aligned for its type, that as many numbers
+ * or bytes stand behind it as its length says, that nothing else changes or reads them until the call returns, and that what is written
+ * to does not overlap what is read.
+ */
+#ifndef HEARTHTANSY_WRITER_H
+#define HEARTHTANSY_WRITER_H
+
+#include <stddef.h>
+#include <stdint.h>
+
+#ifdef __cplusplus
+extern "C" {
+#endif
+
+/*
+ * The verdict on a plan. `ends` has two numbers for each tab, the pieces that it joins; `rows` is lent for the record. The lengths count
+ * numbers, not bytes. The answer is four numbers of sixteen bits, the first in the uppermost:
+ *
+ *   0, 0, 0, 0           firm: the first three numbers for each tab in `rows` are the record (step, tab, piece), which passes the check;
+ *                        those behind stay
+ *   1, count, tab, tab   weak: the fewest tabs whose loss parts the sheet, the lowest such set; unused places are 0. `rows` is unchanged
+ *   2, number, place, 0  refused: 1 to 5 as hearthtansy.h has them, or 6, fewer than three numbers for each tab. `rows` is unchanged
+ */
+uint64_t hearthtansy_verdict(uint16_t vertices, const uint16_t *ends, size_t ends_length, uint16_t *rows, size_t rows_length);
+
+/*
+ * The verdict text of a plan text, at the front of `text`; the bytes behind it stay. For a plan that is refused it is of kind 2 with the
+ * refusal's number. The answer is its length, or 0 where `text` has fewer bytes; then `text` is unchanged. 64,011 bytes are always enough.
+ */
+size_t hearthtansy_verdict_text(const uint8_t *plan, size_t plan_length, uint8_t *text, size_t text_length);
+
+/* The parts of a verdict. */
+static inline uint16_t hearthtansy_kind(uint64_t verdict)
+{
+    return (uint16_t)(verdict >> 48);
+}
+
+static inline uint16_t hearthtansy_count(uint64_t verdict)
+{
+    return (uint16_t)(verdict >> 32);
+}
+
+static inline uint16_t hearthtansy_first(uint64_t verdict)
+{
+    return (uint16_t)(verdict >> 16);
+}
+
+static inline uint16_t hearthtansy_second(uint64_t verdict)
+{
+    return (uint16_t)verdict;
+}
+
+#ifdef __cplusplus
+}
+#endif
+
+#endif
