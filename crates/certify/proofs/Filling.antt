@@ -5,11 +5,11 @@ use mathlib.Core.List.{List}
 use Prim.Native.Nat.{ℕ, _+_, _≤_, _<_}
 use native.Mathlib.Omega.{arith}
 use native.Mathlib.Decide.{decLt}
-use lib.Dec.{ltb}
+use lib.Dec.{eqb, ltb}
 use lib.ListN.{length, getD, set, length-set}
 use lib.Seq.{getD-set-same, getD-set-other}
 use borrow.Author.Count.{below-more}
-use borrow.Author.Tests.{ltb-true, ltb-false}
+use borrow.Author.Tests.{eqb-true, eqb-false, ltb-true, ltb-false}
 use Rattle.certify.specs.Growth.{Filled}
 use Rattle.certify.specs.Step.{Tells}
 
@@ -42,6 +42,13 @@ tells-less {P} a b f h = go (ltb a b) refl
     go : (t : Bool) → ltb a b ≡ t → Tells t P
     go true e = f (ltb-true a b e)
     go false e = λ p. omega (arith, ltb-false a b e, h p)
+
+pub tells-same : {P : Type 0} (a b : ℕ) → (a ≡ b → P) → (P → a ≡ b) → Tells (eqb a b) P
+tells-same {P} a b f h = go (eqb a b) refl
+  where
+    go : (t : Bool) → eqb a b ≡ t → Tells t P
+    go true e = f (eqb-true a b e)
+    go false e = λ p. eqb-false a b e (h p)
 
 -- a built vertex that is not plain is a branch
 pub not-plain : {d : ℕ} → ((1 ≤ d) × (d < 3) → ⊥) → 1 ≤ d → 3 ≤ d

@@ -10,8 +10,10 @@ pub mod Opened
 pub mod Exits
 pub mod Filling
 pub mod Rooms
+pub mod Around
 pub mod FromLink
 pub mod FromEdge
+pub mod LinkWay
 pub mod Counting
 pub mod Recording
 pub mod Answering

@@ -1,29 +1,30 @@
 -- The record grows by three walks and then ears; when every edge is built it builds the plan.
 use mathlib.Core.Path.{_≡_, refl, sym, ap, subst, _∙_}
-use mathlib.Core.Logic.{_⊎_, inl, inr, _↔_}
-use mathlib.Core.List.{List, [], _∷_, _++_, append-nil, append-assoc, List·Memᴰ as In, List·Memᴰ·head as first, List·Memᴰ·tail as later, List·Memᴰ·not-nil as not-in, List·Memᴰ·append-cases as in-cases, Memᴰ·append-left as in-left, Memᴰ·append-right as in-right, List·Memᴰ·cases-cons as in-cons, Memᴰ·cast}
+use mathlib.Core.Logic.{inl, inr}
+use mathlib.Core.List.{List, [], _∷_, _++_, append-nil, append-assoc, List·Memᴰ as In, List·Memᴰ·head as first, List·Memᴰ·tail as later, List·Memᴰ·append-cases as in-cases, Memᴰ·append-left as in-left, Memᴰ·append-right as in-right, List·Memᴰ·cases-cons as in-cons, Memᴰ·cast}
 use Prim.Native.Nat.{ℕ, zero, suc, _+_, _-_, _*_, _/_, _≤_, _<_}
 use native.Mathlib.Omega.{arith}
 use native.Mathlib.Decide.{decLt}
-use lib.ListN.{length, getD, drop, take, length-append, length-drop, List·getD-append}
+use lib.ListN.{length, getD, drop, take, length-append, List·getD-append}
 use lib.Seq.{drop-append-seam, drop-append-add, drop-drop}
 use Rattle.connectivity.specs.Lists.{Distinct, one}
 use Rattle.connectivity.specs.Graph.{Graph, Edge, graphOf, always, edges}
 use Rattle.connectivity.specs.Walk.{Leg, Walk, last, then, edgesOf, allEdges, degree}
-use Rattle.connectivity.specs.Mader.{Theta, Ear, Steps, theta, ear, stepRows, rows, Builds}
+use Rattle.connectivity.specs.Mader.{Steps, theta, ear, stepRows, rows}
 use Rattle.connectivity.specs.Admission.{Admitted, limits}
 use Rattle.connectivity.proofs.Lists.{in-dec}
 use Rattle.connectivity.proofs.Search.{edges-are}
 use Rattle.connectivity.proofs.Degree.{degree-append, part-length}
-use Rattle.connectivity.proofs.Build.{steps-edges, walk-edges}
+use Rattle.connectivity.proofs.Build.{steps-edges}
 use Rattle.connectivity.proofs.Sound.{stage}
 use Rattle.connectivity.proofs.Grow.{all-branches}
 use Rattle.connectivity.proofs.Admission.{admitted-edges}
-use Rattle.certify.specs.Step.{Written, Sturdy, Opened, Marks, Growing, Grown, GrownBy}
-use Rattle.certify.specs.Record.{Rowing, Rowed, Recording, Recorded}
+use Rattle.certify.specs.Step.{Written, Sturdy, Opened, Marks, around, Ready, Grown, GrownFrom}
+use Rattle.certify.specs.Record.{Tables, Rowing, Rowed, Recording, Recorded}
 use Rattle.certify.proofs.Written.{rows-length, written-part, written-length, part-long}
 use Rattle.certify.proofs.Rooms.{legs-edges}
 use Rattle.certify.proofs.FromEdge.{edge-below}
+use Rattle.certify.proofs.Around.{around-append}
 
 -- The edges of rows, in the order of the rows.
 
@@ -69,6 +70,11 @@ unfolding rowEdges
 same-degree g [] v = refl
 same-degree g (legs ∷ done) v = omega (arith, degree-append g (rowEdges done) (edgesOf legs) v, degree-append g (edgesOf legs) (allEdges done) v, same-degree g done v)
 
+same-around : (g : Graph) (done : List (List Leg)) (v : ℕ) → around g (rowEdges done) v ≡ around g (allEdges done) v
+unfolding rowEdges
+same-around g [] v = refl
+same-around g (legs ∷ done) v = omega (arith, around-append g (rowEdges done) (edgesOf legs) v, around-append g (edgesOf legs) (allEdges done) v, same-around g done v)
+
 same-length : (done : List (List Leg)) → length (rowEdges done) ≡ length (allEdges done)
 unfolding rowEdges
 same-length [] = refl
@@ -106,7 +112,7 @@ module _ {n : ℕ} {ends : List ℕ} (a : Admitted limits n ends) {done : List (
   pub below : (l : List ℕ) → ((e : ℕ) → In e l → In e (allEdges done)) → (k : ℕ) → k < length l → getD l k 0 < length ends / 2
   below l f k h = edge-below n ends (getD l k 0) (steps-edges p (f (getD l k 0) (in-at l k h)))
 
-  -- the marks know no order
+  -- the tables know no order
   marks-order : {degrees used : List ℕ} → Marks n ends (rowEdges done ++ []) degrees used → Marks n ends (allEdges done) degrees used
   marks-order m = record {
     degrees-long = m .degrees-long;
@@ -114,6 +120,15 @@ module _ {n : ℕ} {ends : List ℕ} (a : Admitted limits n ends) {done : List (
     degrees-are = λ v h. m .degrees-are v h ∙ ap (λ (l : List ℕ). degree g l v) (append-nil (rowEdges done)) ∙ same-degree g done v;
     used-built = λ e i. m .used-built e (rw (append-nil (rowEdges done)) (in-steps done i));
     used-other = λ e i. m .used-other e (λ j. i (in-rows done (subst (In e) (append-nil (rowEdges done)) j)));
+  }
+
+  tables-order : {degrees used sums : List ℕ} → Tables n ends (rowEdges done ++ []) degrees used sums → Tables n ends (allEdges done) degrees used sums
+  tables-order t = record {
+    marks = marks-order (t .marks);
+    sums-are = record {
+      long = t .sums-are .long;
+      are = λ v h. t .sums-are .are v h ∙ ap (λ (l : List ℕ). around g l v) (append-nil (rowEdges done)) ∙ same-around g done v;
+    };
   }
 
 -- The first three walks.
@@ -125,13 +140,13 @@ module _ {n : ℕ} {ends before after : List ℕ} {r : ℕ} (s : Sturdy n ends (
   opened-steps : Steps (graphOf n always ends) (o .walks)
   opened-steps = theta (o .theta)
 
-  pub opened-rows : {degrees used : List ℕ} → Marks n ends [] degrees used → Rowing ends after 0 r degrees used
-  opened-rows m = record {
+  pub opened-rows : {degrees used sums : List ℕ} → Tables n ends [] degrees used sums → Rowing ends after 0 r degrees used sums
+  opened-rows t = record {
     n = n;
     admitted = s .admitted;
     built = [];
     new = rowEdges (o .walks);
-    marks = m;
+    tables = t;
     count = omega (arith, o .count, same-length (o .walks));
     rows = λ k h. let p : 0 + k ≡ k = omega arith in
         ap (λ (j : ℕ). getD after (3 * j + 1) 0) p ∙ ap (λ (l : List ℕ). getD l (3 * k + 1) 0) (o .written) ∙ row-edge (o .walks) (drop (length (rows (o .walks))) before) k h;
@@ -152,14 +167,14 @@ module _ {n : ℕ} {ends before after : List ℕ} {r : ℕ} (s : Sturdy n ends (
   }
 
   -- what is written is at the front of the list as it now is
-  pub recording-start : {degrees₀ used₀ degrees used : List ℕ} → Marks n ends [] degrees₀ used₀ → Rowed ends after 0 r degrees₀ used₀ degrees used
-      → Recording n ends after after degrees used r 3
+  pub recording-start : {degrees₀ used₀ sums₀ degrees used sums : List ℕ} → Tables n ends [] degrees₀ used₀ sums₀
+      → Rowed ends after 0 r degrees₀ used₀ sums₀ degrees used sums → Recording n ends after after degrees used sums r 3
   unfolding opened-rows
-  recording-start m w = record {
+  recording-start t w = record {
     done = o .walks;
     steps = opened-steps;
     once = o .once;
-    marks = marks-order (s .admitted) opened-steps (o .once) (w (opened-rows m));
+    tables = tables-order (s .admitted) opened-steps (o .once) (w (opened-rows t));
     row-is = o .count;
     step-is = sym (o .theta .three);
     written = o .written ∙ ap (λ (l : List ℕ). rows (o .walks) ++ l) (sym behind);
@@ -203,7 +218,8 @@ steps-most : {g : Graph} {done : List (List Leg)} → Steps g done → length do
 steps-most (theta {walks = walks} t) = walks-most walks (λ legs i. elim (t .between legs i) [ inl k ↦ walk-some k | inr k ↦ walk-some k ])
 steps-most (ear {walks = walks} {legs = legs} p k) = omega (arith, steps-most p, walk-some (k .walk), legs-edges legs, length-append (edgesOf legs) (allEdges walks))
 
-module _ {n : ℕ} {ends before now degrees used : List ℕ} {row step : ℕ} (s : Sturdy n ends (length before)) (c : Recording n ends before now degrees used row step) where
+module _ {n : ℕ} {ends before now degrees used sums : List ℕ} {row step : ℕ} (s : Sturdy n ends (length before))
+    (c : Recording n ends before now degrees used sums row step) where
   pub recording-most : row ≤ length ends / 2
   recording-most = omega (arith, c .row-is, done-most (s .admitted) (c .steps) (c .once))
 
@@ -216,19 +232,22 @@ module _ {n : ℕ} {ends before now degrees used : List ℕ} {row step : ℕ} (s
   pub recording-steps : step ≤ row
   recording-steps = omega (arith, c .row-is, c .step-is, steps-most (c .steps))
 
-  pub recording-grows : row < length ends / 2 → Growing n ends degrees used (length (take (length now - 3 * row) (drop (3 * row) now)))
+  pub recording-grows : row < length ends / 2 → Ready n ends degrees used sums (length (take (length now - 3 * row) (drop (3 * row) now)))
   recording-grows h = record {
-    admitted = s .admitted;
-    three = s .three;
-    done = c .done;
-    steps = c .steps;
-    once = c .once;
-    marks = c .marks;
-    left = omega (arith, h, c .row-is);
-    fits = omega (arith, part-long now (3 * row), recording-long, s .fits, c .row-is);
+    growing = record {
+      admitted = s .admitted;
+      three = s .three;
+      done = c .done;
+      steps = c .steps;
+      once = c .once;
+      marks = c .tables .marks;
+      left = omega (arith, h, c .row-is);
+      fits = omega (arith, part-long now (3 * row), recording-long, s .fits, c .row-is);
+    };
+    sums-are = c .tables .sums-are;
   }
 
-  pub ear-grown : {count : ℕ} {part : List ℕ} → row < length ends / 2 → GrownBy n ends degrees used step (take (length now - 3 * row) (drop (3 * row) now)) part count
+  pub ear-grown : {count : ℕ} {part : List ℕ} → row < length ends / 2 → GrownFrom n ends degrees used sums step (take (length now - 3 * row) (drop (3 * row) now)) part count
       → Grown n ends (allEdges (c .done)) step (take (length now - 3 * row) (drop (3 * row) now)) part count
   unfolding recording-grows
   ear-grown h w = w (recording-grows h)
@@ -244,13 +263,13 @@ module _ {n : ℕ} {ends before now degrees used : List ℕ} {row step : ℕ} (s
     written-then = written-part (rows (c .done)) (stepRows (length (c .done)) (e .legs)) before now part (3 * row) (c .written) rows-long
         (subst (λ (k : ℕ). Written (stepRows k (e .legs)) (take (length now - 3 * row) (drop (3 * row) now)) part) (c .step-is) (e .written))
 
-    pub ear-rows : Rowing ends after row (row + count) degrees used
+    pub ear-rows : Rowing ends after row (row + count) degrees used sums
     ear-rows = record {
       n = n;
       admitted = s .admitted;
       built = allEdges (c .done);
       new = edgesOf (e .legs);
-      marks = c .marks;
+      tables = c .tables;
       count = omega (arith, e .count, legs-edges (e .legs));
       rows = λ k h.
           let p : 3 * (row + k) + 1 ≡ length (rows (c .done)) + (3 * k + 1) = omega (arith, rows-long) in
@@ -264,14 +283,14 @@ module _ {n : ℕ} {ends before now degrees used : List ℕ} {row step : ℕ} (s
       few = omega (arith, done-most (s .admitted) steps-then (e .once), length-append (edgesOf (e .legs)) (allEdges (c .done)), s .admitted .edges);
     }
 
-    pub recording-next : {degrees' used' : List ℕ} → Rowed ends after row (row + count) degrees used degrees' used'
-        → Recording n ends before after degrees' used' (row + count) (step + 1)
+    pub recording-next : {degrees' used' sums' : List ℕ} → Rowed ends after row (row + count) degrees used sums degrees' used' sums'
+        → Recording n ends before after degrees' used' sums' (row + count) (step + 1)
     unfolding ear-rows
     recording-next w = record {
       done = e .legs ∷ c .done;
       steps = steps-then;
       once = e .once;
-      marks = w ear-rows;
+      tables = w ear-rows;
       row-is = omega (arith, e .count, legs-edges (e .legs), c .row-is, length-append (edgesOf (e .legs)) (allEdges (c .done)));
       step-is = omega (arith, c .step-is);
       written = written-then;

@@ -1,16 +1,17 @@
 -- What the parts of the search for the next ear answer.
 use mathlib.Core.Path.{_≡_}
 use mathlib.Core.Logic.{_⊎_}
-use mathlib.Core.List.{List, List·Memᴰ as In}
-use Prim.Native.Nat.{ℕ, _+_, _*_, _/_, _≤_, _<_}
-use lib.ListN.{length, getD, set}
+use mathlib.Core.List.{List, _∷_, List·Memᴰ as In}
+use Prim.Native.Nat.{ℕ, _+_, _-_, _*_, _/_, _≤_, _<_}
+use lib.ListN.{length, getD}
 use Rattle.connectivity.specs.Lists.{Distinct}
-use Rattle.connectivity.specs.Graph.{Joins, graphOf, always}
-use Rattle.connectivity.specs.Walk.{Leg, Walk, froms, inner, edgesOf}
+use Rattle.connectivity.specs.Graph.{Graph, Edge, Joins, graphOf, always}
+use Rattle.connectivity.specs.Walk.{Leg, Walk, froms, inner, edgesOf, degree, Built, Branch}
 use Rattle.connectivity.specs.Admission.{Admitted, limits}
 use Rattle.connectivity.proofs.Grow.{Inside}
 use Rattle.graph.specs.Search.{Live, Pass, Start, Goal, Marked, FromStart}
-use Rattle.certify.specs.Step.{Path, Marks, Growing}
+use Rattle.certify.specs.Step.{Path, Marks, Sums, Growing, Ready}
+use Rattle.certify.specs.Opening.{farEnd}
 
 -- each of the first k entries stands in a relation to its place
 pub record Filled (R : ℕ → ℕ → Type 0) (k : ℕ) (list : List ℕ) : Type 0 where
@@ -21,29 +22,16 @@ pub record PlainVertex (n : ℕ) (degrees : List ℕ) (r : ℕ) : Type 0 where
   pub found : r < n → (1 ≤ getD degrees r 0) × (getD degrees r 0 < 3)
   pub none : n ≤ r → (v : ℕ) → v < n → 1 ≤ getD degrees v 0 → 3 ≤ getD degrees v 0
 
--- the mark of an edge that is dead where it is not built
-pub record BuiltOnly (used : List ℕ) (e r : ℕ) : Type 0 where
-  pub built : (getD used e 0 ≡ 0 → ⊥) → r ≡ 0
-  pub other : getD used e 0 ≡ 0 → r ≡ 1
-
 -- the mark of an edge that is dead where it is built or d
 pub record LessEdge (used : List ℕ) (d e r : ℕ) : Type 0 where
   pub same : e ≡ d → r ≡ 1
   pub other : (e ≡ d → ⊥) → r ≡ getD used e 0
 
--- roles for the search inside the link of p: from p, and no further than to branches
-pub record LinkRole (degrees : List ℕ) (p v r : ℕ) : Type 0 where
-  pub start : r ≡ 1 → v ≡ p
-  pub begins : v ≡ p → getD degrees v 0 < 3 → r ≡ 1
-  pub passed : r < 2 → getD degrees v 0 < 3
-  pub reached : getD degrees v 0 < 3 → r < 2
-  pub most : r ≤ 2
-
 -- roles for the search from a link whose inner vertices are marked: from these, through what is not built, to any other that is
 pub data EarRole (degrees marks : List ℕ) (v r : ℕ) : Type 0 where
   new : getD degrees v 0 ≡ 0 → r ≡ 0 → EarRole degrees marks v r
-  inside : 1 ≤ getD degrees v 0 → getD degrees v 0 < 3 → Marked marks v → r ≡ 1 → EarRole degrees marks v r
-  outside : 1 ≤ getD degrees v 0 → (getD degrees v 0 < 3 → Marked marks v → ⊥) → r ≡ 3 → EarRole degrees marks v r
+  inside : 1 ≤ getD degrees v 0 → Marked marks v → r ≡ 1 → EarRole degrees marks v r
+  outside : 1 ≤ getD degrees v 0 → (Marked marks v → ⊥) → r ≡ 3 → EarRole degrees marks v r
 
 -- roles for the search from u, through what is not built, to what is
 pub data EndRole (degrees : List ℕ) (u v r : ℕ) : Type 0 where
@@ -51,22 +39,86 @@ pub data EndRole (degrees : List ℕ) (u v r : ℕ) : Type 0 where
   new : (v ≡ u → ⊥) → getD degrees v 0 ≡ 0 → r ≡ 0 → EndRole degrees u v r
   goal : (v ≡ u → ⊥) → 1 ≤ getD degrees v 0 → r ≡ 3 → EndRole degrees u v r
 
--- what the search inside the link of p asks
-pub record Linked (n : ℕ) (ends degrees used : List ℕ) (p room : ℕ) : Type 0 where
+-- The link of p, along which its inside is marked.
+
+-- what the tables say of it: p is built and no branch, and each such vertex has two built edges
+pub record Linked (ends degrees used sums : List ℕ) (p : ℕ) : Type 0 where
+  pub n : ℕ
   pub admitted : Admitted limits n ends
-  pub degrees-room : n ≤ length degrees
-  pub used-room : length ends / 2 ≤ length used
+  pub built : List ℕ
+  pub edges : (e : ℕ) → In e built → Edge (graphOf n always ends) e
+  pub marks : Marks n ends built degrees used
+  pub sums-are : Sums n ends built sums
+  pub two : (v : ℕ) → Built (graphOf n always ends) built v → (Branch (graphOf n always ends) built v → ⊥) → degree (graphOf n always ends) built v ≡ 2
   pub below : p < n
-  pub plain : getD degrees p 0 < 3
-  pub fits : n ≤ room
+  pub start : Built (graphOf n always ends) built p
+  pub plain : Branch (graphOf n always ends) built p → ⊥
 
--- and what it leaves: of the vertices that are no branches, those inside the link are marked
-pub record Marking (n : ℕ) (ends built degrees : List ℕ) (p : ℕ) (marks : List ℕ) : Type 0 where
-  pub sound : (v : ℕ) → v < n → getD degrees v 0 < 3 → Marked marks v → Inside (graphOf n always ends) built p v
-  pub whole : (v : ℕ) → v < n → Inside (graphOf n always ends) built p v → Marked marks v
+-- the vertices inside are marked, and no other
+pub record Marking (g : Graph) (built : List ℕ) (p : ℕ) (marks : List ℕ) : Type 0 where
+  pub sound : (v : ℕ) → Marked marks v → Inside g built p v
+  pub whole : (v : ℕ) → Inside g built p v → Marked marks v
 
-abbrev pub MarkedBy : ℕ → List ℕ → List ℕ → List ℕ → ℕ → List ℕ → Type 0
-MarkedBy n ends degrees used p marks = (built : List ℕ) → Marks n ends built degrees used → Marking n ends built degrees p marks
+-- p and others inside are marked; a built edge from one of these leads to a branch, to another one, or to one that is ahead
+pub record Open (g : Graph) (built : List ℕ) (p : ℕ) (ahead marks : List ℕ) : Type 0 where
+  pub start : Marked marks p
+  pub sound : (v : ℕ) → Marked marks v → Inside g built p v
+  pub closed : (e u v : ℕ) → In e built → Joins g e u v → Marked marks u → (Branch g built v → ⊥) → Marked marks v ⊎ In v ahead
+
+-- the way goes on: a built edge leads from a marked vertex to one that is ahead
+pub record Onward (g : Graph) (built : List ℕ) (p from to : ℕ) (rest marks : List ℕ) : Type 0 where
+  pub edge : ℕ
+  pub is-built : In edge built
+  pub joins : Joins g edge from to
+  pub marked : Marked marks from
+  pub so-far : Open g built p (to ∷ rest) marks
+
+-- what `mark_way` asks, and what it leaves
+pub record Following (degrees sums : List ℕ) (from to : ℕ) (marks : List ℕ) : Type 0 where
+  pub ends : List ℕ
+  pub used : List ℕ
+  pub p : ℕ
+  pub link : Linked ends degrees used sums p
+  pub fits : link .n ≤ length marks
+  pub rest : List ℕ
+  pub onward : Onward (graphOf (link .n) always ends) (link .built) p from to rest marks
+
+abbrev pub Followed : List ℕ → List ℕ → ℕ → ℕ → List ℕ → List ℕ → Type 0
+Followed degrees sums from to before after =
+    (c : Following degrees sums from to before) → Open (graphOf (c .link .n) always (c .ends)) (c .link .built) (c .p) (c .rest) after
+
+-- what `beyond` asks: one of the two neighbours that a sum is made of
+pub record Halved (sums : List ℕ) (u v : ℕ) : Type 0 where
+  pub long : v < length sums
+  pub least : u ≤ getD sums v 0
+  pub most : getD sums v 0 - u < 1000
+
+-- a built edge with the end v
+pub record BuiltAt (ends used : List ℕ) (v e : ℕ) : Type 0 where
+  pub marked : getD used e 0 ≡ 0 → ⊥
+  pub at : (getD ends (2 * e) 0 ≡ v) ⊎ (getD ends (2 * e + 1) 0 ≡ v)
+
+-- what the search for one asks: there is one; and the vertex that it leads to
+pub record Neighbouring (ends used : List ℕ) (v : ℕ) : Type 0 where
+  pub few : length ends / 2 ≤ 4000
+  pub used-room : length ends / 2 ≤ length used
+  pub some : ((e : ℕ) → e < length ends / 2 → BuiltAt ends used v e → ⊥) → ⊥
+
+pub record Neighbour (ends used : List ℕ) (v r : ℕ) : Type 0 where
+  pub edge : ℕ
+  pub below : edge < length ends / 2
+  pub built-at : BuiltAt ends used v edge
+  pub far : r ≡ farEnd ends edge v
+
+-- what `mark_link` asks, and what it leaves
+pub record Linking (ends degrees used sums : List ℕ) (p : ℕ) (marks : List ℕ) : Type 0 where
+  pub link : Linked ends degrees used sums p
+  pub fits : link .n ≤ length marks
+  pub blank : (v : ℕ) → getD marks v 0 ≡ 0
+
+abbrev pub MarkedBy : List ℕ → List ℕ → List ℕ → List ℕ → ℕ → List ℕ → List ℕ → Type 0
+MarkedBy ends degrees used sums p before after =
+    (c : Linking ends degrees used sums p before) → Marking (graphOf (c .link .n) always ends) (c .link .built) p after
 
 -- what the search for a goal asks: it can't but see one
 pub record Exiting (n : ℕ) (ends roles dead : List ℕ) (room : ℕ) : Type 0 where
@@ -147,8 +199,8 @@ abbrev pub Crossed : List ℕ → List ℕ → ℕ → ℕ → Type 0
 Crossed ends degrees e u = (n : ℕ) → Admitted limits n ends → Across n ends degrees e u
 
 -- the state from which an ear grows out of a link, and where every built vertex is a branch
-pub record GrowingLink (n : ℕ) (ends degrees used : List ℕ) (p room : ℕ) : Type 0 where
-  pub growing : Growing n ends degrees used room
+pub record GrowingLink (n : ℕ) (ends degrees used sums : List ℕ) (p room : ℕ) : Type 0 where
+  pub ready : Ready n ends degrees used sums room
   pub below : p < n
   pub built : 1 ≤ getD degrees p 0
   pub plain : getD degrees p 0 < 3

@@ -1,8 +1,9 @@
 -- What is written of a step: the rows along first edges, the first three walks, and an ear.
 use mathlib.Core.Path.{_≡_}
-use mathlib.Core.Bool.{Bool, true, false}
+use mathlib.Core.Bool.{Bool, true, false, cond}
 use mathlib.Core.List.{List, [], _∷_, _++_, List·Memᴰ as In}
 use Prim.Native.Nat.{ℕ, _+_, _-_, _*_, _/_, _≤_, _<_}
+use lib.Dec.{eqb}
 use lib.ListN.{length, getD, drop}
 use Rattle.connectivity.specs.Lists.{Distinct}
 use Rattle.connectivity.specs.Graph.{Graph, Joins, graphOf, always}
@@ -65,7 +66,21 @@ pub record Marks (n : ℕ) (ends built degrees used : List ℕ) : Type 0 where
   pub used-built : (e : ℕ) → In e built → getD used e 0 ≡ 1
   pub used-other : (e : ℕ) → (In e built → ⊥) → getD used e 0 ≡ 0
 
--- what `next_ear` asks: Mader's steps so far, an edge that is not built, and room for the rows that are left
+-- the other end of an edge with the end v, and 0 of any other edge
+unfoldable pub toward : Graph → ℕ → ℕ → ℕ
+toward g e v = cond (eqb (g .left e) v) (g .right e) (cond (eqb (g .right e) v) (g .left e) 0)
+
+-- the sum of the vertices that built edges lead to from v
+abbrev pub around : Graph → List ℕ → ℕ → ℕ
+around g [] v = 0
+around g (e ∷ built) v = toward g e v + around g built v
+
+-- a table of these sums
+pub record Sums (n : ℕ) (ends built sums : List ℕ) : Type 0 where
+  pub long : length sums ≡ 1000
+  pub are : (v : ℕ) → v < n → getD sums v 0 ≡ around (graphOf n always ends) built v
+
+-- what an ear asks: Mader's steps so far, an edge that is not built, and room for the rows that are left
 pub record Growing (n : ℕ) (ends degrees used : List ℕ) (room : ℕ) : Type 0 where
   pub admitted : Admitted limits n ends
   pub three : ThreeEdgeConnected (graphOf n always ends)
@@ -76,7 +91,12 @@ pub record Growing (n : ℕ) (ends degrees used : List ℕ) (room : ℕ) : Type 
   pub left : length (allEdges done) < length ends / 2
   pub fits : 3 * (length ends / 2 - length (allEdges done)) ≤ room
 
--- what it writes: an ear over the built edges
+-- what `next_ear` asks: the table of sums too
+pub record Ready (n : ℕ) (ends degrees used sums : List ℕ) (room : ℕ) : Type 0 where
+  pub growing : Growing n ends degrees used room
+  pub sums-are : Sums n ends (allEdges (growing .done)) sums
+
+-- what is written: an ear over the built edges
 pub record Grown (n : ℕ) (ends built : List ℕ) (step : ℕ) (before after : List ℕ) (r : ℕ) : Type 0 where
   pub from : ℕ
   pub to : ℕ
@@ -89,3 +109,7 @@ pub record Grown (n : ℕ) (ends built : List ℕ) (step : ℕ) (before after : 
 abbrev pub GrownBy : ℕ → List ℕ → List ℕ → List ℕ → ℕ → List ℕ → List ℕ → ℕ → Type 0
 GrownBy n ends degrees used step before after r =
     (c : Growing n ends degrees used (length before)) → Grown n ends (allEdges (c .done)) step before after r
+
+abbrev pub GrownFrom : ℕ → List ℕ → List ℕ → List ℕ → List ℕ → ℕ → List ℕ → List ℕ → ℕ → Type 0
+GrownFrom n ends degrees used sums step before after r =
+    (c : Ready n ends degrees used sums (length before)) → Grown n ends (allEdges (c .growing .done)) step before after r

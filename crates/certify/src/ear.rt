@@ -5,28 +5,29 @@ use graph::search;
 use graph::search::Explored;
 ghost use mathlib.Core.Path.{_≡_};
 ghost use mathlib.Core.Bool.{cond};
-ghost use Prim.Native.Nat.{_+_, _*_, _/_, _≤_, _<_};
+ghost use Prim.Native.Nat.{_+_, _-_, _*_, _/_, _≤_, _<_};
 ghost use lib.Dec.{eqb};
 ghost use lib.ListN.{length, getD};
-ghost use Rattle.certify.specs.Step.{Tells, Growing, GrownBy};
-ghost use Rattle.certify.specs.Growth.{Filled, PlainVertex, BuiltOnly, LessEdge, LinkRole, EarRole, EndRole, Linked, MarkedBy, Exiting, Exited, Rooting, Rooted, Opens, Opening, OpenEdge, Crossing, Crossed, GrowingLink, GrowingBranch, GrowingEdge, Readable};
+ghost use Rattle.certify.specs.Step.{Tells, Ready, GrownBy, GrownFrom};
+ghost use Rattle.certify.specs.Growth.{Filled, PlainVertex, LessEdge, EarRole, EndRole, Linking, MarkedBy, Following, Followed, Halved, BuiltAt, Neighbouring, Neighbour, Exiting, Exited, Rooting, Rooted, Opens, Opening, OpenEdge, Crossing, Crossed, GrowingLink, GrowingBranch, GrowingEdge, Readable};
 
 // Writes the rows of the next ear at the front of `rows`; how many there are. `degree` counts the built edges at each vertex, `used` is 1
-// for each built edge and 0 for any other.
+// for each built edge and 0 for any other, `sums` has for each vertex the sum of the vertices that its built edges lead to.
 pub(crate) fn next_ear(
     vertices: u16,
     ends: &[u16],
     degree: &[u16],
     used: &[u8],
+    sums: &[u32],
     step: u16,
     rows: &mut [u16],
 ) -> u16
-    requires { ⌜ Growing vertices (now ends) (now degree) (now used) (length (now rows)) ⌝ }
-    ensures { λ r. ⌜ GrownBy vertices (now (ends .entry)) (now (degree .entry)) (now (used .entry)) step (now (rows .entry)) (now (rows .exit)) r ⌝ }
+    requires { ⌜ Ready vertices (now ends) (now degree) (now used) (now sums) (length (now rows)) ⌝ }
+    ensures { λ r. ⌜ GrownFrom vertices (now (ends .entry)) (now (degree .entry)) (now (used .entry)) (now (sums .entry)) step (now (rows .entry)) (now (rows .exit)) r ⌝ }
 {
     let p = plain_vertex(vertices, degree);
     if p < vertices {
-        return link_ear(vertices, ends, degree, used, p, step, rows);
+        return link_ear(vertices, ends, degree, used, sums, p, step, rows);
     }
     branch_ear(vertices, ends, degree, used, step, rows)
 }
@@ -62,15 +63,16 @@ fn link_ear(
     ends: &[u16],
     degree: &[u16],
     used: &[u8],
+    sums: &[u32],
     p: u16,
     step: u16,
     rows: &mut [u16],
 ) -> u16
-    requires { ⌜ GrowingLink vertices (now ends) (now degree) (now used) p (length (now rows)) ⌝ }
-    ensures { λ r. ⌜ GrownBy vertices (now (ends .entry)) (now (degree .entry)) (now (used .entry)) step (now (rows .entry)) (now (rows .exit)) r ⌝ }
+    requires { ⌜ GrowingLink vertices (now ends) (now degree) (now used) (now sums) p (length (now rows)) ⌝ }
+    ensures { λ r. ⌜ GrownFrom vertices (now (ends .entry)) (now (degree .entry)) (now (used .entry)) (now (sums .entry)) step (now (rows .entry)) (now (rows .exit)) r ⌝ }
 {
     let mut marks = [0u16; Graph::MAX_VERTICES as usize];
-    mark_link(vertices, ends, degree, used, p, &mut marks);
+    mark_link(ends, degree, used, sums, p, &mut marks);
     let mut roles = [0u8; Graph::MAX_VERTICES as usize];
     ear_roles(vertices, degree, &marks, &mut roles);
     let mut first = [0u16; Graph::MAX_VERTICES as usize];
@@ -79,66 +81,72 @@ fn link_ear(
     walk::climb(ends, &first, t, s, step, rows)
 }
 
-// Marks what is seen from `p` over built edges and no further than to branches: the inside of the link of `p`, and branches.
-fn mark_link(vertices: u16, ends: &[u16], degree: &[u16], used: &[u8], p: u16, marks: &mut [u16])
-    requires { ⌜ Linked vertices (now ends) (now degree) (now used) p (length (now marks)) ⌝ }
-    ensures { λ _. ⌜ MarkedBy vertices (now (ends .entry)) (now (degree .entry)) (now (used .entry)) p (now (marks .exit)) ⌝ }
+// Marks the inside of the link of `p`, along it from `p`, both ways. No mark is set before.
+fn mark_link(ends: &[u16], degree: &[u16], used: &[u8], sums: &[u32], p: u16, marks: &mut [u16])
+    requires { ⌜ Linking (now ends) (now degree) (now used) (now sums) p (now marks) ⌝ }
+    ensures { λ _. ⌜ MarkedBy (now (ends .entry)) (now (degree .entry)) (now (used .entry)) (now (sums .entry)) p (now (marks .entry)) (now (marks .exit)) ⌝ }
 {
-    let mut dead = [0u8; Graph::MAX_EDGES];
-    built_only(ends.len() / 2, used, &mut dead);
-    let mut roles = [0u8; Graph::MAX_VERTICES as usize];
-    link_roles(vertices, degree, p, &mut roles);
-    let mut order = [0u16; Graph::MAX_VERTICES as usize];
-    let found = search::explore(vertices, ends, &roles, &dead, marks, &mut order);
+    marks[p as usize] = 1;
+    let a = neighbour(ends, used, p);
+    let b = beyond(sums, a, p);
+    mark_way(degree, sums, p, a, marks);
+    mark_way(degree, sums, p, b, marks);
 }
 
-// Marks the edges that are not built as dead.
-fn built_only(edges: usize, used: &[u8], dead: &mut [u8])
-    requires { ⌜ (edges ≤ length (now used)) × (edges ≤ length (now dead)) ⌝ }
-    ensures { λ _. ⌜ Filled (BuiltOnly (now (used .entry))) edges (now (dead .exit)) ⌝ }
+// Marks the vertices along a link that comes from `from` to `to`, up to a branch or to what is marked.
+fn mark_way(degree: &[u16], sums: &[u32], from: u16, to: u16, marks: &mut [u16])
+    requires { ⌜ Following (now degree) (now sums) from to (now marks) ⌝ }
+    ensures { λ _. ⌜ Followed (now (degree .entry)) (now (sums .entry)) from to (now (marks .entry)) (now (marks .exit)) ⌝ }
 {
-    let mut e = 0;
+    let mut last = from;
+    let mut at = to;
+    while marks[at as usize] == 0 {
+        if 3 <= degree[at as usize] {
+            return;
+        }
+        marks[at as usize] = 1;
+        let next = beyond(sums, last, at);
+        last = at;
+        at = next;
+    }
+}
+
+// Where the other built edge of `v` leads, of two of which one leads to `u`.
+fn beyond(sums: &[u32], u: u16, v: u16) -> u16
+    requires { ⌜ Halved (now sums) u v ⌝ }
+    ensures { λ r. ⌜ r ≡ getD (now (sums .entry)) v 0 - u ⌝ }
+{
+    (sums[v as usize] - (u as u32)) as u16
+}
+
+// Where the lowest built edge of `v` leads.
+fn neighbour(ends: &[u16], used: &[u8], v: u16) -> u16
+    requires { ⌜ Neighbouring (now ends) (now used) v ⌝ }
+    ensures { λ r. ⌜ Neighbour (now (ends .entry)) (now (used .entry)) v r ⌝ }
+{
+    let edges = (ends.len() / 2) as u16;
+    let mut e: u16 = 0;
     while e < edges {
-        let r = built_mark(used, e);
-        dead[e] = r;
+        if is_built_at(ends, used, v, e) {
+            return walk::other_end(ends, e, v);
+        }
         e += 1;
     }
+    v
 }
 
-fn built_mark(used: &[u8], e: usize) -> u8
-    requires { ⌜ e < length (now used) ⌝ }
-    ensures { λ r. ⌜ BuiltOnly (now (used .entry)) e r ⌝ }
+fn is_built_at(ends: &[u16], used: &[u8], v: u16, e: u16) -> bool
+    requires { ⌜ (e < length (now ends) / 2) × (e < length (now used)) ⌝ }
+    ensures { λ r. ⌜ Tells r (BuiltAt (now (ends .entry)) (now (used .entry)) v e) ⌝ }
 {
-    if used[e] == 0 {
-        return 1;
+    let k = e as usize;
+    if used[k] == 0 {
+        return false;
     }
-    0
-}
-
-fn link_roles(vertices: u16, degree: &[u16], p: u16, roles: &mut [u8])
-    requires { ⌜ (vertices ≤ length (now degree)) × (vertices ≤ length (now roles)) ⌝ }
-    ensures { λ _. ⌜ Filled (LinkRole (now (degree .entry)) p) vertices (now (roles .exit)) ⌝ }
-{
-    let mut v: u16 = 0;
-    while v < vertices {
-        let r = link_role(degree, p, v);
-        roles[v as usize] = r;
-        v += 1;
+    if ends[2 * k] == v {
+        return true;
     }
-}
-
-// 2 for a branch, 1 for `p`, else 0.
-fn link_role(degree: &[u16], p: u16, v: u16) -> u8
-    requires { ⌜ v < length (now degree) ⌝ }
-    ensures { λ r. ⌜ LinkRole (now (degree .entry)) p v r ⌝ }
-{
-    if 3 <= degree[v as usize] {
-        return 2;
-    }
-    if v == p {
-        return 1;
-    }
-    0
+    ends[2 * k + 1] == v
 }
 
 fn ear_roles(vertices: u16, degree: &[u16], marks: &[u16], roles: &mut [u8])
@@ -153,17 +161,13 @@ fn ear_roles(vertices: u16, degree: &[u16], marks: &[u16], roles: &mut [u8])
     }
 }
 
-// 0 for what is not built, 1 for what is marked and no branch, else 3.
+// 0 for what is not built, 1 for what is marked, else 3.
 fn ear_role(degree: &[u16], marks: &[u16], v: u16) -> u8
     requires { ⌜ (v < length (now degree)) × (v < length (now marks)) ⌝ }
     ensures { λ r. ⌜ EarRole (now (degree .entry)) (now (marks .entry)) v r ⌝ }
 {
-    let d = degree[v as usize];
-    if d == 0 {
+    if degree[v as usize] == 0 {
         return 0;
-    }
-    if 3 <= d {
-        return 3;
     }
     if marks[v as usize] == 0 {
         return 3;

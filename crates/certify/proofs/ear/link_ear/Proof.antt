@@ -1,19 +1,24 @@
 -- `link_ear` meets its contract: the way up from the vertex outside the link is an ear.
 use native.Mathlib.Omega.{arith}
-use Prim.Native.Nat.{_≤_}
-use lib.ListN.{length}
-use Rattle.connectivity.specs.Walk.{allEdges}
+use mathlib.Core.List.{List}
+use Prim.Native.Nat.{ℕ, _≤_}
+use lib.ListN.{length, replicate, length-replicate}
+use Rattle.graph.proofs.Parted.{zeros}
 use Rattle.certify.specs.Growth.{GrowingLink}
-use Rattle.certify.proofs.FromLink.{link-exiting, link-rooting, link-climbing, link-grown}
+use Rattle.certify.proofs.FromLink.{linking, link-exiting, link-rooting, link-climbing, link-grown}
 use borrow.Author.Needs.{needs}
 use Rattle.certify.proofs.ear.link_ear.Statement.{statement}
 use Rattle.certify.proofs.ear.link_ear.Tie as tie
+
+-- an array has a place for each vertex
+room : {n : ℕ} {ends degrees used sums : List ℕ} {p space : ℕ} → GrowingLink n ends degrees used sums p space → n ≤ length {A = ℕ} (replicate 1000 0)
+room g = omega (arith, g .ready .growing .admitted .vertices, length-replicate {A = ℕ} 1000 0)
 
 slice-aggregate-mark-link : tie.Need-slice-aggregate-mark-link
 slice-aggregate-mark-link c = search needs
 
 mark-link-requires : tie.Need-mark-link-requires
-mark-link-requires c κs = search needs
+mark-link-requires c κs = let s = c .before .before .before .before .before .before in linking (s .pre) (room (s .pre)) (zeros 1000)
 
 slice-aggregate-ear-roles : tie.Need-slice-aggregate-ear-roles
 slice-aggregate-ear-roles c = search needs
@@ -34,11 +39,11 @@ exit-requires : tie.Need-exit-requires
 exit-requires c κs =
     let roles = c .before .before .before in
     let marks = roles .before .before .before .before in
-    let s = marks .before .before .before .before .before .before in
+    let s = marks .before .before .before .before .before .before .before in
     let g = s .pre in
     let roles-room : s .args .vertices ≤ length (roles .ear-roles .last .1 .1 .1 .0) = search needs in
-    link-exiting g (marks .mark-link .ensures (allEdges (g .growing .done)) (g .growing .marks)) (roles .ear-roles .ensures) 1000 roles-room
-    (omega (arith, g .growing .admitted .vertices))
+    link-exiting g (marks .mark-link .ensures (linking g (room g) (zeros 1000))) (roles .ear-roles .ensures) 1000 roles-room
+    (omega (arith, g .ready .growing .admitted .vertices))
 
 slice-aggregate-root : tie.Need-slice-aggregate-root
 slice-aggregate-root c = search needs
@@ -48,10 +53,10 @@ root-requires c κs =
     let exit = c .before .before in
     let roles = exit .before .before .before .before in
     let marks = roles .before .before .before .before in
-    let s = marks .before .before .before .before .before .before in
+    let s = marks .before .before .before .before .before .before .before in
     let g = s .pre in
-    let room : s .args .vertices ≤ length (exit .exit .last .1 .1 .1 .1 .0) = search needs in
-    link-rooting g (marks .mark-link .ensures (allEdges (g .growing .done)) (g .growing .marks)) (roles .ear-roles .ensures) (exit .exit .ensures) room
+    let long : s .args .vertices ≤ length (exit .exit .last .1 .1 .1 .1 .0) = search needs in
+    link-rooting g (marks .mark-link .ensures (linking g (room g) (zeros 1000))) (roles .ear-roles .ensures) (exit .exit .ensures) long
 
 slice-aggregate-climb : tie.Need-slice-aggregate-climb
 slice-aggregate-climb c = search needs
@@ -62,12 +67,12 @@ climb-requires c κs =
     let exit = root .before .before .before in
     let roles = exit .before .before .before .before in
     let marks = roles .before .before .before .before in
-    let s = marks .before .before .before .before .before .before in
+    let s = marks .before .before .before .before .before .before .before in
     let g = s .pre in
-    let k = marks .mark-link .ensures (allEdges (g .growing .done)) (g .growing .marks) in
-    let room : s .args .vertices ≤ length (exit .exit .last .1 .1 .1 .1 .0) = search needs in
-    link-climbing g k (roles .ear-roles .ensures) (exit .exit .ensures) room
-    (root .root .ensures (link-rooting g k (roles .ear-roles .ensures) (exit .exit .ensures) room))
+    let k = marks .mark-link .ensures (linking g (room g) (zeros 1000)) in
+    let long : s .args .vertices ≤ length (exit .exit .last .1 .1 .1 .1 .0) = search needs in
+    link-climbing g k (roles .ear-roles .ensures) (exit .exit .ensures) long
+    (root .root .ensures (link-rooting g k (roles .ear-roles .ensures) (exit .exit .ensures) long))
 
 same-length : tie.Need-same-length
 same-length c = search needs
@@ -79,15 +84,15 @@ returns c =
     let exit = root .before .before .before in
     let roles = exit .before .before .before .before in
     let marks = roles .before .before .before .before in
-    let s = marks .before .before .before .before .before .before in
-    let room : s .args .vertices ≤ length (exit .exit .last .1 .1 .1 .1 .0) = search needs in
-    λ growing.
-    let g : GrowingLink (s .args .vertices) (s .args .ends .now) (s .args .degree .now) (s .args .used .now) (s .args .p) (length (s .args .rows .now)) =
-    record { growing = growing; below = s .pre .below; built = s .pre .built; plain = s .pre .plain } in
-    let k = marks .mark-link .ensures (allEdges (growing .done)) (growing .marks) in
+    let s = marks .before .before .before .before .before .before .before in
+    let long : s .args .vertices ≤ length (exit .exit .last .1 .1 .1 .1 .0) = search needs in
+    λ ready.
+    let g : GrowingLink (s .args .vertices) (s .args .ends .now) (s .args .degree .now) (s .args .used .now) (s .args .sums .now) (s .args .p) (length (s .args .rows .now)) =
+    record { ready = ready; below = s .pre .below; built = s .pre .built; plain = s .pre .plain } in
+    let k = marks .mark-link .ensures (linking g (room g) (zeros 1000)) in
     let x = exit .exit .ensures in
     link-grown g k (roles .ear-roles .ensures) x
-    (climb .climb .ensures (link-climbing g k (roles .ear-roles .ensures) x room (root .root .ensures (link-rooting g k (roles .ear-roles .ensures) x room))))
+    (climb .climb .ensures (link-climbing g k (roles .ear-roles .ensures) x long (root .root .ensures (link-rooting g k (roles .ear-roles .ensures) x long))))
 
 pub link-ear-spec : {M : Type 1} → statement M
 link-ear-spec =

@@ -1,62 +1,63 @@
--- `mark_link` meets its contract: what the search has seen and is no branch is the inside of the link.
-use native.Mathlib.Omega.{arith}
-use Prim.Native.Nat.{ℕ, _/_, _≤_}
-use lib.ListN.{length, replicate, length-replicate}
-use Rattle.certify.proofs.FromLink.{marked-by}
+-- `mark_link` meets its contract: after both ways nothing is ahead.
+use mathlib.Core.Path.{_∙_}
+use lib.ListN.{length-set}
+use Rattle.certify.proofs.LinkWay.{neighbouring, start-halved, first-following, second-following, all-marked}
 use borrow.Author.Needs.{needs}
 use Rattle.certify.proofs.ear.mark_link.Statement.{statement}
 use Rattle.certify.proofs.ear.mark_link.Tie as tie
 
-slice-aggregate-built-only : tie.Need-slice-aggregate-built-only
-slice-aggregate-built-only c = search needs
+mul-marks : tie.Need-mul-marks
+mul-marks c = search needs
 
-built-only-requires : tie.Need-built-only-requires
-built-only-requires c κs = search needs
+slice-write-marks : tie.Need-slice-write-marks
+slice-write-marks c = search needs
 
-slice-aggregate-link-roles : tie.Need-slice-aggregate-link-roles
-slice-aggregate-link-roles c = search needs
+neighbour-requires : tie.Need-neighbour-requires
+neighbour-requires c κs = neighbouring (c .before .before .before .before .before .pre .link)
 
-link-roles-requires : tie.Need-link-roles-requires
-link-roles-requires c κs = search needs
+beyond-requires : tie.Need-beyond-requires
+beyond-requires c κs = start-halved (c .before .before .before .before .before .before .pre) (c .neighbour .ensures)
 
-slice-aggregate-explore : tie.Need-slice-aggregate-explore
-slice-aggregate-explore c = search needs
+mark-way-requires : tie.Need-mark-way-requires
+mark-way-requires c κs =
+    let near = c .before .before in
+    first-following (near .before .before .before .before .before .before .pre) (near .neighbour .ensures)
 
-slice-aggregate-explore-2 : tie.Need-slice-aggregate-explore-2
-slice-aggregate-explore-2 c = search needs
-
-slice-aggregate-explore-3 : tie.Need-slice-aggregate-explore-3
-slice-aggregate-explore-3 c = search needs
-
-explore-requires : tie.Need-explore-requires
-explore-requires c κs = search needs
+mark-way-requires-2 : tie.Need-mark-way-requires-2
+mark-way-requires-2 c κs =
+    let one = c .before .before .before in
+    let two = one .before .before in
+    let near = two .before in
+    let s = near .before .before .before .before .before .before in
+    second-following (s .pre) (near .neighbour .ensures) (two .beyond .ensures) (one .mark-way .kept .1 .1 .1 .1 .0 ∙ length-set (s .args .marks .now) _ _) (one .mark-way .ensures (first-following (s .pre) (near .neighbour .ensures)))
 
 same-length : tie.Need-same-length
-same-length c = search needs
+same-length c =
+    let last = c .before .before in
+    let one = last .before .before .before .before in
+    let s = one .before .before .before .before .before .before .before .before .before in
+    last .mark-way2 .kept .1 .1 .1 .1 .0 ∙ one .mark-way .kept .1 .1 .1 .1 .0 ∙ length-set (s .args .marks .now) _ _
 
 returns : tie.Need-returns
-returns c =
-    let explore = c .before .before .before in
-    let roles = explore .before .before .before .before .before .before in
-    let dead = roles .before .before .before in
-    let s = dead .before .before .before .before .before .before in
-    let roles-room : s .args .vertices ≤ length (roles .link-roles .last .1 .1 .1 .0) = search needs in
-    let dead-room : length (s .args .ends .now) / 2 ≤ length (dead .built-only .last .1 .1 .0) = search needs in
-    let order-room : s .args .vertices ≤ length {A = ℕ} (replicate 1000 0) = omega (arith, s .pre .admitted .vertices, length-replicate {A = ℕ} 1000 0) in
-    marked-by _ _ (s .args .marks .now) (replicate 1000 0) _ _ (explore .explore .result) (s .pre) roles-room dead-room order-room
-    (dead .built-only .ensures) (roles .link-roles .ensures) (explore .explore .ensures)
+returns c d =
+    let last = c .before .before in
+    let one = last .before .before .before .before in
+    let two = one .before .before in
+    let near = two .before in
+    let s = near .before .before .before .before .before .before in
+    let long = one .mark-way .kept .1 .1 .1 .1 .0 ∙ length-set (s .args .marks .now) _ _ in
+    let k = near .neighbour .ensures in
+    all-marked (d .link) (last .mark-way2 .ensures (second-following d k (two .beyond .ensures) long (one .mark-way .ensures (first-following d k))))
 
 pub mark-link-spec : {M : Type 1} → statement M
 mark-link-spec =
     tie.close
     (tie.spec
-    slice-aggregate-built-only
-    built-only-requires
-    slice-aggregate-link-roles
-    link-roles-requires
-    slice-aggregate-explore
-    slice-aggregate-explore-2
-    slice-aggregate-explore-3
-    explore-requires
+    mul-marks
+    slice-write-marks
+    neighbour-requires
+    beyond-requires
+    mark-way-requires
+    mark-way-requires-2
     same-length
     returns)

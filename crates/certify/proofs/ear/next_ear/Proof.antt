@@ -9,9 +9,9 @@ plain-vertex-requires c κs = search needs
 link-ear-requires : tie.Need-link-ear-requires
 link-ear-requires c κs =
     let plain = c .before .before in
-    let s = plain .before .before .before .before .before in
+    let s = plain .before .before .before .before .before .before in
     let f = plain .plain-vertex .ensures .found (c .before .if1 .taken) in
-    record { growing = s .pre; below = c .before .if1 .taken; built = f .0; plain = f .1 }
+    record { ready = s .pre; below = c .before .if1 .taken; built = f .0; plain = f .1 }
 
 same-length : tie.Need-same-length
 same-length c = search needs
@@ -22,14 +22,14 @@ returns c = search needs
 branch-ear-requires : tie.Need-branch-ear-requires
 branch-ear-requires c κs =
     let plain = c .before .before in
-    let s = plain .before .before .before .before .before in
-    record { growing = s .pre; branches = plain .plain-vertex .ensures .none (c .before .if1 .left) }
+    let s = plain .before .before .before .before .before .before in
+    record { growing = s .pre .growing; branches = plain .plain-vertex .ensures .none (c .before .if1 .left) }
 
 same-length-2 : tie.Need-same-length-2
 same-length-2 c = search needs
 
 returns-2 : tie.Need-returns-2
-returns-2 c = search needs
+returns-2 c = λ r. c .before .before .branch-ear .ensures (r .growing)
 
 pub next-ear-spec : {M : Type 1} → statement M
 next-ear-spec =
