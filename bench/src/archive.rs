@@ -1,6 +1,7 @@
-//! The proved check, from the static library.
+//! The proved check and the proved writer, from their static libraries.
 
 use crate::second::Answer;
+use crate::writer::Verdict;
 
 unsafe extern "C" {
     fn hearthtansy_check(
@@ -18,6 +19,21 @@ unsafe extern "C" {
         verdict: *const u8,
         verdict_length: usize,
     ) -> u32;
+
+    fn hearthtansy_verdict(
+        vertices: u16,
+        ends: *const u16,
+        ends_length: usize,
+        rows: *mut u16,
+        rows_length: usize,
+    ) -> u64;
+
+    fn hearthtansy_verdict_text(
+        plan: *const u8,
+        plan_length: usize,
+        text: *mut u8,
+        text_length: usize,
+    ) -> u64;
 }
 
 /// An answer from number x 65,536 + place.
@@ -49,4 +65,27 @@ pub fn check_texts(plan: &[u8], verdict: &[u8]) -> Answer {
         hearthtansy_check_texts(plan.as_ptr(), plan.len(), verdict.as_ptr(), verdict.len())
     };
     answer(told)
+}
+
+pub fn verdict(vertices: u16, ends: &[u16], rows: &mut [u16]) -> Verdict {
+    // SAFETY: both lists are lent for the call, with their own lengths; only the rows are written.
+    let told = unsafe {
+        hearthtansy_verdict(
+            vertices,
+            ends.as_ptr(),
+            ends.len(),
+            rows.as_mut_ptr(),
+            rows.len(),
+        )
+    };
+    [48, 32, 16, 0].map(|bits| (told >> bits) as u16)
+}
+
+/// How many bytes of the text are written.
+pub fn verdict_text(plan: &[u8], text: &mut [u8]) -> usize {
+    // SAFETY: both texts are lent for the call, with their own lengths; only the second is written.
+    let written = unsafe {
+        hearthtansy_verdict_text(plan.as_ptr(), plan.len(), text.as_mut_ptr(), text.len())
+    };
+    written as usize
 }

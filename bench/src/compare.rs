@@ -41,7 +41,7 @@ pub fn same(case: &Case) -> Result<Answer, String> {
 }
 
 /// The same of two texts.
-fn same_texts([plan, verdict]: &[Vec<u8>; 2]) -> Result<Answer, String> {
+pub fn same_texts([plan, verdict]: &[Vec<u8>; 2]) -> Result<Answer, String> {
     let proved = archive::check_texts(plan, verdict);
     let other = texts::check(plan, verdict);
     if proved == other {

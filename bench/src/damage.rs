@@ -7,8 +7,10 @@ use crate::random::Random;
 pub fn random_case(random: &mut Random) -> Case {
     let mut case = match random.below(8) {
         0 => scattered(random),
-        1..=3 => record(random, true),
-        _ => record(random, false),
+        from => {
+            let most = size(random);
+            record(random, most, from <= 3)
+        }
     };
     if random.once_in(4) {
         stroll(random, &mut case);
@@ -19,13 +21,18 @@ pub fn random_case(random: &mut Random) -> Case {
     case
 }
 
-/// A grown graph with its record. If careless, ears may end inside one link and the last ears may be missing.
-fn record(random: &mut Random, careless: bool) -> Case {
-    let most = match random.below(200) {
+/// Most records are of a graph with 8 vertices or fewer.
+fn size(random: &mut Random) -> usize {
+    match random.below(200) {
         0 => 200,
         1..=25 => 40,
         _ => 8,
-    };
+    }
+}
+
+/// A grown graph of 2 to so many vertices with its record. If careless, ears may end inside one link and the last ears may be
+/// missing.
+pub fn record(random: &mut Random, most: usize, careless: bool) -> Case {
     let vertices = 2 + random.below(most - 1);
     let mut growth = Growth::new([0; 3].map(|_| random.below(vertices.min(most / 4 + 1))));
     while growth.vertices() < vertices {
@@ -227,7 +234,8 @@ fn end(random: &mut Random, case: &mut Case) {
     }
 }
 
-fn number(random: &mut Random, case: &mut Case) {
+/// One number changed, most often by one.
+pub fn number(random: &mut Random, case: &mut Case) {
     if let Some(i) = place(random, case.list.len()) {
         case.list[i] = match random.below(3) {
             0 => case.list[i].saturating_add(1),

@@ -117,7 +117,7 @@ fn time(case: &Case, check: Check) -> f64 {
     start.elapsed().as_nanos() as f64 / calls as f64
 }
 
-fn median(times: &[f64]) -> f64 {
+pub fn median(times: &[f64]) -> f64 {
     let mut times = times.to_vec();
     times.sort_by(f64::total_cmp);
     times[times.len() / 2]

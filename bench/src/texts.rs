@@ -57,7 +57,8 @@ fn header(text: &[u8]) -> Option<(u16, u16, &[u8])> {
     Some((numbers[0], numbers[1], rest))
 }
 
-fn read_plan(text: &[u8]) -> Result<(u16, Vec<u16>), Answer> {
+/// The plan of a text, if it is in the form and 2 and 3 do not apply.
+pub fn read_plan(text: &[u8]) -> Result<(u16, Vec<u16>), Answer> {
     let (vertices, edges, rest) = header(text).ok_or(refused(7))?;
     second::admit_counts(vertices, edges as usize)?;
     let ends = lines(rest, edges as usize, 2).ok_or(refused(7))?;
@@ -95,7 +96,7 @@ pub fn random_texts(random: &mut Random, case: &Case) -> [Vec<u8>; 2] {
 }
 
 /// A header with a number and the count of the lines, then the lines.
-fn write(first: u16, numbers: &[u16], columns: usize) -> Vec<u8> {
+pub fn write(first: u16, numbers: &[u16], columns: usize) -> Vec<u8> {
     let rows = numbers.chunks(columns);
     let mut text = format!("{first:>5}{:>5}\n", rows.len());
     for row in rows {
@@ -107,7 +108,8 @@ fn write(first: u16, numbers: &[u16], columns: usize) -> Vec<u8> {
     text.into_bytes()
 }
 
-fn damage(random: &mut Random, text: &mut Vec<u8>) {
+/// A byte more, less or changed, or the end cut off.
+pub fn damage(random: &mut Random, text: &mut Vec<u8>) {
     const BYTES: &[u8] = b"  01239\n\r\t-+x\0\xff";
     let byte = BYTES[random.below(BYTES.len())];
     let at = random.below(text.len() + 1);

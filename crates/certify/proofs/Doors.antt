@@ -15,8 +15,8 @@ use Rattle.connectivity.specs.Admission.{Admitted, limits}
 use Rattle.connectivity.proofs.Admission.{admitted-edge}
 use Rattle.connectivity.proofs.Reach.{joins-sym}
 use Rattle.connectivity.proofs.Theta.{Door, one-door, two-doors}
-use Rattle.graph.specs.Search.{Marked}
-use Rattle.graph.proofs.Leads.{joins-below, joins-edge}
+use Rattle.search.specs.Search.{Marked}
+use Rattle.search.proofs.Leads.{joins-below, joins-edge}
 use Rattle.certify.specs.Step.{Tells}
 use Rattle.certify.specs.Opening.{IsDoor, DoorFits, DoorsFit, NextDoor, Rooted, farEnd}
 use Rattle.certify.proofs.Paths.{far-end}

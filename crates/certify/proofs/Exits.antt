@@ -12,12 +12,12 @@ use Rattle.connectivity.specs.Admission.{Answer, Admitted, limits}
 use Rattle.connectivity.proofs.Reach.{joins-sym}
 use Rattle.connectivity.proofs.Legs.{far-is}
 use Rattle.graph.specs.Admission.{lent}
-use Rattle.graph.specs.Search.{Live, Pass, Start, Goal, Reached, Tree, Found, Whole, Stopped, enough}
-use Rattle.graph.proofs.Climb as climbs
-use Rattle.graph.proofs.Climb.{Climb, top, up}
-use Rattle.graph.proofs.Explore.{enough-room}
-use Rattle.graph.proofs.Leads.{joins-edge, joins-below}
-use Rattle.graph.proofs.Tally.{tally-le}
+use Rattle.search.specs.Search.{Live, Pass, Start, Goal, Reached, Tree, Found, Whole, Stopped, enough}
+use Rattle.search.proofs.Climb as climbs
+use Rattle.search.proofs.Climb.{Climb, top, up}
+use Rattle.search.proofs.Outcomes.{enough-room}
+use Rattle.search.proofs.Leads.{joins-edge, joins-below}
+use Rattle.search.proofs.Tally.{tally-le}
 use Rattle.certify.specs.Step as paths
 use Rattle.certify.specs.Step.{Path}
 use Rattle.certify.specs.Growth.{Exiting, Exited, Rooting}

@@ -22,8 +22,8 @@ use Rattle.connectivity.proofs.Legs.{leg, walk-snoc, edges-snoc, distinct-betwe
 use Rattle.connectivity.proofs.Admission.{admitted-edge, admitted-edges}
 use Rattle.connectivity.proofs.Once.{walk-once}
 use Rattle.connectivity.proofs.Grow.{branch-exit, next-edge, ear-from-branch}
-use Rattle.graph.specs.Search.{Live, Pass, Start, Goal, FromStart}
-use Rattle.graph.proofs.Leads.{vertex-below, joins-edge}
+use Rattle.search.specs.Search.{Live, Pass, Start, Goal, FromStart}
+use Rattle.search.proofs.Leads.{vertex-below, joins-edge}
 use Rattle.certify.specs.Step.{Climbing, Written, Growing, Grown}
 use Rattle.certify.specs.Growth as roles
 use Rattle.certify.specs.Opening.{withRow}

@@ -18,8 +18,8 @@ use Rattle.connectivity.proofs.Link.{some-link}
 use Rattle.connectivity.proofs.Build.{steps-edges, walk-edges}
 use Rattle.connectivity.proofs.Once.{ear-once}
 use Rattle.connectivity.proofs.Grow.{Inside, link-exit, inside-built, ear-from-link}
-use Rattle.graph.specs.Search.{Live, Pass, Start, Goal, FromStart}
-use Rattle.graph.proofs.Leads.{vertex-below}
+use Rattle.search.specs.Search.{Live, Pass, Start, Goal, FromStart}
+use Rattle.search.proofs.Leads.{vertex-below}
 use Rattle.certify.specs.Step.{Climbing, Written, Marks, Grown}
 use Rattle.certify.specs.Growth as roles
 use Rattle.certify.specs.Growth.{Filled, EarRole, Linking, Marking, Exiting, Exited, Rooting, GrowingLink}

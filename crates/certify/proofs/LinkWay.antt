@@ -15,9 +15,9 @@ use Rattle.connectivity.proofs.Reach.{joins-sym, reach-trans, closed-reach}
 use Rattle.connectivity.proofs.Degree.{hits-left, hits-right, hits-ends, hits-from, in-degree}
 use Rattle.connectivity.proofs.Stage.{Bare, bare-edge}
 use Rattle.connectivity.proofs.Grow.{Inside}
-use Rattle.graph.specs.Search.{Marked, tally}
-use Rattle.graph.proofs.Leads.{joins-below}
-use Rattle.graph.proofs.Tally.{tally-set, tally-le}
+use Rattle.search.specs.Search.{Marked, tally}
+use Rattle.search.proofs.Leads.{joins-below}
+use Rattle.search.proofs.Tally.{tally-set, tally-le}
 use Rattle.certify.specs.Step.{toward}
 use Rattle.certify.specs.Growth.{Linked, Marking, Open, Onward, Following, Followed, Halved, Neighbouring, Neighbour, Linking}
 use Rattle.certify.proofs.Around.{some-at, Other, other, toward-is, toward-joins}

@@ -12,7 +12,7 @@ use borrow.Author.Tests.{eq-eqb, ne-eqb, lt-ltb, le-ltb}
 use Rattle.connectivity.specs.Graph.{graphOf, always}
 use Rattle.connectivity.specs.Walk.{Leg, froms}
 use Rattle.connectivity.proofs.Reach.{joins-sym}
-use Rattle.graph.proofs.Leads.{joins-below}
+use Rattle.search.proofs.Leads.{joins-below}
 use Rattle.certify.specs.Step.{Path, there, up}
 use Rattle.certify.specs.Opening.{farEnd, Way, MarkedOn, Toward}
 use Rattle.certify.proofs.Paths.{OneUp, one-up, path-over, steps, nextUp, steps-path}

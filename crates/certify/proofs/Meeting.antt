@@ -10,7 +10,7 @@ use Rattle.connectivity.specs.Graph.{graphOf, always}
 use Rattle.connectivity.specs.Walk.{Leg, froms}
 use Rattle.connectivity.proofs.Lists.{in-dec}
 use Rattle.connectivity.proofs.Reach.{joins-sym}
-use Rattle.graph.proofs.Leads.{joins-below}
+use Rattle.search.proofs.Leads.{joins-below}
 use Rattle.certify.specs.Step.{Path, there, up}
 use Rattle.certify.specs.Opening.{Way, MarkedOn, Toward, Meets, Meeting}
 use Rattle.certify.proofs.Paths.{FirstOn, first-on, Parted, part-at}

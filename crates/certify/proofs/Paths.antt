@@ -11,7 +11,7 @@ use Rattle.connectivity.specs.Graph.{Graph, Joins, graphOf, always}
 use Rattle.connectivity.specs.Walk.{Leg, Walk, last, then, far, froms}
 use Rattle.connectivity.proofs.Reach.{joins-sym}
 use Rattle.connectivity.proofs.Legs.{far-is}
-use Rattle.graph.proofs.Leads.{joins-below, joins-edge}
+use Rattle.search.proofs.Leads.{joins-below, joins-edge}
 use Rattle.certify.specs.Step.{Path, there, up}
 use Rattle.certify.specs.Opening.{farEnd, Rises, leg}
 

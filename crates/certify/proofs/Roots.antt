@@ -11,14 +11,14 @@ use Rattle.connectivity.specs.Graph.{Graph, graphOf, always}
 use Rattle.connectivity.specs.Reach.{Through, stay, leave}
 use Rattle.connectivity.specs.Walk.{Leg, froms}
 use Rattle.connectivity.specs.Admission.{Answer, Admitted, limits}
-use Rattle.graph.specs.Search.{Live, Pass, Start, Goal, Marked, Tree, Found, Whole, Answered}
-use Rattle.graph.specs.declared.search.Explored.{Explored}
-use Rattle.graph.specs.declared.search.Explored.the-variants.{Refused, Seen, Met}
-use Rattle.graph.proofs.Climb as trees
-use Rattle.graph.proofs.Explore.{enough-room}
-use Rattle.graph.proofs.Leads.{joins-edge}
-use Rattle.graph.proofs.Parted.{zeros}
-use Rattle.graph.proofs.Tally.{tally-le}
+use Rattle.search.specs.Search.{Live, Pass, Start, Goal, Marked, Tree, Found, Whole, Answered}
+use Rattle.search.specs.declared.Explored.{Explored}
+use Rattle.search.specs.declared.Explored.the-variants.{Refused, Seen, Met}
+use Rattle.search.proofs.Climb as trees
+use Rattle.search.proofs.Outcomes.{enough-room}
+use Rattle.search.proofs.Leads.{joins-edge}
+use Rattle.search.proofs.Parted.{zeros}
+use Rattle.search.proofs.Tally.{tally-le}
 use Rattle.certify.specs.Step.{Path, there, up}
 use Rattle.certify.specs.Opening.{Around, Up, Rooted}
 use Rattle.certify.proofs.Exits.{climb-path, climb-short}

@@ -9,7 +9,7 @@ use Rattle.connectivity.specs.Graph.{Graph, Edge, Joins, graphOf, always}
 use Rattle.connectivity.specs.Walk.{Leg, Walk, froms, inner, edgesOf, degree, Built, Branch}
 use Rattle.connectivity.specs.Admission.{Admitted, limits}
 use Rattle.connectivity.proofs.Grow.{Inside}
-use Rattle.graph.specs.Search.{Live, Pass, Start, Goal, Marked, FromStart}
+use Rattle.search.specs.Search.{Live, Pass, Start, Goal, Marked, FromStart}
 use Rattle.certify.specs.Step.{Path, Marks, Sums, Growing, Ready}
 use Rattle.certify.specs.Opening.{farEnd}
 

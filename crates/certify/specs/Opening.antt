@@ -12,7 +12,7 @@ use Rattle.connectivity.specs.Reach.{Through}
 use Rattle.connectivity.specs.Walk.{Leg, froms}
 use Rattle.connectivity.specs.Mader.{stepRows, rows}
 use Rattle.connectivity.specs.Admission.{Admitted, limits}
-use Rattle.graph.specs.Search.{Marked}
+use Rattle.search.specs.Search.{Marked}
 use Rattle.certify.specs.Step.{Path, Written, Climbing}
 
 -- the rows with one written after the first `count`

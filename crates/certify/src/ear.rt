@@ -1,8 +1,7 @@
 // The next ear: out of a link while some built vertex is no branch, then over the lowest edge that is not built and has a built end.
 use crate::walk;
 use graph::Graph;
-use graph::search;
-use graph::search::Explored;
+use search::Explored;
 ghost use mathlib.Core.Path.{_≡_};
 ghost use mathlib.Core.Bool.{cond};
 ghost use Prim.Native.Nat.{_+_, _-_, _*_, _/_, _≤_, _<_};

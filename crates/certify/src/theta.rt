@@ -34,7 +34,7 @@ fn search_around(vertices: u16, ends: &[u16], r: u16, x: u16, first: &mut [u16])
     roles[x as usize] = 2;
     let dead = [0u8; Graph::MAX_EDGES];
     let mut order = [0u16; Graph::MAX_VERTICES as usize];
-    graph::search::explore(vertices, ends, &roles, &dead, first, &mut order);
+    search::explore(vertices, ends, &roles, &dead, first, &mut order);
 }
 
 // The lowest edge above `after` between `x` and a vertex that was seen, or `edges` for none.

@@ -13,7 +13,7 @@ use Rattle.connectivity.specs.Graph.{Joins, graphOf, always}
 use Rattle.connectivity.specs.Label.{Balanced}
 use Rattle.connectivity.specs.Admission.{limits, Admitted}
 use Rattle.connectivity.proofs.Lists.{T-true, or-left, or-right, eq-T}
-use Rattle.graph.proofs.Leads.{joins-edge}
+use Rattle.search.proofs.Leads.{joins-edge}
 use Rattle.cuts.specs.Labels.{xorAt, Spanning, Summed, Ready, Toggled}
 use Rattle.cuts.proofs.Xor.{all-one}
 use Rattle.cuts.proofs.Sums.{ready, at-ends, away, summed-toggled}

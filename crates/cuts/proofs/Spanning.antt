@@ -13,11 +13,11 @@ use Rattle.connectivity.specs.Graph.{graphOf, always}
 use Rattle.connectivity.specs.Label.{Balanced}
 use Rattle.connectivity.specs.Admission.{Answer, limits, Admitted}
 use Rattle.graph.specs.Admission.{lent}
-use Rattle.graph.specs.Search.{Live, Start, Pass, Goal, Found, Whole, enough}
-use Rattle.graph.specs.Cut.{Removed}
-use Rattle.graph.proofs.Tally.{tally-lt, tally-le}
-use Rattle.graph.proofs.Explore.{enough-room}
-use Rattle.graph.proofs.Parted.{rolesFrom0, only-start, fewer}
+use Rattle.search.specs.Search.{Live, Start, Pass, Goal, Found, Whole, enough}
+use Rattle.search.specs.Cut.{Removed}
+use Rattle.search.proofs.Tally.{tally-lt, tally-le}
+use Rattle.search.proofs.Outcomes.{enough-room}
+use Rattle.search.proofs.Parted.{rolesFrom0, only-start, fewer}
 use Rattle.cuts.specs.Labels.{Spanning, Searched, Labelled}
 
 none-removed : (edges k : ℕ) → Removed edges [] (replicate k 0) (replicate k 0)

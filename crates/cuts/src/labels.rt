@@ -1,8 +1,7 @@
 // Labels of edges that cancel around every vertex: the label of an edge that disconnects alone is 0, and those of two that disconnect
 // only together are equal.
 use graph::Graph;
-use graph::search;
-use graph::search::Explored;
+use search::Explored;
 ghost use mathlib.Core.Path.{_≡_};
 ghost use Prim.Native.Nat.{ℕ, _/_, _-_, _<_, _≤_};
 ghost use lib.ListN.{length, getD};

@@ -5,20 +5,17 @@ use mathlib.Core.Bool.{Bool, true, false, cond}
 use mathlib.Core.List.{List}
 use Prim.Native.Nat.{ℕ, _/_}
 use native.Mathlib.Omega.{arith}
-use lib.Dec.{T, eqb, leb, le→leb}
-use lib.ListN.{length, replicate, length-replicate}
-use borrow.Author.Tests.{eqb-true, eqb-false, eq-eqb, ne-eqb}
-use Rattle.connectivity.specs.Graph.{graphOf, always}
-use Rattle.connectivity.specs.Cut.{disconnects}
-use Rattle.connectivity.specs.Admission.{Answer, answer, passed, andThen, limits, Admitted, admission}
+use lib.Dec.{T, eqb}
+use lib.ListN.{length}
+use borrow.Author.Tests.{eqb-true, eqb-false}
+use Rattle.connectivity.specs.Admission.{answer, passed, andThen, limits, Admitted, admission}
 use Rattle.connectivity.proofs.Lists.{T-true, T-false}
-use Rattle.connectivity.proofs.Admission.{passed-then, failed-then, both-passed, admission-number}
+use Rattle.connectivity.proofs.Admission.{passed-then, failed-then, admission-number}
 use Rattle.graph.specs.declared.Answer as code
 use Rattle.graph.specs.declared.Graph.{Graph}
 use Rattle.graph.specs.declared.Admission.{Admission}
 use Rattle.graph.specs.declared.Admission.the-variants as made
 use Rattle.graph.specs.Admission.{toldBy, constructed, lent, RefusedBy}
-use Rattle.graph.specs.Cut.{isCut}
 
 -- What the constructor says.
 
@@ -64,23 +61,3 @@ module _ {n : ℕ} {ends : List ℕ} (enough : Bool) where
 
     pub lent-short : (T enough → ⊥) → RefusedBy (lent n ends enough) (record { number = 6; place = 0 })
     lent-short h = let same : lent n ends enough ≡ answer 6 0 = admitted-lent ∙ rw (T-false enough h) in (rw same (λ z. omega arith), ap toldBy (sym same))
-
--- What a set of edges is called, of an admitted plan and of any other.
-module _ (n : ℕ) (ends cut : List ℕ) where
-  pub cut-admitted : Admitted limits n ends → isCut limits n ends cut ≡ disconnects (graphOf n always ends) cut
-  unfolding isCut
-  cut-admitted a = rw (eq-eqb ((admission limits n ends) .number) 0 (admission-number limits n ends .1 a))
-
-  pub cut-told : (enough : Bool) {t : Bool} → lent n ends enough ≡ passed → t ≡ disconnects (graphOf n always ends) cut → t ≡ isCut limits n ends cut
-  unfolding lent
-  cut-told enough p q = q ∙ sym (cut-admitted (admission-number limits n ends .0 (both-passed _ _ p .0)))
-
-  -- a mark for each of 1,000 vertices is enough
-  pub cut-refused : ((lent n ends (leb n (length {A = Bool} (replicate 1000 false)))) .number ≡ 0 → ⊥) → false ≡ isCut limits n ends cut
-  unfolding isCut
-  cut-refused h = rw (ne-eqb ((admission limits n ends) .number) 0 (λ z. not-admitted (admission-number limits n ends .0 z)))
-    where
-      not-admitted : Admitted limits n ends → ⊥
-      not-admitted a =
-          let long = length-replicate {A = Bool} 1000 false in
-          h (ap (λ (x : Answer). x .number) (lent-enough (leb n (length {A = Bool} (replicate 1000 false))) a (le→leb n _ (omega (arith, a .vertices, long)))))

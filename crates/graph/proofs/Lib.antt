@@ -1,11 +1,3 @@
 pub mod Laws
 pub mod Answered
 pub mod Lent
-pub mod Tally
-pub mod Growth
-pub mod Leads
-pub mod Starts
-pub mod Explore
-pub mod Removal
-pub mod Parted
-pub mod Climb

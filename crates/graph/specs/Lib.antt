@@ -1,4 +1,1 @@
 pub mod Admission
-pub mod Search
-pub mod Sweep
-pub mod Cut

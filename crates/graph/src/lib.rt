@@ -5,9 +5,6 @@ ghost use lib.ListN.{length};
 ghost use Rattle.connectivity.specs.Admission.{edgeNumber, endsAnswer, limits};
 ghost use Rattle.graph.specs.Admission.{toldBy, constructed};
 
-pub mod search; // search.rt: what is reached from where
-pub mod cut; // cut.rt: whether some edges disconnect the graph
-
 // An answer to every question asked of these crates (01): a number and a place; 0 and 0 is success.
 pub struct Answer {
     pub number: u16,

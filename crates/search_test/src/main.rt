@@ -1,7 +1,7 @@
 // Runs the search and the test for cuts on some plans, and prints what document 01's terms call the outcome.
-use graph::cut::Split;
-use graph::search::Explored;
 use libc::STDOUT_FILENO;
+use search::Explored;
+use search::cut::Split;
 
 fn say(text: &[u8]) {
     io::write_all(STDOUT_FILENO, text);
@@ -100,7 +100,7 @@ fn count(reached: &[bool]) -> u16 {
 fn part(name: &[u8], pieces: u16, ends: &[u16], numbers: usize, cut: &[u16], tabs: usize) {
     say(name);
     let mut reached = [false; 1000];
-    let split = graph::cut::disconnects(
+    let split = search::cut::disconnects(
         pieces,
         front(ends, numbers),
         front(cut, tabs),
@@ -162,7 +162,7 @@ fn walk(name: &[u8], pieces: u16, roles: &[u8], dead: &[u8]) {
     fill(&mut ends, CHAIN, 6, 6);
     let mut first = [9u16; 8];
     let mut order = [9u16; 8];
-    let found = graph::search::explore(pieces, &ends, roles, dead, &mut first, &mut order);
+    let found = search::explore(pieces, &ends, roles, dead, &mut first, &mut order);
     match found {
         Explored::Refused(a) => {
             say(b": refused");

@@ -19,7 +19,7 @@ use Rattle.connectivity.proofs.Fit.{closing}
 use Rattle.verify.specs.declared.state.State.{State}
 use Rattle.verify.specs.declared.state.Taken.{Taken}
 use Rattle.verify.specs.Marks.{Tells, rowAt, Represents, takenNumber, doneThen, walkThen, SteppedAt, lastAt, Closed}
-use Rattle.verify.proofs.Weak.{admitted-all}
+use Rattle.verify_weak.proofs.Weak.{admitted-all}
 use Rattle.verify.proofs.Tests.{rows-next}
 
 -- a row's own number, then the step's, as one number

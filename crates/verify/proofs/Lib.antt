@@ -1,4 +1,3 @@
-pub mod Weak
 pub mod Rows
 pub mod Going
 pub mod Paths

@@ -25,7 +25,7 @@ use Rattle.verify.specs.declared.state.State.{State}
 use Rattle.verify.specs.declared.state.Taken.{Taken}
 use Rattle.verify.specs.Marks.{rowAt, edgeAt, fromAt, rowMark, WentOn, begun, on, Ready, Whole, StepTold, RowsReady, RowsAdded, Used, Holds, Represents, takenNumber, doneThen, walkThen, SteppedAt, lastAt, Closed}
 use Rattle.verify.specs.Marks as marks
-use Rattle.verify.proofs.Weak.{admitted-all, edge-size}
+use Rattle.verify_weak.proofs.Weak.{admitted-all, edge-size}
 use Rattle.verify.proofs.Rows.{lies-le, laid-length}
 use Rattle.verify.proofs.Going.{lies-nil, went-on}
 use Rattle.verify.proofs.Ending.{finished}

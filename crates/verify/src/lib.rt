@@ -3,13 +3,12 @@ use graph::Admission;
 use graph::Answer;
 use graph::Graph;
 ghost use mathlib.Core.Path.{_≡_};
-ghost use Prim.Native.Nat.{_/_, _≤_};
+ghost use Prim.Native.Nat.{_/_};
 ghost use lib.ListN.{length};
 ghost use Rattle.connectivity.specs.Graph.{graphOf, always};
 ghost use Rattle.connectivity.specs.Admission.{Admitted, limits};
-ghost use Rattle.connectivity.specs.Judge.{judgeWeak, judgeGraph, judge};
+ghost use Rattle.connectivity.specs.Judge.{judgeGraph, judge};
 ghost use Rattle.graph.specs.Admission.{toldBy};
-ghost use Rattle.verify.specs.Weak.{InTurn};
 
 mod state; // state.rt: the build state of a firm verdict
 mod firm; // firm.rt: its rows in turn
@@ -35,28 +34,9 @@ fn check_admitted(vertices: u16, ends: &[u16], edges: u16, kind: u16, list: &[u1
         return firm::firm_admitted(vertices, ends, edges, list);
     }
     if kind == 1 {
-        return weak_admitted(vertices, ends, edges, list);
+        return verify_weak::check_weak(vertices, ends, list);
     }
     answer(9, 0)
-}
-
-// A weak verdict: 9 for more than two edges, 11 in turn, 17 if they do not disconnect.
-fn weak_admitted(vertices: u16, ends: &[u16], edges: u16, list: &[u16]) -> Answer
-    requires { ⌜ (edges ≡ length (now ends) / 2) × Admitted limits vertices (now ends) ⌝ }
-    ensures { λ r. ⌜ r ≡ toldBy (judgeWeak (graphOf vertices always (now (ends .entry))) (now (list .entry))) ⌝ }
-{
-    if 2 < list.len() {
-        return answer(9, 0);
-    }
-    let turn = rises(edges, list);
-    let number = turn.number;
-    if number != 0 {
-        return turn;
-    }
-    if graph::cut::is_cut(vertices, ends, list) {
-        return answer(0, 0);
-    }
-    answer(17, 0)
 }
 
 fn answer(number: u16, place: u16) -> Answer
@@ -66,25 +46,4 @@ fn answer(number: u16, place: u16) -> Answer
         number: number,
         place: place,
     }
-}
-
-// 11 at the first number that is no edge or not above the one before.
-fn rises(edges: u16, list: &[u16]) -> Answer
-    requires { ⌜ length (now list) ≤ 2 ⌝ }
-    ensures { λ r. ⌜ InTurn edges (now (list .entry)) r ⌝ }
-{
-    let mut low: u16 = 0;
-    let mut i = 0;
-    while i < list.len() {
-        let e = list[i];
-        if edges <= e {
-            return answer(11, i as u16);
-        }
-        if e < low {
-            return answer(11, i as u16);
-        }
-        low = e + 1;
-        i += 1;
-    }
-    answer(0, 0)
 }

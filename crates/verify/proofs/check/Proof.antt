@@ -5,7 +5,7 @@ use Rattle.connectivity.specs.Graph.{always}
 use Rattle.connectivity.specs.Admission.{limits}
 use Rattle.graph.specs.Admission.{toldBy}
 use Rattle.graph.proofs.Lent.{constructed-refused, constructed-admitted}
-use Rattle.verify.proofs.Weak.{judge-refused, judge-admitted}
+use Rattle.verify_weak.proofs.Weak.{judge-refused, judge-admitted}
 use Rattle.verify.proofs.check.Statement.{statement}
 use Rattle.verify.proofs.check.Tie as tie
 

@@ -2,6 +2,9 @@
 use borrow.Author.Needs.{needs}
 use mathlib.Core.Path.{sym, ap, _∙_}
 use Rattle.graph.specs.Admission.{toldBy}
+use Rattle.connectivity.specs.Graph.{always}
+use Rattle.connectivity.specs.Admission.{limits}
+use Rattle.verify_weak.proofs.Weak.{judge-weak}
 use Rattle.verify.proofs.Judged.{kind-firm, kind-weak, kind-other}
 use Rattle.verify.proofs.check_admitted.Statement.{statement}
 use Rattle.verify.proofs.check_admitted.Tie as tie
@@ -15,12 +18,14 @@ returns : tie.Need-returns
 returns c = c .firm-admitted .ensures ∙ sym (ap toldBy (kind-firm _ _ _ (c .before .if1 .taken)))
 
 -- src/lib.rt:40:9
-weak-admitted-requires : tie.Need-weak-admitted-requires
-weak-admitted-requires c κs = search needs
+check-weak-requires : tie.Need-check-weak-requires
+check-weak-requires c κs = search needs
 
 -- src/lib.rt:40:9
 returns-2 : tie.Need-returns-2
-returns-2 c = c .weak-admitted .ensures ∙ sym (ap toldBy (kind-weak _ _ _ (c .before .if2 .taken)))
+returns-2 c =
+    let start = c .before .before .before .before .before in
+    c .check-weak .ensures ∙ ap toldBy (judge-weak limits _ always _ _ (start .pre .1)) ∙ sym (ap toldBy (kind-weak _ _ _ (c .before .if2 .taken)))
 
 -- src/lib.rt:42:5
 answer-requires : tie.Need-answer-requires
@@ -36,7 +41,7 @@ check-admitted-spec =
     (tie.spec
     firm-admitted-requires
     returns
-    weak-admitted-requires
+    check-weak-requires
     returns-2
     answer-requires
     returns-3)

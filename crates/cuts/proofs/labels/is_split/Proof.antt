@@ -1,6 +1,6 @@
 -- `is_split` meets its contract: the search sees every vertex exactly where the graph is connected.
 use borrow.Author.Needs.{needs}
-use Rattle.graph.proofs.Parted.{no-goal}
+use Rattle.search.proofs.Parted.{no-goal}
 use Rattle.cuts.proofs.Spanning.{searched, enough-lent}
 use Rattle.cuts.proofs.labels.is_split.Statement.{statement}
 use Rattle.cuts.proofs.labels.is_split.Tie as tie

@@ -1,0 +1,198 @@
+//! Random plans for the writers: small ones of many shapes, some larger ones, refused ones, and space for the record.
+
+use crate::damage::record;
+use crate::random::Random;
+use crate::shapes::Plan;
+
+/// A plan and the space lent for its record, filled with any numbers.
+#[derive(Clone, Debug)]
+pub struct Trial {
+    pub plan: Plan,
+    pub rows: Vec<u16>,
+}
+
+type Tabs = Vec<[u16; 2]>;
+
+/// A random plan, most of 2 to 8 pieces, with space that may be too short or longer than needed.
+pub fn random_trial(random: &mut Random) -> Trial {
+    let mut tabs = match random.below(16) {
+        0 => scattered(random, 7, 14),
+        1 => scattered(random, 3, 14),
+        2 | 3 => ring(random),
+        4 | 5 => parallel(random),
+        6 | 7 => glued(random),
+        8 => parted(random),
+        _ => grown(random),
+    };
+    while random.once_in(3) {
+        change(random, &mut tabs);
+    }
+    let mut plan = mixed(random, &tabs);
+    while random.once_in(12) {
+        spoil(random, &mut plan);
+    }
+    let rows = space(random, plan.ends.len() / 2);
+    Trial { plan, rows }
+}
+
+/// Two different pieces.
+fn pair(random: &mut Random, pieces: u16) -> [u16; 2] {
+    let a = random.below(pieces as usize) as u16;
+    let step = 1 + random.below(pieces as usize - 1) as u16;
+    [a, (a + step) % pieces]
+}
+
+fn pieces(tabs: &Tabs) -> u16 {
+    tabs.iter()
+        .flatten()
+        .max()
+        .map_or(2, |&highest| highest + 1)
+}
+
+fn scattered(random: &mut Random, pieces: usize, tabs: usize) -> Tabs {
+    let pieces = 2 + random.below(pieces) as u16;
+    let count = random.below(tabs + 1);
+    (0..count).map(|_| pair(random, pieces)).collect()
+}
+
+/// A ring whose sides are one, two or three tabs, most of them two.
+fn ring(random: &mut Random) -> Tabs {
+    let pieces = 2 + random.below(6) as u16;
+    let mut tabs = Vec::new();
+    for v in 0..pieces {
+        let side = [2, 2, 2, 1, 3][random.below(5)];
+        tabs.extend([[v, (v + 1) % pieces]].repeat(side));
+    }
+    tabs
+}
+
+/// A tree whose neighbours are joined by three tabs or four, seldom fewer.
+fn parallel(random: &mut Random) -> Tabs {
+    let pieces = 2 + random.below(4);
+    let mut tabs = Vec::new();
+    for v in 1..pieces {
+        let count = [3, 3, 3, 4, 3, 4, 2, 1][random.below(8)];
+        let parent = random.below(v) as u16;
+        tabs.extend([[parent, v as u16]].repeat(count));
+    }
+    tabs
+}
+
+/// A firm plan grown by ears, or one whose ears may break the link rule; seldom a larger one.
+fn grown(random: &mut Random) -> Tabs {
+    let most = match random.below(400) {
+        0 => 60,
+        1..=10 => 20,
+        _ => 8,
+    };
+    let careless = random.once_in(6);
+    let case = record(random, most, careless);
+    let pairs = case.ends.chunks_exact(2);
+    pairs.map(|pair| [pair[0], pair[1]]).collect()
+}
+
+/// Two or three bodies, each with one piece in common with those before.
+fn glued(random: &mut Random) -> Tabs {
+    let mut tabs = small(random);
+    for _ in 0..1 + random.below(2) {
+        let (first, joint) = (pieces(&tabs), random.below(pieces(&tabs) as usize));
+        let place = |v| if v == 0 { joint as u16 } else { first + v - 1 };
+        tabs.extend(small(random).iter().map(|tab| tab.map(place)));
+    }
+    tabs
+}
+
+/// Two or three bodies with nothing in common.
+fn parted(random: &mut Random) -> Tabs {
+    let mut tabs = small(random);
+    for _ in 0..1 + random.below(2) {
+        let first = pieces(&tabs);
+        tabs.extend(small(random).iter().map(|tab| tab.map(|v| first + v)));
+    }
+    tabs
+}
+
+fn small(random: &mut Random) -> Tabs {
+    match random.below(4) {
+        0 => ring(random),
+        1 => parallel(random),
+        _ => {
+            let case = record(random, 4, false);
+            let pairs = case.ends.chunks_exact(2);
+            pairs.map(|pair| [pair[0], pair[1]]).collect()
+        }
+    }
+}
+
+/// A tab more or less, or one that ends elsewhere.
+fn change(random: &mut Random, tabs: &mut Tabs) {
+    let pieces = pieces(tabs);
+    let new = pair(random, pieces);
+    if tabs.is_empty() || random.once_in(3) {
+        return tabs.push(new);
+    }
+    let at = random.below(tabs.len());
+    if random.once_in(2) {
+        tabs.remove(at);
+    } else {
+        let end = random.below(2);
+        tabs[at] = [tabs[at][end], new[0]];
+        if tabs[at][0] == tabs[at][1] {
+            tabs[at] = new;
+        }
+    }
+}
+
+/// The plan of some tabs, pieces and tabs renumbered at random; seldom with a piece that no tab joins.
+fn mixed(random: &mut Random, tabs: &Tabs) -> Plan {
+    let vertices = pieces(tabs) + random.once_in(20) as u16;
+    let name = random.order(vertices as usize);
+    let order = random.order(tabs.len());
+    let mut ends = Vec::new();
+    for i in order {
+        let turn = random.below(2);
+        let tab = tabs[i as usize];
+        ends.extend([tab[turn], tab[1 - turn]].map(|v| name[v as usize]));
+    }
+    Plan { vertices, ends }
+}
+
+/// One of the faults that a plan is refused for.
+fn spoil(random: &mut Random, plan: &mut Plan) {
+    let (vertices, length) = (plan.vertices, plan.ends.len());
+    match random.below(6) {
+        0 => plan.ends.push(random.below(vertices as usize + 1) as u16),
+        1 => plan.vertices = [0, 1, 1000, 1001, 65535][random.below(5)],
+        2 if random.once_in(20) => crowd(random, plan),
+        3 => plan.vertices = vertices.saturating_sub(1),
+        4 if length > 0 => {
+            plan.ends[random.below(length)] = [vertices, 65535][random.below(2)];
+        }
+        5 if length > 1 => {
+            let at = random.below(length / 2) * 2;
+            plan.ends[at] = plan.ends[at + 1];
+        }
+        _ => plan.vertices = vertices.saturating_add(1),
+    }
+}
+
+/// Some 4,000 tabs, most of them between two pieces, and some pieces apart, for trying all sets of tabs would take long.
+fn crowd(random: &mut Random, plan: &mut Plan) {
+    let count = 7996 + 2 * random.below(5);
+    let more = (plan.ends.len()..count).map(|i| i as u16 % 2);
+    plan.ends.extend(more);
+    let highest = plan.ends.iter().max().copied().unwrap_or(0);
+    plan.vertices = plan.vertices.max(highest).saturating_add(5);
+}
+
+/// Space for a record: as much as is needed, less or more.
+fn space(random: &mut Random, tabs: usize) -> Vec<u16> {
+    let need = 3 * tabs;
+    let length = match random.below(16) {
+        0 => random.below(need + 1),
+        1 => need.saturating_sub(1),
+        2..=6 => need + 1 + random.below(7),
+        _ => need,
+    };
+    (0..length).map(|_| random.next() as u16).collect()
+}

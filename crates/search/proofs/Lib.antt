@@ -1,0 +1,9 @@
+pub mod Tally
+pub mod Growth
+pub mod Leads
+pub mod Starts
+pub mod Outcomes
+pub mod Removal
+pub mod Parted
+pub mod Climb
+pub mod Cuts

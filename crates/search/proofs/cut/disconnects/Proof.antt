@@ -1,0 +1,48 @@
+-- `disconnects` meets its contract: a plan that the constructor refuses is refused by its answer, any other is searched.
+use mathlib.Core.Path.{_≡_, refl, sym, _∙_}
+use borrow.Author.Needs.{needs}
+use Rattle.graph.proofs.Lent.{constructed-refused, constructed-admitted, lent-refused}
+use Rattle.search.proofs.cut.disconnects.Statement.{statement}
+use Rattle.search.proofs.cut.disconnects.Tie as tie
+
+new-requires : tie.Need-new-requires
+new-requires c κs = search needs
+
+enum-known-made : tie.Need-enum-known-made
+enum-known-made c = search needs
+
+enum-known-made-2 : tie.Need-enum-known-made-2
+enum-known-made-2 c = search needs
+
+part-admitted-requires : tie.Need-part-admitted-requires
+part-admitted-requires c κs =
+    let made = c .before .before in
+    let new = made .before .before in
+    let p = constructed-admitted _ _ (sym (new .new .ensures) ∙ made .made2 .given .1) in
+    (p .2, p .0)
+
+returns : tie.Need-returns
+returns c =
+    let made = c .before in
+    let new = made .before .before in
+    let p = constructed-refused _ _ (sym (new .new .ensures) ∙ made .made .given .1) in
+    let r = lent-refused _ (p .0) (p .1) in
+    (r, refl)
+
+same-length : tie.Need-same-length
+same-length c = search needs
+
+returns-2 : tie.Need-returns-2
+returns-2 c = search needs
+
+pub disconnects-spec : {M : Type 1} → statement M
+disconnects-spec =
+    tie.close
+    (tie.spec
+    new-requires
+    enum-known-made
+    enum-known-made-2
+    part-admitted-requires
+    returns
+    same-length
+    returns-2)

@@ -1,0 +1,109 @@
+-- What a search has found, of a graph, its live edges and the roles of its vertices.
+use mathlib.Core.Path.{_≡_}
+use mathlib.Core.Bool.{Bool, _&&_}
+use mathlib.Core.Logic.{_⊎_}
+use mathlib.Core.List.{List}
+use Prim.Native.Nat.{ℕ, zero, suc, _+_, _-_, _/_, _≤_, _<_}
+use lib.Dec.{leb}
+use lib.ListN.{length, getD}
+use Rattle.connectivity.specs.Graph.{Graph, Joins, graphOf, always}
+use Rattle.connectivity.specs.Reach.{Through}
+use Rattle.connectivity.specs.Admission as meaning
+use Rattle.search.specs.declared.Explored.{Explored}
+use Rattle.search.specs.declared.Explored.the-variants.{Refused, Seen, Met}
+use Rattle.graph.specs.Admission.{lent, RefusedBy}
+
+-- an edge is live if its mark is 0
+abbrev pub Live : List ℕ → ℕ → Type 0
+Live dead e = getD dead e 0 ≡ 0
+
+-- roles of vertices: 0 is passed through; 1 is a start, and passed through; 2 is reached only; above 2 is a goal: reached only, and
+-- where the search ends
+abbrev pub Start : List ℕ → ℕ → Type 0
+Start roles v = getD roles v 0 ≡ 1
+
+abbrev pub Pass : List ℕ → ℕ → Type 0
+Pass roles v = getD roles v 0 < 2
+
+abbrev pub Goal : List ℕ → ℕ → Type 0
+Goal roles v = 2 < getD roles v 0
+
+-- a vertex was seen if its mark is not 0: 65,535 for a start, else one more than the edge by which it was first reached
+abbrev pub Marked : List ℕ → ℕ → Type 0
+Marked first v = getD first v 0 ≡ 0 → ⊥
+
+-- how many of the first n vertices have been seen
+unfoldable pub flag : ℕ → ℕ
+flag zero = 0
+flag (suc k) = 1
+
+unfoldable pub tally : List ℕ → ℕ → ℕ
+unfolding flag
+tally marks zero = 0
+tally marks (suc n) = flag (getD marks n 0) + tally marks n
+
+-- v was first reached by a live edge from a vertex before place k of the order, and that one may be passed through
+pub record Reached (g : Graph) (live pass : ℕ → Type 0) (first order : List ℕ) (k v : ℕ) : Type 0 where
+  pub place : ℕ
+  pub earlier : place < k
+  pub by-live : live (getD first v 0 - 1)
+  pub from-pass : pass (getD order place 0)
+  pub joins : Joins g (getD first v 0 - 1) (getD order place 0) v
+
+-- the marks and the order of n vertices, of which `count` have been seen
+pub record Tree (g : Graph) (live pass start : ℕ → Type 0) (n : ℕ) (first order : List ℕ) (count : ℕ) : Type 0 where
+  -- the first `count` places of the order have the seen vertices, each once
+  pub valid : (k : ℕ) → k < count → getD order k 0 < n
+  pub marked : (k : ℕ) → k < count → Marked first (getD order k 0)
+  pub listed : (v : ℕ) → v < n → Marked first v → (k : ℕ) × (k < count) × (getD order k 0 ≡ v)
+  pub once : (j k : ℕ) → j < k → k < count → getD order j 0 ≡ getD order k 0 → ⊥
+  -- every start is seen, and the starts come first
+  pub roots : (v : ℕ) → v < n → start v → getD first v 0 ≡ 65535
+  pub leading : (j k : ℕ) → j < k → k < count → start (getD order k 0) → start (getD order j 0)
+  -- every other was first reached from one earlier in the order
+  pub tree : (k : ℕ) → k < count → start (getD order k 0) ⊎ Reached g live pass first order k (getD order k 0)
+
+-- v is reached from a start over live edges, through vertices that may be passed through
+pub record FromStart (g : Graph) (live pass start : ℕ → Type 0) (n v : ℕ) : Type 0 where
+  pub root : ℕ
+  pub below : root < n
+  pub is-start : start root
+  pub way : Through g live pass root v
+
+-- what a search leaves behind
+pub record Found (g : Graph) (live pass start : ℕ → Type 0) (n : ℕ) (first₀ order₀ first order : List ℕ) (count : ℕ) : Type 0 where
+  pub tree : Tree g live pass start n first order count
+  pub counted : count ≡ tally first n
+  pub sound : (v : ℕ) → v < n → Marked first v → FromStart g live pass start n v
+  -- numbers behind the needed ones stay
+  pub first-rest : (k : ℕ) → n ≤ k → getD first k 0 ≡ getD first₀ k 0
+  pub order-rest : (k : ℕ) → count ≤ k → getD order k 0 ≡ getD order₀ k 0
+
+-- it has met no goal, and so has seen everything that is reached
+pub record Whole (g : Graph) (live pass start goal : ℕ → Type 0) (n : ℕ) (first order : List ℕ) (count : ℕ) : Type 0 where
+  pub whole : (v : ℕ) → v < n → FromStart g live pass start n v → Marked first v
+  pub plain : (k : ℕ) → k < count → goal (getD order k 0) → ⊥
+
+-- it ended at a goal, the last vertex of the order and the only goal in it
+pub record Stopped (goal : ℕ → Type 0) (order : List ℕ) (count : ℕ) : Type 0 where
+  pub some : 0 < count
+  pub met : goal (getD order (count - 1) 0)
+  pub plain : (k : ℕ) → k + 1 < count → goal (getD order k 0) → ⊥
+
+-- the lent slices have a place for each vertex and for each edge
+abbrev pub enough : ℕ → List ℕ → List ℕ → List ℕ → List ℕ → List ℕ → Bool
+enough n ends roles dead first order =
+    leb n (length roles) && (leb (length ends / 2) (length dead) && (leb n (length first) && leb n (length order)))
+
+-- the whole answer of a search
+abbrev pub Answered : ℕ → List ℕ → List ℕ → List ℕ → List ℕ → List ℕ → List ℕ → List ℕ → Explored → Type 0
+Answered n ends roles dead first₀ order₀ first order (Refused a) =
+    RefusedBy (lent n ends (enough n ends roles dead first₀ order₀)) a × (first ≡ first₀) × (order ≡ order₀)
+Answered n ends roles dead first₀ order₀ first order (Seen count) =
+    (lent n ends (enough n ends roles dead first₀ order₀) ≡ meaning.passed)
+    × Found (graphOf n always ends) (Live dead) (Pass roles) (Start roles) n first₀ order₀ first order count
+    × Whole (graphOf n always ends) (Live dead) (Pass roles) (Start roles) (Goal roles) n first order count
+Answered n ends roles dead first₀ order₀ first order (Met count) =
+    (lent n ends (enough n ends roles dead first₀ order₀) ≡ meaning.passed)
+    × Found (graphOf n always ends) (Live dead) (Pass roles) (Start roles) n first₀ order₀ first order count
+    × Stopped (Goal roles) order count
