@@ -1,0 +1,34 @@
+-- `bundle` is safe and ends.
+use Prim.Native.Nat.{_-_, _≤_}
+use borrow.Author.Needs.{needs}
+use Rattle.certify_test.proofs.plan.Plan.bundle.Statement.{statement}
+use Rattle.certify_test.proofs.plan.Plan.bundle.Tie as tie
+
+abbrev Inv-loop : tie.InvT-loop
+Inv-loop a b count p₀ i₀ p i = i ≤ count
+
+abbrev μ-loop : tie.MeasureT-loop
+μ-loop a b count p₀ i₀ p i = count - i
+
+loop-holds : tie.Need-loop-holds Inv-loop μ-loop
+loop-holds c = search needs
+
+edge-requires : tie.Need-edge-requires Inv-loop μ-loop
+edge-requires c κs = search needs
+
+add-i : tie.Need-add-i Inv-loop μ-loop
+add-i c = search needs
+
+loop-less : tie.Need-loop-less Inv-loop μ-loop
+loop-less c = search needs
+
+loop-again : tie.Need-loop-again Inv-loop μ-loop
+loop-again c = search needs
+
+returns : tie.Need-returns Inv-loop μ-loop
+returns c = search needs
+
+pub bundle-spec : {M : Type 1} → statement M
+bundle-spec =
+    tie.close
+    (tie.spec Inv-loop μ-loop loop-holds edge-requires add-i loop-less loop-again returns)

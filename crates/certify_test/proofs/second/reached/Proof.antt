@@ -1,0 +1,54 @@
+-- `reached` is safe and ends.
+use Prim.Native.Nat.{_-_, _≤_}
+use borrow.Author.Needs.{needs}
+use Rattle.certify_test.proofs.second.reached.Statement.{statement}
+use Rattle.certify_test.proofs.second.reached.Tie as tie
+
+abbrev Inv-loop : tie.InvT-loop
+Inv-loop ends live start marks₀ turn₀ marks turn = turn ≤ 16
+
+abbrev μ-loop : tie.MeasureT-loop
+μ-loop ends live start marks₀ turn₀ marks turn = 16 - turn
+
+none-requires : tie.Need-none-requires Inv-loop μ-loop
+none-requires c κs = search needs
+
+with-requires : tie.Need-with-requires Inv-loop μ-loop
+with-requires c κs = search needs
+
+loop-holds : tie.Need-loop-holds Inv-loop μ-loop
+loop-holds c = search needs
+
+pass-requires : tie.Need-pass-requires Inv-loop μ-loop
+pass-requires c κs = search needs
+
+returns : tie.Need-returns Inv-loop μ-loop
+returns c = search needs
+
+add-turn : tie.Need-add-turn Inv-loop μ-loop
+add-turn c = search needs
+
+loop-less : tie.Need-loop-less Inv-loop μ-loop
+loop-less c = search needs
+
+loop-again : tie.Need-loop-again Inv-loop μ-loop
+loop-again c = search needs
+
+returns-2 : tie.Need-returns-2 Inv-loop μ-loop
+returns-2 c = search needs
+
+pub reached-spec : {M : Type 1} → statement M
+reached-spec =
+    tie.close
+    (tie.spec
+    Inv-loop
+    μ-loop
+    none-requires
+    with-requires
+    loop-holds
+    pass-requires
+    returns
+    add-turn
+    loop-less
+    loop-again
+    returns-2)
