@@ -13,6 +13,7 @@ use lib.Seq.{getD-set-same, getD-set-other, drop-cons, drop-length}
 use Rattle.connectivity.specs.Graph.{Graph, graphOf, always}
 use Rattle.connectivity.specs.Walk.{hits, degree}
 use Rattle.connectivity.specs.Admission.{EndsFit}
+use Rattle.connectivity.proofs.Lists.{raised}
 use Rattle.connectivity.proofs.Degree.{hits-most}
 use Rattle.search.proofs.Parted.{zeros}
 use Rattle.certify.specs.Step.{Marks, Sums, toward}
@@ -55,25 +56,18 @@ degree-most : (g : Graph) (l : List ℕ) (v : ℕ) → degree g l v ≤ length l
 degree-most g [] v = omega arith
 degree-most g (e ∷ l) v = omega (arith, hits-most g e v, degree-most g l v)
 
--- one entry more
-bump : (table : List ℕ) (i x v : ℕ) → i < length table → getD (set table i (getD table i 0 + x)) v 0 ≡ cond (eqb i v) x 0 + getD table v 0
-bump table i x v h = elim (ℕ-discrete i v) [
-  | yes p ↦ rw (eq-eqb i v p, ← p) (omega (arith, getD-set-same table i (getD table i 0 + x) 0 h))
-  | no p ↦ rw (ne-eqb i v p) (omega (arith, getD-set-other table i v (getD table i 0 + x) 0 (λ q. p (sym q))))
-]
-
--- at two places
+-- two entries of a table are raised
 either : (l r x y v : ℕ) → (l ≡ r → ⊥) → cond (eqb l v) x 0 + cond (eqb r v) y 0 ≡ cond (eqb l v) x (cond (eqb r v) y 0)
 either l r x y v n = elim (ℕ-discrete l v) [
   | yes p ↦ rw (eq-eqb l v p, ne-eqb r v (λ q. n (p ∙ sym q))) (omega arith)
   | no p ↦ rw (ne-eqb l v p) (omega arith)
 ]
 
-bump-two : (table : List ℕ) (l r x y v : ℕ) → l < length table → r < length table → (l ≡ r → ⊥)
+raised-two : (table : List ℕ) (l r x y v : ℕ) → l < length table → r < length table → (l ≡ r → ⊥)
     → let half = set table l (getD table l 0 + x) in
     getD (set half r (getD half r 0 + y)) v 0 ≡ cond (eqb l v) x (cond (eqb r v) y 0) + getD table v 0
-bump-two table l r x y v a b d = let half = set table l (getD table l 0 + x) in
-    omega (arith, bump half r y v (omega (arith, b, length-set table l (getD table l 0 + x))), bump table l x v a, either l r x y v d)
+raised-two table l r x y v a b d = let half = set table l (getD table l 0 + x) in
+    omega (arith, raised half r y v (omega (arith, b, length-set table l (getD table l 0 + x))), raised table l x v a, either l r x y v d)
 
 module _ {ends : List ℕ} {e : ℕ} {degrees used sums : List ℕ} (b : Edging ends e degrees used sums) where
   fit : EndsFit (b .n) ends e
@@ -119,7 +113,7 @@ module _ {ends : List ℕ} {e : ℕ} {degrees used sums : List ℕ} (b : Edging 
     used-long = length-set used e 1 ∙ m .used-long;
     degrees-are = λ v h. omega (
       arith,
-      bump-two degrees l r 1 1 v (left-adding .degrees-room) (omega (arith, right-long, m .degrees-long)) (fit .different),
+      raised-two degrees l r 1 1 v (left-adding .degrees-room) (omega (arith, right-long, m .degrees-long)) (fit .different),
       table-hits (b .n) ends e v,
       m .degrees-are v h,
     );
@@ -135,7 +129,7 @@ module _ {ends : List ℕ} {e : ℕ} {degrees used sums : List ℕ} (b : Edging 
     long = simp length-set (s .long);
     are = λ v h. omega (
       arith,
-      bump-two sums l r r l v (left-adding .sums-room) (omega (arith, right-long, s .long)) (fit .different),
+      raised-two sums l r r l v (left-adding .sums-room) (omega (arith, right-long, s .long)) (fit .different),
       table-toward (b .n) ends e v,
       s .are v h,
     );

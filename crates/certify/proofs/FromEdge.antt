@@ -9,19 +9,19 @@ use lib.ListN.{length, getD, length-append}
 use Rattle.connectivity.specs.Lists.{Distinct, none, one}
 use Rattle.connectivity.specs.Graph.{Graph, Edge, Joins, graphOf, always}
 use Rattle.connectivity.specs.Walk.{Leg, Walk, last, froms, edgesOf, allEdges, Built, Branch}
-use Rattle.connectivity.specs.Mader.{Ear, Steps, theta, ear, stepRows}
+use Rattle.connectivity.specs.Mader.{Ear, stepRows}
 use Rattle.connectivity.specs.Admission.{Admitted, limits}
 use Rattle.connectivity.proofs.Lists.{in-dec}
 use Rattle.connectivity.proofs.Distinct.{join-distinct}
 use Rattle.connectivity.proofs.Reach.{joins-sym, joins-vertex}
-use Rattle.connectivity.proofs.Degree.{built-vertex, degree-append}
-use Rattle.connectivity.proofs.Stage.{all-degree}
+use Rattle.connectivity.proofs.Degree.{built-vertex}
 use Rattle.connectivity.proofs.Build.{steps-edges, walk-edges, edges-count}
 use Rattle.connectivity.proofs.Fresh.{Fresh, ear-fresh, fresh-snoc}
 use Rattle.connectivity.proofs.Legs.{leg, walk-snoc, edges-snoc, distinct-between}
 use Rattle.connectivity.proofs.Admission.{admitted-edge, admitted-edges}
 use Rattle.connectivity.proofs.Once.{walk-once}
 use Rattle.connectivity.proofs.Grow.{branch-exit, next-edge, ear-from-branch}
+use Rattle.connectivity.proofs.Ears.{steps-built}
 use Rattle.search.specs.Search.{Live, Pass, Start, Goal, FromStart}
 use Rattle.search.proofs.Leads.{vertex-below, joins-edge}
 use Rattle.certify.specs.Step.{Climbing, Written, Growing, Grown}
@@ -68,11 +68,6 @@ module _ {ends degrees : List ℕ} {e : ℕ} (o : Crossing ends degrees e) {n : 
 
   pub across-right : (getD degrees (getD ends (2 * e) 0) 0 ≡ 0 → ⊥) → Across n ends degrees e (getD ends (2 * e + 1) 0)
   across-right h = record { from = getD ends (2 * e) 0; joins = table-joins a e (o .below); built = omega (arith, h) }
-
--- some vertex is built
-steps-built : {g : Graph} {walks : List (List Leg)} → Steps g walks → (v : ℕ) × Built g (allEdges walks) v
-steps-built (theta {a = a} {walks = walks} t) = (a, omega (arith, t .three, all-degree walks (t .between)))
-steps-built {g} (ear {walks = walks} {u = u} {legs = legs} s k) = (u, omega (arith, k .begins, degree-append g (edgesOf legs) (allEdges walks) u))
 
 module _ {n : ℕ} {ends degrees used : List ℕ} {room : ℕ} (c : Growing n ends degrees used room) where
   abbrev pub grown : List ℕ

@@ -7,7 +7,9 @@ use Prim.Native.Nat.{ℕ, zero, suc, _+_, _≤_, _<_}
 use native.Mathlib.Omega.{arith}
 use native.Mathlib.Decide.{ℕ-discrete}
 use lib.Dec.{T, eqb, eqb→eq, eqb-refl, T-not, not-T}
-use lib.ListN.{length}
+use lib.ListN.{length, getD, set}
+use lib.Seq.{getD-set-same, getD-set-other}
+use borrow.Author.Tests.{eq-eqb, ne-eqb}
 use Rattle.connectivity.specs.Lists.{Distinct, none, one, range, any, all, keep, mem, distinct, empty}
 
 -- tests
@@ -197,3 +199,10 @@ module _ {a : Bool} {P : Type 0} (p : Decides a P) where
 
 pub decides-all : {f : ℕ → Bool} {P : ℕ → Type 0} → ((x : ℕ) → Decides (f x) (P x)) → (l : List ℕ) → Decides (all f l) ((x : ℕ) → In x l → P x)
 decides-all {f} d l = record { holds = λ t x i. d x .holds (all-is f l .0 t x i); test = λ h. all-is f l .1 (λ x i. d x .test (h x i)) }
+
+-- one entry of a table is raised
+pub raised : (table : List ℕ) (i x v : ℕ) → i < length table → getD (set table i (getD table i 0 + x)) v 0 ≡ cond (eqb i v) x 0 + getD table v 0
+raised table i x v h = elim (ℕ-discrete i v) [
+  | yes p ↦ rw (eq-eqb i v p, ← p) (omega (arith, getD-set-same table i (getD table i 0 + x) 0 h))
+  | no p ↦ rw (ne-eqb i v p) (omega (arith, getD-set-other table i v (getD table i 0 + x) 0 (λ q. p (sym q))))
+]

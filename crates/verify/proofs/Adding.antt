@@ -6,20 +6,12 @@ use Prim.Native.Nat.{ℕ, suc, _+_, _*_, _≤_, _<_}
 use native.Mathlib.Omega.{arith}
 use lib.Dec.{eqb}
 use lib.ListN.{length, getD, set, length-set}
-use lib.Seq.{getD-set-same, getD-set-other}
-use borrow.Author.Tests.{eqb-true, eqb-false}
+use borrow.Author.Tests.{eqb-true}
 use Rattle.connectivity.specs.Graph.{Graph, graphOf, always}
 use Rattle.connectivity.specs.Walk.{Leg, edgesOf, hits, degree}
 use Rattle.connectivity.specs.Judge.{legOf}
+use Rattle.connectivity.proofs.Lists.{raised}
 use Rattle.verify.specs.Marks.{edgeAt, rowAt, Lies, none, one, EdgeReady, EdgeAdded, RowsReady, RowsAdded}
-
--- one more at one place
-bump : (marks : List ℕ) (i v : ℕ) → i < length marks → getD (set marks i (getD marks i 0 + 1)) v 0 ≡ cond (eqb i v) 1 0 + getD marks v 0
-bump marks i v h = go (eqb i v) refl
-  where
-    go : (t : Bool) → eqb i v ≡ t → getD (set marks i (getD marks i 0 + 1)) v 0 ≡ cond t 1 0 + getD marks v 0
-    go true p = rw (← eqb-true i v p) (omega (arith, getD-set-same marks i (getD marks i 0 + 1) 0 h))
-    go false p = omega (arith, getD-set-other marks i v (getD marks i 0 + 1) 0 (λ q. eqb-false i v p (omega (arith, q))))
 
 one-most : (t : Bool) → cond t 1 0 ≤ 1
 one-most true = omega arith
@@ -43,7 +35,7 @@ module _ (marks ends : List ℕ) (e : ℕ) where
   half = set marks l (getD marks l 0 + 1)
 
   pub half-few : {most : ℕ} → EdgeReady marks ends e most → getD half r 0 ≤ most + 1
-  half-few a = omega (arith, bump marks l r (a .left), one-most (eqb l r), a .few r)
+  half-few a = omega (arith, raised marks l 1 r (a .left), one-most (eqb l r), a .few r)
 
   pub edge-added : {most : ℕ} → EdgeReady marks ends e most → EdgeAdded marks (set half r (getD half r 0 + 1)) ends e
   edge-added a =
@@ -52,8 +44,8 @@ module _ (marks ends : List ℕ) (e : ℕ) where
         length-same = simp length-set refl;
         more = λ v. omega (
           arith,
-          bump half r v (omega (arith, long, a .right)),
-          bump marks l v (a .left),
+          raised half r 1 v (omega (arith, long, a .right)),
+          raised marks l 1 v (a .left),
           not-both (eqb l v) (eqb r v) (λ p q. a .different (omega (arith, eqb-true l v p, eqb-true r v q))),
         );
       }
