@@ -1,6 +1,7 @@
 // Plan text and verdict text (01, "Columns"), read and written. A refusal leaves what is lent unchanged.
 mod column;
 mod line;
+mod reader;
 
 use graph::Admission;
 use graph::Answer;
@@ -8,10 +9,10 @@ use graph::Graph;
 ghost use mathlib.Core.Path.{_≡_};
 ghost use mathlib.Core.Bool.{true};
 ghost use Prim.Native.Nat.{_≤_};
-ghost use lib.ListN.{length, drop, getD};
-ghost use Rattle.connectivity.specs.Admission.{edgeNumber, endsAnswer, limits};
+ghost use lib.ListN.{length, drop};
+ghost use Rattle.connectivity.specs.Admission.{endsAnswer, limits};
 ghost use Rattle.graph.specs.Admission.{toldBy};
-ghost use Rattle.text.specs.Column.{five, largest, lineFits, numbers, linesFit, linesNumbers};
+ghost use Rattle.text.specs.Column.{five, largest, linesFit, linesNumbers};
 ghost use Rattle.text.specs.Verdict.{perLine, linesOf, needed, countOf, countFits, hasText};
 ghost use Rattle.text.specs.Entry.{ReadsPlan, ReadsVerdict, WritesPlan, WritesVerdict, answerText};
 
@@ -90,29 +91,21 @@ fn judge_edges(text: &[u8], vertices: u16, edges: usize) -> Answer
     let mut next = line::HEADER;
     let mut e = 0;
     while e < edges {
-        let number = judge_line(text, next, vertices);
+        let ends = line::two_numbers(text, next);
+        let number = graph::judge_edge(vertices, ends.first, ends.second);
         if number != 0 {
             return Answer {
                 number: number,
                 place: e as u16,
             };
         }
-        next += line::HEADER;
+        next = ends.next;
         e += 1;
     }
     Answer {
         number: 0,
         place: 0,
     }
-}
-
-// 4, 5 or 0 for the edge whose line begins at `at`.
-fn judge_line(text: &[u8], at: usize, vertices: u16) -> u16
-    requires { ⌜ (at ≤ length (now text)) × (lineFits five largest 2 (drop at (now text)) ≡ true) ⌝ }
-    ensures { λ r. ⌜ r ≡ edgeNumber vertices (getD (numbers five 2 (drop at (now (text .entry)))) 0 0) (getD (numbers five 2 (drop at (now (text .entry)))) 1 0) ⌝ }
-{
-    let ends = line::two_numbers(text, at);
-    graph::judge_edge(vertices, ends.first, ends.second)
 }
 
 // Writes the text of a plan: the plan's own 1 to 5, then 6.

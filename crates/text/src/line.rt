@@ -1,9 +1,10 @@
-// Lines of numbers in columns. A cursor is the text and the place where the next line begins.
+// Lines of numbers in columns, taken by the reader.
 use crate::column::LONGEST;
 use crate::column::WIDTH;
 use crate::column::column_fits;
 use crate::column::number;
 use crate::column::write_column;
+use crate::reader::take_line;
 ghost use mathlib.Core.Path.{_≡_};
 ghost use mathlib.Core.Bool.{true};
 ghost use mathlib.Core.List.{_++_, _∷_, []};
@@ -15,24 +16,17 @@ ghost use Rattle.text.specs.Column.{five, largest, line, lines, lineFits
 // The bytes of a header: two columns and a line feed.
 pub(crate) const HEADER: usize = 2 * WIDTH + 1;
 
-// The two numbers of a line.
+// The two numbers of a line, and the place behind it.
 pub struct Pair {
     pub first: u16,
     pub second: u16,
+    pub next: usize,
 }
 
-// A copy of the `size` bytes of the line that begins at `at`.
-fn copy_line(text: &[u8], at: usize, size: usize) -> [u8; LONGEST]
-    requires { ⌜ (at + size ≤ length (now text)) × (size ≤ 16) ⌝ }
-    ensures { λ r. ⌜ (take size r ≡ take size (drop at (now (text .entry)))) × (length r ≡ 16) ⌝ }
-{
-    let mut copy = [0u8; LONGEST];
-    let mut i = 0;
-    while i < size {
-        copy[i] = text[at + i];
-        i += 1;
-    }
-    copy
+// Whether a line is in the form, and the place behind it.
+struct Judged {
+    fits: bool,
+    next: usize,
 }
 
 // A line of `columns` numbers in the form begins at `at`.
@@ -40,12 +34,27 @@ pub(crate) fn line_fits(text: &[u8], at: usize, columns: usize) -> bool
     requires { ⌜ (at ≤ length (now text)) × (columns ≤ 3) ⌝ }
     ensures { λ r. ⌜ r ≡ lineFits five largest columns (drop at (now (text .entry))) ⌝ }
 {
+    let judged = judge_line(text, at, columns);
+    judged.fits
+}
+
+// Judges the line of `columns` numbers that begins at `at`. The place behind it counts if it fits.
+fn judge_line(text: &[u8], at: usize, columns: usize) -> Judged
+    requires { ⌜ (at ≤ length (now text)) × (columns ≤ 3) ⌝ }
+    ensures { λ r. ⌜ (r .fits ≡ lineFits five largest columns (drop at (now (text .entry)))) × (r .fits ≡ true → r .next ≡ at + (columns * 5 + 1)) ⌝ }
+{
     let size = columns * WIDTH + 1;
     if text.len() - at < size {
-        return false;
+        return Judged {
+            fits: false,
+            next: at,
+        };
     }
-    let copy = copy_line(text, at, size);
-    columns_fit(&copy, columns)
+    let line = take_line(text, at, size);
+    Judged {
+        fits: columns_fit(&line.bytes, columns),
+        next: line.next,
+    }
 }
 
 // The line has `columns` columns in the form and then a line feed.
@@ -71,10 +80,12 @@ pub(crate) fn lines_fit(text: &[u8], at: usize, columns: usize, count: usize) ->
     let mut next = at;
     let mut left = count;
     while 0 < left {
-        if !line_fits(text, next, columns) {
+        let judged = judge_line(text, next, columns);
+        let fits = judged.fits;
+        if !fits {
             return false;
         }
-        next += columns * WIDTH + 1;
+        next = judged.next;
         left -= 1;
     }
     next == text.len()
@@ -83,22 +94,24 @@ pub(crate) fn lines_fit(text: &[u8], at: usize, columns: usize, count: usize) ->
 // The two numbers of the line that begins at `at`.
 pub(crate) fn two_numbers(text: &[u8], at: usize) -> Pair
     requires { ⌜ (at ≤ length (now text)) × (lineFits five largest 2 (drop at (now text)) ≡ true) ⌝ }
-    ensures { λ r. ⌜ (r .first ≡ getD (numbers five 2 (drop at (now (text .entry)))) 0 0) × (r .second ≡ getD (numbers five 2 (drop at (now (text .entry)))) 1 0) ⌝ }
+    ensures { λ r. ⌜ (r .first ≡ getD (numbers five 2 (drop at (now (text .entry)))) 0 0) × (r .second ≡ getD (numbers five 2 (drop at (now (text .entry)))) 1 0) × (r .next ≡ at + 11) ⌝ }
 {
-    let copy = copy_line(text, at, HEADER);
+    let line = take_line(text, at, HEADER);
     Pair {
-        first: number(&copy, 0) as u16,
-        second: number(&copy, WIDTH) as u16,
+        first: number(&line.bytes, 0) as u16,
+        second: number(&line.bytes, WIDTH) as u16,
+        next: line.next,
     }
 }
 
-// Stores the numbers of the line that begins at `at` from `to` on.
-fn store_line(text: &[u8], at: usize, columns: usize, list: &mut [u16], to: usize)
+// Stores the numbers of the line that begins at `at` from `to` on, and gives the place behind it.
+fn store_line(text: &[u8], at: usize, columns: usize, list: &mut [u16], to: usize) -> usize
     requires { ⌜ (at ≤ length (now text)) × (columns ≤ 3) × (to + columns ≤ length (now list)) × (lineFits five largest columns (drop at (now text)) ≡ true) ⌝ }
-    ensures { λ r. ⌜ now (list .exit) ≡ sets (now (list .entry)) to (numbers five columns (drop at (now (text .entry)))) ⌝ }
+    ensures { λ r. ⌜ (r ≡ at + (columns * 5 + 1)) × (now (list .exit) ≡ sets (now (list .entry)) to (numbers five columns (drop at (now (text .entry))))) ⌝ }
 {
-    let copy = copy_line(text, at, columns * WIDTH + 1);
-    store_columns(&copy, columns, list, to);
+    let line = take_line(text, at, columns * WIDTH + 1);
+    store_columns(&line.bytes, columns, list, to);
+    line.next
 }
 
 fn store_columns(copy: &[u8; LONGEST], columns: usize, list: &mut [u16], to: usize)
@@ -121,8 +134,7 @@ pub(crate) fn store_lines(text: &[u8], at: usize, columns: usize, count: usize, 
     let mut to = 0;
     let mut left = count;
     while 0 < left {
-        store_line(text, next, columns, list, to);
-        next += columns * WIDTH + 1;
+        next = store_line(text, next, columns, list, to);
         to += columns;
         left -= 1;
     }

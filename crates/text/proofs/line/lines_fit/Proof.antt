@@ -18,14 +18,14 @@ abbrev μ-loop : tie.MeasureT-loop
 loop-holds : tie.Need-loop-holds Inv-loop μ-loop
 loop-holds c = (omega arith, omega arith, refl)
 
-line-fits-requires : tie.Need-line-fits-requires Inv-loop μ-loop
-line-fits-requires c κs = omega arith
+judge-line-requires : tie.Need-judge-line-requires Inv-loop μ-loop
+judge-line-requires c κs = omega arith
 
 returns : tie.Need-returns Inv-loop μ-loop
 returns c =
     let l = c .before .before .before in
     let a = l .before .before .args in
-    let q = sym (c .before .line-fits .ensures) ∙ not-true _ (c .if1 .taken) in
+    let q = sym (c .before .judge-line .ensures .0) ∙ not-true _ (c .if1 .taken) in
     sym (l .loop .inv .2 ∙ lines-next (a .columns) (l .loop .left) (l .loop .next) (a .text .now) (omega arith) largest ∙ rw q)
 
 -- a line that fits is there
@@ -35,17 +35,8 @@ room : (c : tie.Else1 Inv-loop μ-loop)
 room c =
     let l = c .before .before .before in
     let a = l .before .before .args in
-    let q = sym (c .before .line-fits .ensures) ∙ not-false _ (c .if1 .left) in
+    let q = sym (c .before .judge-line .ensures .0) ∙ not-false _ (c .if1 .left) in
     omega (arith, line-long five largest (a .columns) (drop (l .loop .next) (a .text .now)) q, length-drop (l .loop .next) (a .text .now))
-
-mul-next : tie.Need-mul-next Inv-loop μ-loop
-mul-next c = omega arith
-
-add-next : tie.Need-add-next Inv-loop μ-loop
-add-next c = omega arith
-
-add-next-2 : tie.Need-add-next-2 Inv-loop μ-loop
-add-next-2 c = omega (arith, room c)
 
 sub-left : tie.Need-sub-left Inv-loop μ-loop
 sub-left c = omega arith
@@ -57,8 +48,9 @@ loop-again : tie.Need-loop-again Inv-loop μ-loop
 loop-again c =
     let l = c .before .before .before in
     let a = l .before .before .args in
-    let q = sym (c .before .line-fits .ensures) ∙ not-false _ (c .if1 .left) in
-    (omega (arith, room c), omega arith, l .loop .inv .2 ∙ lines-next (a .columns) (l .loop .left) (l .loop .next) (a .text .now) (omega arith) largest ∙ rw q)
+    let q = sym (c .before .judge-line .ensures .0) ∙ not-false _ (c .if1 .left) in
+    let n = c .before .judge-line .ensures .1 (not-false _ (c .if1 .left)) in
+    (omega (arith, n, room c), omega arith, rw n (l .loop .inv .2 ∙ lines-next (a .columns) (l .loop .left) (l .loop .next) (a .text .now) (omega arith) largest ∙ rw q))
 
 returns-2 : tie.Need-returns-2 Inv-loop μ-loop
 returns-2 c =
@@ -73,11 +65,8 @@ lines-fit-spec =
     Inv-loop
     μ-loop
     loop-holds
-    line-fits-requires
+    judge-line-requires
     returns
-    mul-next
-    add-next
-    add-next-2
     sub-left
     loop-less
     loop-again

@@ -37,15 +37,6 @@ turn c =
     let q = lines-true (a .columns) (l .loop .left) (l .loop .next) (a .text .now) (omega arith) largest (l .loop .inv .3) in
     (omega (arith, q .2, length-drop (l .loop .next) (a .text .now)), omega (arith, one-less (a .columns) (l .loop .left) (omega arith)))
 
-mul-next : tie.Need-mul-next Inv-loop μ-loop
-mul-next c = omega arith
-
-add-next : tie.Need-add-next Inv-loop μ-loop
-add-next c = omega arith
-
-add-next-2 : tie.Need-add-next-2 Inv-loop μ-loop
-add-next-2 c = omega (arith, turn c)
-
 add-to : tie.Need-add-to Inv-loop μ-loop
 add-to c = omega (arith, turn c)
 
@@ -62,11 +53,11 @@ loop-again c =
     let w = c .before .before .store-line in
     let q = lines-true (a .columns) (l .loop .left) (l .loop .next) (a .text .now) (omega arith) largest (l .loop .inv .3) in
     let t = turn c in (
-      t .0,
+      rw (w .ensures .0) (t .0),
       omega (arith, w .kept .1 .1 .1 .0),
       omega (arith, t .1, w .kept .1 .1 .1 .0),
-      q .1,
-      rw (w .ensures) (sym (store-lines-next (l .loop .list) (a .text .now) (l .loop .to) (l .loop .next) (a .columns) (l .loop .left) (omega arith)) ∙ l .loop .inv .4),
+      rw (w .ensures .0) (q .1),
+      rw (w .ensures .0, w .ensures .1) (sym (store-lines-next (l .loop .list) (a .text .now) (l .loop .to) (l .loop .next) (a .columns) (l .loop .left) (omega arith)) ∙ l .loop .inv .4),
     )
 
 same-length : tie.Need-same-length Inv-loop μ-loop
@@ -83,9 +74,6 @@ store-lines-spec =
     μ-loop
     loop-holds
     store-line-requires
-    mul-next
-    add-next
-    add-next-2
     add-to
     sub-left
     loop-less

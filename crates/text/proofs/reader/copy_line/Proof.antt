@@ -4,8 +4,8 @@ use Prim.Native.Nat.{_-_, _≤_}
 use native.Mathlib.Omega.{arith}
 use lib.ListN.{length, take, drop, length-set}
 use Rattle.text.proofs.Laws.{copy-next}
-use Rattle.text.proofs.line.copy_line.Statement.{statement}
-use Rattle.text.proofs.line.copy_line.Tie as tie
+use Rattle.text.proofs.reader.copy_line.Statement.{statement}
+use Rattle.text.proofs.reader.copy_line.Tie as tie
 
 abbrev Inv-loop : tie.InvT-loop
 Inv-loop text at size copy₀ i₀ copy i = (i ≤ size) × (length copy ≡ 16) × (take i copy ≡ take i (drop at text))
