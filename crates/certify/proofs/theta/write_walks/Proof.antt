@@ -1,9 +1,32 @@
 -- `write_walks` meets its contract: three steps, each through the part of the list behind the rows before it.
+use Prim.Native.Nat.{_+_, _*_, _≤_}
 use native.Mathlib.Omega.{arith}
+use lib.ListN.{length}
 use Rattle.certify.proofs.ThreeRows.{high-room, high-is, high-fits, low-room, low-is, low-fits, side-room, side-is, three-written}
 use borrow.Author.Needs.{needs}
 use Rattle.certify.proofs.theta.write_walks.Statement.{statement}
 use Rattle.certify.proofs.theta.write_walks.Tie as tie
+
+-- the rows of the first step lie in the list
+first-fits : (up : tie.After-up-over) → 3 * up .up-over .result ≤ length (up .up-over .last .1 .1 .1 .1 .0)
+first-fits up =
+    let start = up .before .before .before .before .before in
+    high-fits (start .args .rows .now) (start .pre) (up .up-over .last .1 .1 .1 .1 .0) (up .up-over .result) (up .up-over .ensures)
+
+-- there are not many of them and of those of the second
+two-short : (over : tie.After-over-up) → over .before .before .before .before .up-over .result + over .over-up .result ≤ 2002
+two-short over =
+    let up = over .before .before .before .before in
+    let start = up .before .before .before .before .before in
+    let a = start .args in
+    omega (
+      arith,
+      high-is (a .rows .now) (start .pre) (up .up-over .last .1 .1 .1 .1 .0) (up .up-over .result) (up .up-over .ensures),
+      low-is (a .rows .now) (start .pre) (up .up-over .last .1 .1 .1 .1 .0) (up .up-over .result) (up .up-over .ensures)
+          (a .e2) (a .x) (over .over-up .result) (over .over-up .last .1 .1 .1 .1 .1 .1 .1 .0) (over .over-up .ensures),
+      start .pre .short-high,
+      start .pre .short-low,
+    )
 
 up-over-requires : tie.Need-up-over-requires
 up-over-requires c κs = let start = c .before .before .before .before in high-room (start .args .rows .now) (start .pre)
@@ -18,18 +41,10 @@ mul-over-up-2 : tie.Need-mul-over-up-2
 mul-over-up-2 c = search needs
 
 sub-over-up : tie.Need-sub-over-up
-sub-over-up c =
-    let up = c .before .before in
-    let start = up .before .before .before .before .before in
-    let a = start .args in
-    omega (arith, high-fits (a .rows .now) (start .pre) (up .up-over .last .1 .1 .1 .1 .0) (up .up-over .result) (up .up-over .ensures))
+sub-over-up c = omega (arith, first-fits (c .before .before))
 
 part-over-up-start : tie.Need-part-over-up-start
-part-over-up-start c =
-    let up = c .before .before in
-    let start = up .before .before .before .before .before in
-    let a = start .args in
-    omega (arith, high-fits (a .rows .now) (start .pre) (up .up-over .last .1 .1 .1 .1 .0) (up .up-over .result) (up .up-over .ensures))
+part-over-up-start c = omega (arith, first-fits (c .before .before))
 
 part-over-up-end : tie.Need-part-over-up-end
 part-over-up-end c = search needs
@@ -42,19 +57,7 @@ over-up-requires c κs =
     low-room (a .rows .now) (start .pre) (up .up-over .last .1 .1 .1 .1 .0) (up .up-over .result) (up .up-over .ensures)
 
 add-over-up : tie.Need-add-over-up
-add-over-up c =
-    let over = c .before .before in
-    let up = over .before .before .before .before in
-    let start = up .before .before .before .before .before in
-    let a = start .args in
-    omega (
-      arith,
-      high-is (a .rows .now) (start .pre) (up .up-over .last .1 .1 .1 .1 .0) (up .up-over .result) (up .up-over .ensures),
-      low-is (a .rows .now) (start .pre) (up .up-over .last .1 .1 .1 .1 .0) (up .up-over .result) (up .up-over .ensures)
-          (a .e2) (a .x) (over .over-up .result) (over .over-up .last .1 .1 .1 .1 .1 .1 .1 .0) (over .over-up .ensures),
-      start .pre .short-high,
-      start .pre .short-low,
-    )
+add-over-up c = omega (arith, two-short (c .before .before))
 
 cast-over-up-2 : tie.Need-cast-over-up-2
 cast-over-up-2 c = search needs
@@ -102,20 +105,7 @@ over-up-requires-2 c κs =
     (a .e2) (a .x) (over .over-up .result) (over .over-up .last .1 .1 .1 .1 .1 .1 .1 .0) (over .over-up .ensures)
 
 add-result : tie.Need-add-result
-add-result c =
-    let last = c .before .before in
-    let over = last .before .before .before .before in
-    let up = over .before .before .before .before in
-    let start = up .before .before .before .before .before in
-    let a = start .args in
-    omega (
-      arith,
-      high-is (a .rows .now) (start .pre) (up .up-over .last .1 .1 .1 .1 .0) (up .up-over .result) (up .up-over .ensures),
-      low-is (a .rows .now) (start .pre) (up .up-over .last .1 .1 .1 .1 .0) (up .up-over .result) (up .up-over .ensures)
-          (a .e2) (a .x) (over .over-up .result) (over .over-up .last .1 .1 .1 .1 .1 .1 .1 .0) (over .over-up .ensures),
-      start .pre .short-high,
-      start .pre .short-low,
-    )
+add-result c = omega (arith, two-short (c .before .before .before .before .before .before))
 
 add-result-2 : tie.Need-add-result-2
 add-result-2 c =
@@ -126,14 +116,10 @@ add-result-2 c =
     let a = start .args in
     omega (
       arith,
-      high-is (a .rows .now) (start .pre) (up .up-over .last .1 .1 .1 .1 .0) (up .up-over .result) (up .up-over .ensures),
-      low-is (a .rows .now) (start .pre) (up .up-over .last .1 .1 .1 .1 .0) (up .up-over .result) (up .up-over .ensures)
-          (a .e2) (a .x) (over .over-up .result) (over .over-up .last .1 .1 .1 .1 .1 .1 .1 .0) (over .over-up .ensures),
+      two-short over,
       side-is (a .rows .now) (start .pre) (up .up-over .last .1 .1 .1 .1 .0) (up .up-over .result) (up .up-over .ensures)
           (a .e2) (a .x) (over .over-up .result) (over .over-up .last .1 .1 .1 .1 .1 .1 .1 .0) (over .over-up .ensures)
           (a .e3) (last .over-up2 .result) (last .over-up2 .last .1 .1 .1 .1 .1 .1 .1 .0) (last .over-up2 .ensures),
-      start .pre .short-high,
-      start .pre .short-low,
       start .pre .short-side,
     )
 
