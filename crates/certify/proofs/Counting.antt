@@ -18,7 +18,7 @@ use Rattle.connectivity.proofs.Degree.{hits-most}
 use Rattle.search.proofs.Parted.{zeros}
 use Rattle.certify.specs.Step.{Marks, Sums, toward}
 use Rattle.certify.specs.Record.{Tables, Adding, Added, Edging, Rowing}
-use Rattle.certify.proofs.Around.{around-most}
+use Rattle.certify.proofs.NeighbourSum.{sum-most}
 
 -- nothing is built
 marks-none : (n : ℕ) (ends : List ℕ) → Marks n ends [] (replicate {A = ℕ} 1000 0) (replicate {A = ℕ} 4000 0)
@@ -89,7 +89,7 @@ module _ {ends : List ℕ} {e : ℕ} {degrees used sums : List ℕ} (b : Edging 
   few v h = omega (arith, b .tables .marks .degrees-are v h, degree-most (graphOf (b .n) always ends) (b .built) v, b .few)
 
   small : (v : ℕ) → v < b .n → getD sums v 0 ≤ 3999000
-  small v h = omega (arith, b .tables .sums-are .are v h, around-most (b .admitted) (b .built) v, b .few)
+  small v h = omega (arith, b .tables .sums-are .are v h, sum-most (b .admitted) (b .built) v, b .few)
 
   pub left-adding : Adding degrees sums l r
   left-adding = record {

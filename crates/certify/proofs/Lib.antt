@@ -10,7 +10,7 @@ pub mod Opened
 pub mod Exits
 pub mod Filling
 pub mod Rooms
-pub mod Around
+pub mod NeighbourSum
 pub mod FromLink
 pub mod FromEdge
 pub mod LinkWay

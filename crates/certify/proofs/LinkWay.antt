@@ -20,7 +20,7 @@ use Rattle.search.proofs.Leads.{joins-below}
 use Rattle.search.proofs.Tally.{tally-set, tally-le}
 use Rattle.certify.specs.Step.{toward}
 use Rattle.certify.specs.Growth.{Linked, Marking, Open, Onward, Following, Followed, Halved, Neighbouring, Neighbour, Linking}
-use Rattle.certify.proofs.Around.{some-at, Other, other, toward-is, toward-joins}
+use Rattle.certify.proofs.NeighbourSum.{some-at, Other, other, toward-is, toward-joins}
 use Rattle.certify.proofs.Paths.{far-end}
 use Rattle.certify.proofs.FromLink.{is-plain}
 use Rattle.certify.proofs.FromEdge.{edge-below}

@@ -19,12 +19,12 @@ use Rattle.connectivity.proofs.Build.{steps-edges}
 use Rattle.connectivity.proofs.Sound.{stage}
 use Rattle.connectivity.proofs.Grow.{all-branches}
 use Rattle.connectivity.proofs.Admission.{admitted-edges}
-use Rattle.certify.specs.Step.{Written, Sturdy, Opened, Marks, around, Ready, Grown, GrownFrom}
+use Rattle.certify.specs.Step.{Written, Sturdy, Opened, Marks, neighbourSum, Ready, Grown, GrownFrom}
 use Rattle.certify.specs.Record.{Tables, Rowing, Rowed, Recording, Recorded}
 use Rattle.certify.proofs.Written.{rows-length, written-part, written-length, part-long}
 use Rattle.certify.proofs.Rooms.{legs-edges}
 use Rattle.certify.proofs.FromEdge.{edge-below}
-use Rattle.certify.proofs.Around.{around-append}
+use Rattle.certify.proofs.NeighbourSum.{sum-append}
 
 -- The edges of rows, in the order of the rows.
 
@@ -70,10 +70,10 @@ unfolding rowEdges
 same-degree g [] v = refl
 same-degree g (legs ∷ done) v = omega (arith, degree-append g (rowEdges done) (edgesOf legs) v, degree-append g (edgesOf legs) (allEdges done) v, same-degree g done v)
 
-same-around : (g : Graph) (done : List (List Leg)) (v : ℕ) → around g (rowEdges done) v ≡ around g (allEdges done) v
+same-sum : (g : Graph) (done : List (List Leg)) (v : ℕ) → neighbourSum g (rowEdges done) v ≡ neighbourSum g (allEdges done) v
 unfolding rowEdges
-same-around g [] v = refl
-same-around g (legs ∷ done) v = omega (arith, around-append g (rowEdges done) (edgesOf legs) v, around-append g (edgesOf legs) (allEdges done) v, same-around g done v)
+same-sum g [] v = refl
+same-sum g (legs ∷ done) v = omega (arith, sum-append g (rowEdges done) (edgesOf legs) v, sum-append g (edgesOf legs) (allEdges done) v, same-sum g done v)
 
 same-length : (done : List (List Leg)) → length (rowEdges done) ≡ length (allEdges done)
 unfolding rowEdges
@@ -127,7 +127,7 @@ module _ {n : ℕ} {ends : List ℕ} (a : Admitted limits n ends) {done : List (
     marks = marks-order (t .marks);
     sums-are = record {
       long = t .sums-are .long;
-      are = λ v h. t .sums-are .are v h ∙ ap (λ (l : List ℕ). around g l v) (append-nil (rowEdges done)) ∙ same-around g done v;
+      are = λ v h. t .sums-are .are v h ∙ ap (λ (l : List ℕ). neighbourSum g l v) (append-nil (rowEdges done)) ∙ same-sum g done v;
     };
   }
 

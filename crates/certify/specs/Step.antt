@@ -71,14 +71,14 @@ unfoldable pub toward : Graph → ℕ → ℕ → ℕ
 toward g e v = cond (eqb (g .left e) v) (g .right e) (cond (eqb (g .right e) v) (g .left e) 0)
 
 -- the sum of the vertices that built edges lead to from v
-abbrev pub around : Graph → List ℕ → ℕ → ℕ
-around g [] v = 0
-around g (e ∷ built) v = toward g e v + around g built v
+abbrev pub neighbourSum : Graph → List ℕ → ℕ → ℕ
+neighbourSum g [] v = 0
+neighbourSum g (e ∷ built) v = toward g e v + neighbourSum g built v
 
 -- a table of these sums
 pub record Sums (n : ℕ) (ends built sums : List ℕ) : Type 0 where
   pub long : length sums ≡ 1000
-  pub are : (v : ℕ) → v < n → getD sums v 0 ≡ around (graphOf n always ends) built v
+  pub are : (v : ℕ) → v < n → getD sums v 0 ≡ neighbourSum (graphOf n always ends) built v
 
 -- what an ear asks: Mader's steps so far, an edge that is not built, and room for the rows that are left
 pub record Growing (n : ℕ) (ends degrees used : List ℕ) (room : ℕ) : Type 0 where

@@ -13,7 +13,7 @@ use Rattle.connectivity.specs.Walk.{hits, degree}
 use Rattle.connectivity.specs.Admission.{Admitted, limits}
 use Rattle.connectivity.proofs.Admission.{cond-both}
 use Rattle.connectivity.proofs.Degree.{hits-cases, in-degree}
-use Rattle.certify.specs.Step.{toward, around}
+use Rattle.certify.specs.Step.{toward, neighbourSum}
 
 -- One edge.
 
@@ -46,11 +46,11 @@ toward-joins {g} {e} {v} k h = elim (ℕ-discrete (g .left e) v) [
 
 -- No edge at a vertex, one and two.
 
-around-none : (g : Graph) (l : List ℕ) (v : ℕ) → degree g l v ≡ 0 → around g l v ≡ 0
-around-none g [] v h = refl
-around-none g (e ∷ l) v h = elim (hits-cases g e v) [
+sum-none : (g : Graph) (l : List ℕ) (v : ℕ) → degree g l v ≡ 0 → neighbourSum g l v ≡ 0
+sum-none g [] v h = refl
+sum-none g (e ∷ l) v h = elim (hits-cases g e v) [
   | inl c ↦ absurd (omega (arith, h, c .1))
-  | inr c ↦ omega (arith, toward-none g e v (c .0) (c .1), around-none g l v (omega (arith, h)))
+  | inr c ↦ omega (arith, toward-none g e v (c .0) (c .1), sum-none g l v (omega (arith, h)))
 ]
 
 -- some edge
@@ -66,7 +66,7 @@ record Single (g : Graph) (l : List ℕ) (v : ℕ) : Type 0 where
   edge : ℕ
   is-in : In edge l
   hit : hits g edge v ≡ 1
-  sum : around g l v ≡ toward g edge v
+  sum : neighbourSum g l v ≡ toward g edge v
   only : (e : ℕ) → In e l → hits g e v ≡ 1 → e ≡ edge
 
 single : (g : Graph) (l : List ℕ) (v : ℕ) → degree g l v ≡ 1 → Single g l v
@@ -76,7 +76,7 @@ single g (e ∷ l) v h = elim (hits-cases g e v) [
     edge = e;
     is-in = first refl;
     hit = c .1;
-    sum = omega (arith, around-none g l v z);
+    sum = omega (arith, sum-none g l v z);
     only = λ d i k. elim (in-cons i) [ inl p ↦ p | inr j ↦ absurd (omega (arith, z, in-degree g v j k)) ];
   }
   | inr c ↦ let s = single g l v (omega (arith, h, c .2)) in record {
@@ -93,7 +93,7 @@ pub record Other (g : Graph) (l : List ℕ) (v d : ℕ) : Type 0 where
   pub edge : ℕ
   pub is-in : In edge l
   pub hit : hits g edge v ≡ 1
-  pub sum : around g l v ≡ toward g d v + toward g edge v
+  pub sum : neighbourSum g l v ≡ toward g d v + toward g edge v
   pub only : (e : ℕ) → In e l → hits g e v ≡ 1 → (e ≡ d) ⊎ (e ≡ edge)
 
 pub other : (g : Graph) (l : List ℕ) (v d : ℕ) → degree g l v ≡ 2 → In d l → hits g d v ≡ 1 → Other g l v d
@@ -127,9 +127,9 @@ other g (e ∷ l) v d h i k = elim (hits-cases g e v) [
   ]
 ]
 
-pub around-append : (g : Graph) (l r : List ℕ) (v : ℕ) → around g (l ++ r) v ≡ around g l v + around g r v
-around-append g [] r v = omega arith
-around-append g (e ∷ l) r v = omega (arith, around-append g l r v)
+pub sum-append : (g : Graph) (l r : List ℕ) (v : ℕ) → neighbourSum g (l ++ r) v ≡ neighbourSum g l v + neighbourSum g r v
+sum-append g [] r v = omega arith
+sum-append g (e ∷ l) r v = omega (arith, sum-append g l r v)
 
 -- How much a sum is at most.
 
@@ -148,6 +148,6 @@ module _ {n : ℕ} {ends : List ℕ} (a : Admitted limits n ends) where
   toward-most e v = cond-both (λ x. x ≤ 1000) (eqb (getD ends (2 * e) 0) v) (omega (arith, end-below (2 * e + 1), a .vertices))
       (cond-both (λ x. x ≤ 1000) (eqb (getD ends (2 * e + 1) 0) v) (omega (arith, end-below (2 * e), a .vertices)) (omega arith))
 
-  pub around-most : (l : List ℕ) (v : ℕ) → around (graphOf n always ends) l v ≤ 1000 * length l
-  around-most [] v = omega arith
-  around-most (e ∷ l) v = omega (arith, toward-most e v, around-most l v)
+  pub sum-most : (l : List ℕ) (v : ℕ) → neighbourSum (graphOf n always ends) l v ≤ 1000 * length l
+  sum-most [] v = omega arith
+  sum-most (e ∷ l) v = omega (arith, toward-most e v, sum-most l v)
