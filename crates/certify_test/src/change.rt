@@ -18,7 +18,7 @@ impl Change {
     }
 
     // One change to the record of a plan with `edges` edges.
-    pub fn changed(self, ends: &[u16; 28], edges: u16) -> Change {
+    pub(crate) fn changed(self, ends: &[u16; 28], edges: u16) -> Change {
         let c = self.drawn();
         let how = below(c.seed, 10);
         let d = c.drawn();
@@ -131,7 +131,7 @@ impl Change {
     }
 
     // A weak list of up to three random numbers, of which the largest is no edge.
-    pub fn weak_list(self, edges: u16) -> Change {
+    pub(crate) fn weak_list(self, edges: u16) -> Change {
         let bound = if edges < 65535 { edges + 1 } else { edges };
         let a = self.drawn();
         let b = a.drawn();

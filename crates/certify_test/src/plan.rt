@@ -65,7 +65,7 @@ impl Plan {
     }
 
     // A random plan of a shape: its edges are made, then vertices and edges are numbered anew.
-    pub fn of_shape(seed: u32, shape: u8) -> Plan {
+    pub(crate) fn of_shape(seed: u32, shape: u8) -> Plan {
         let sized = Plan::new(seed).sized(shape);
         let filled = sized.filled(shape);
         let handed = filled.renamed().shuffled().handed();

@@ -32,7 +32,7 @@ pub struct Said {
     pub second: u16,
 }
 
-pub fn refused(number: u16, place: u16) -> Said {
+pub(crate) fn refused(number: u16, place: u16) -> Said {
     Said {
         kind: REFUSED,
         number: number,
@@ -43,7 +43,7 @@ pub fn refused(number: u16, place: u16) -> Said {
     }
 }
 
-pub fn weak(count: u16, first: u16, second: u16) -> Said {
+pub(crate) fn weak(count: u16, first: u16, second: u16) -> Said {
     Said {
         kind: WEAK,
         number: 0,
@@ -54,7 +54,7 @@ pub fn weak(count: u16, first: u16, second: u16) -> Said {
     }
 }
 
-pub fn firm() -> Said {
+pub(crate) fn firm() -> Said {
     Said {
         kind: FIRM,
         number: 0,
@@ -294,7 +294,7 @@ fn pair(vertices: u16, ends: &[u16]) -> Said {
 }
 
 // The verdict on a plan, where `space` numbers are lent for the record.
-pub fn verdict(vertices: u16, ends: &[u16], space: usize) -> Said {
+pub(crate) fn verdict(vertices: u16, ends: &[u16], space: usize) -> Said {
     let own = refusal(vertices, ends);
     let number = own.number;
     if number != 0 {
@@ -314,7 +314,7 @@ pub fn verdict(vertices: u16, ends: &[u16], space: usize) -> Said {
 }
 
 // The answer to a verdict.
-pub fn check(vertices: u16, ends: &[u16], kind: u16, list: &[u16]) -> Answer {
+pub(crate) fn check(vertices: u16, ends: &[u16], kind: u16, list: &[u16]) -> Answer {
     let own = refusal(vertices, ends);
     let number = own.number;
     if number != 0 {
