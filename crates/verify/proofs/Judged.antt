@@ -17,7 +17,6 @@ use Rattle.connectivity.specs.Judge.{Row, rowsOf, legOf, rowNumber, stepNumber,
 use Rattle.connectivity.proofs.Admission.{passed-then, failed-then, admitted-edges}
 use Rattle.connectivity.proofs.Fit.{closing}
 use Rattle.verify.specs.declared.state.State.{State}
-use Rattle.verify.specs.declared.state.Taken.{Taken}
 use Rattle.verify.specs.Marks.{Tells, rowAt, Represents, takenNumber, doneThen, walkThen, SteppedAt, lastAt, Closed}
 use Rattle.verify_weak.proofs.Weak.{admitted-all}
 use Rattle.verify.proofs.Tests.{rows-next}
@@ -87,7 +86,7 @@ pub judged-start : {n : ℕ} {ends list : List ℕ} {used : List Bool} {state : 
 judged-start r = record { done = []; walk = []; represents = r; rest = refl }
 
 module _ {n : ℕ} {ends list : List ℕ} {used : List Bool} {state : State} {row : ℕ} (j : Judged n ends list used state row) (h : 3 * row + 2 < length list)
-    {marked : List Bool} (t : Taken) {l : Bool} (q : l ≡ lastAt list row) (taken-up : SteppedAt (graphOf n always ends) list marked (j .done) (j .walk) row l t) where
+    {marked : List Bool} (t : State) {l : Bool} (q : l ≡ lastAt list row) (taken-up : SteppedAt (graphOf n always ends) list marked (j .done) (j .walk) row l t) where
   s : SteppedAt (graphOf n always ends) list marked (j .done) (j .walk) row (lastAt list row) t
   s = subst (λ (b : Bool). SteppedAt (graphOf n always ends) list marked (j .done) (j .walk) row b t) q taken-up
 
@@ -95,8 +94,8 @@ module _ {n : ℕ} {ends list : List ℕ} {used : List Bool} {state : State} {ro
   judged-stop m = j .rest ∙ ap (judgeRows (graphOf n always ends) (j .done) (j .walk) row) (rows-here list row h)
       ∙ row-stops (graphOf n always ends) (j .done) (j .walk) row (rowAt list row) (rowsOf (drop (3 * (row + 1)) list)) (λ z. m (s .number ∙ z)) ∙ rw (s .number)
 
-  pub judged-next : t .number ≡ 0 → Judged n ends list marked (t .state) (row + 1)
-  judged-next z = subst (Judged n ends list marked (t .state)) same (record {
+  pub judged-next : t .number ≡ 0 → Judged n ends list marked t (row + 1)
+  judged-next z = subst (Judged n ends list marked t) same (record {
     done = doneThen (j .done) (j .walk) (lastAt list row) (rowAt list row);
     walk = walkThen (j .walk) (lastAt list row) (rowAt list row);
     represents = s .next z;

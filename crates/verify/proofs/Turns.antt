@@ -22,7 +22,6 @@ use Rattle.connectivity.proofs.Legs.{walk-stop, edges-snoc, joins-far}
 use Rattle.connectivity.proofs.Run.{RowFits, row-fits}
 use Rattle.verify.specs.declared.state.Run.{Run}
 use Rattle.verify.specs.declared.state.State.{State}
-use Rattle.verify.specs.declared.state.Taken.{Taken}
 use Rattle.verify.specs.Marks.{rowAt, edgeAt, fromAt, rowMark, WentOn, begun, on, Ready, Whole, StepTold, RowsReady, RowsAdded, Used, Holds, Represents, takenNumber, doneThen, walkThen, SteppedAt, lastAt, Closed}
 use Rattle.verify.specs.Marks as marks
 use Rattle.verify_weak.proofs.Weak.{admitted-all, edge-size}
@@ -162,7 +161,7 @@ module _ {ends : List ℕ} {used : List Bool} {list : List ℕ} {row : ℕ} {sta
 
   -- rejected by the row's own number
   pub stops-own : (m : ℕ) (after : List Bool) (whole : Bool) → m ≡ own → (m ≡ 0 → ⊥)
-      → SteppedAt plan list after (r .done) (r .walk) row whole (record { state = state; number = m })
+      → SteppedAt plan list after (r .done) (r .walk) row whole (record { degree = state .degree; left = state .left; steps = state .steps; run = state .run; low = state .low; high = state .high; number = m })
   stops-own m after whole p n = record { number = taken-own plan (r .done) (r .walk) whole here m (p ∙ number-own) n; next = λ z. absurd (n z) }
 
   module _ (z : own ≡ 0) where
@@ -190,9 +189,9 @@ module _ {ends : List ℕ} {used : List Bool} {list : List ℕ} {row : ℕ} {sta
       used-marked = used-next used (r .done) (r .walk) (legOf here) (omega (arith, edge-below, r .admitted .edges)) (r .represents .used-length) (r .represents .marked)
 
       -- the step goes on
-      pub goes-on : (last-row : Bool) → last-row ≡ false → SteppedAt plan list marked (r .done) (r .walk) row last-row
-          (record { state = record { degree = state .degree; left = after; steps = state .steps; run = next; low = state .low; high = state .high }; number = 0 })
-      goes-on last-row l = rw l (record {
+      pub goes-on : (last-row : Bool) → last-row ≡ false → (m : ℕ) → m ≡ 0 → SteppedAt plan list marked (r .done) (r .walk) row last-row
+          (record { degree = state .degree; left = after; steps = state .steps; run = next; low = state .low; high = state .high; number = m })
+      goes-on last-row l m q = rw (l, q) (record {
         number = taken-on plan (r .done) (r .walk) here (sym number-own ∙ z);
         next = λ p. record { used-length = used-length; marked = used-marked; holds = goes };
       })
@@ -224,7 +223,7 @@ module _ {ends : List ℕ} {used : List Bool} {list : List ℕ} {row : ℕ} {sta
 
       -- and rejected
       pub stops-whole : (last-row : Bool) → last-row ≡ true → (m : ℕ) → m ≡ stepNumber plan (r .done) longer → (m ≡ 0 → ⊥) → SteppedAt plan list marked (r .done) (r .walk) row last-row
-          (record { state = record { degree = state .degree; left = after; steps = state .steps; run = next; low = state .low; high = state .high }; number = m })
+          (record { degree = state .degree; left = after; steps = state .steps; run = next; low = state .low; high = state .high; number = m })
       stops-whole last-row l m p n = rw l (record { number = taken-whole plan (r .done) (r .walk) here m (sym number-own ∙ z) p; next = λ q. absurd (n q) })
 
       pub rows-ready : RowsReady (state .degree) ends list (next .first) (row + 1)
@@ -243,10 +242,10 @@ module _ {ends : List ℕ} {used : List Bool} {list : List ℕ} {row : ℕ} {sta
 
       -- or passed
       pub passes : (last-row : Bool) → last-row ≡ true → (degrees : List ℕ) → RowsAdded (state .degree) degrees ends list (next .first) (row + 1)
-          → stepNumber plan (r .done) longer ≡ 0 → (fresh : Run) → fresh ≡ record { first = row + 1; start = 0; at = 0; fresh = true }
+          → stepNumber plan (r .done) longer ≡ 0 → (m : ℕ) → m ≡ 0 → (fresh : Run) → fresh ≡ record { first = row + 1; start = 0; at = 0; fresh = true }
           → SteppedAt plan list marked (r .done) (r .walk) row last-row
-          (record { state = record { degree = degrees; left = after; steps = state .steps + 1; run = fresh; low = next .start; high = next .at }; number = 0 })
-      passes last-row l degrees a p fresh k = rw (l, k) (record {
+          (record { degree = degrees; left = after; steps = state .steps + 1; run = fresh; low = next .start; high = next .at; number = m })
+      passes last-row l degrees a p m q fresh k = rw (l, q, k) (record {
         number = taken-whole plan (r .done) (r .walk) here 0 (sym number-own ∙ z) (sym p);
         next = λ q. record { used-length = used-length; marked = used-done marked (r .done) longer used-marked; holds = subst Then same holds };
       })

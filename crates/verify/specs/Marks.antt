@@ -16,7 +16,6 @@ use Rattle.connectivity.proofs.Fresh.{Fresh}
 use Rattle.connectivity.proofs.Stretch.{Within}
 use Rattle.verify.specs.declared.state.Run.{Run}
 use Rattle.verify.specs.declared.state.State.{State}
-use Rattle.verify.specs.declared.state.Taken.{Taken}
 
 -- a test tells whether a fact holds
 abbrev pub Tells : Bool → Type 0 → Type 0
@@ -231,12 +230,12 @@ doneThen done walk last r = cond last ((walk ++ (legOf r ∷ [])) ∷ done) done
 abbrev pub walkThen : List Leg → Bool → Row → List Leg
 walkThen walk last r = cond last [] (walk ++ (legOf r ∷ []))
 
-pub record SteppedAt (g : Graph) (list : List ℕ) (after : List Bool) (done : List (List Leg)) (walk : List Leg) (row : ℕ) (last : Bool) (t : Taken) : Type 0 where
+pub record SteppedAt (g : Graph) (list : List ℕ) (after : List Bool) (done : List (List Leg)) (walk : List Leg) (row : ℕ) (last : Bool) (t : State) : Type 0 where
   pub number : t .number ≡ takenNumber g done walk last (rowAt list row)
   pub next : t .number ≡ 0
-      → Represents g list after (doneThen done walk last (rowAt list row)) (walkThen walk last (rowAt list row)) (suc row) (t .state)
+      → Represents g list after (doneThen done walk last (rowAt list row)) (walkThen walk last (rowAt list row)) (suc row) t
 
-abbrev pub Stepped : List ℕ → List Bool → List Bool → List ℕ → ℕ → Bool → State → Taken → Type 0
+abbrev pub Stepped : List ℕ → List Bool → List Bool → List ℕ → ℕ → Bool → State → State → Type 0
 Stepped ends used after list row last state t =
     (r : Ready ends used list row state) → SteppedAt (graphOf (r .n) always ends) list after (r .done) (r .walk) row last t
 

@@ -34,12 +34,11 @@ fn judge_rows(vertices: u16, ends: &[u16], edges: u16, list: &[u16]) -> Answer
     let mut row: u16 = 0;
     while row < edges {
         let last = is_last(list, row, edges);
-        let taken = state.step(ends, &mut used, list, row, last);
-        let number = taken.number;
+        state = state.step(ends, &mut used, list, row, last);
+        let number = state.number;
         if number != 0 {
             return answer(number, row);
         }
-        state = taken.state;
         row += 1;
     }
     let steps = state.steps;

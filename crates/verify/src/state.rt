@@ -17,7 +17,7 @@ pub(crate) struct Run {
 }
 
 // A mark for each vertex: `degree` counts its edges in whole steps; `left` is 0, or one more than the row that leaves it as an inner
-// vertex, from which its link is found. `low` and `high` are the ends of the latest whole step.
+// vertex, from which its link is found. `low` and `high` are the ends of the latest whole step, `number` rejects the latest row, or is 0.
 pub(crate) struct State {
     pub degree: [u16; Graph::MAX_VERTICES as usize],
     pub left: [u16; Graph::MAX_VERTICES as usize],
@@ -25,11 +25,6 @@ pub(crate) struct State {
     pub run: Run,
     pub low: u16,
     pub high: u16,
-}
-
-// The state with the row taken up, and 0; or the row's rejection.
-pub(crate) struct Taken {
-    pub state: State,
     pub number: u16,
 }
 
@@ -44,6 +39,7 @@ impl State {
             run: begins(0),
             low: 0,
             high: 0,
+            number: 0,
         }
     }
 
@@ -55,7 +51,7 @@ impl State {
         list: &[u16],
         row: u16,
         last: bool,
-    ) -> Taken
+    ) -> State
         requires { ⌜ Ready (now ends) (now used) (now list) row self ⌝ }
         ensures { λ r. ⌜ Stepped (now (ends .entry)) (now (used .entry)) (now (used .exit)) (now (list .entry)) row last self r ⌝ }
     {
@@ -65,11 +61,9 @@ impl State {
         let steps = self.steps;
         let run = self.run;
         let number = row_number(ends, used, list[k], e, v, steps, row, run);
+        self.number = number;
         if number != 0 {
-            return Taken {
-                state: self,
-                number: number,
-            };
+            return self;
         }
         used[e as usize] = true;
         let to = far(ends, e, v);
@@ -77,21 +71,16 @@ impl State {
         let on = go_on(run, row, v, to, built, &mut self.left);
         self.run = on;
         if !last {
-            return Taken {
-                state: self,
-                number: 0,
-            };
+            return self;
         }
         let low = self.low;
         let high = self.high;
         let from = self.left[on.start as usize];
         let came = self.left[on.at as usize];
         let found = step_number(&self.degree, list, steps, on, low, high, from, came);
+        self.number = found;
         if found != 0 {
-            return Taken {
-                state: self,
-                number: found,
-            };
+            return self;
         }
         let first = on.first;
         add_rows(&mut self.degree, ends, list, first, row + 1);
@@ -99,10 +88,7 @@ impl State {
         self.low = on.start;
         self.high = on.at;
         self.run = begins(row + 1);
-        Taken {
-            state: self,
-            number: 0,
-        }
+        self
     }
 }
 

@@ -84,9 +84,9 @@ loop-less c = search needs
 -- src/firm.rt:35:5
 loop-again : tie.Need-loop-again Inv-loop μ-loop
 loop-again c =
-    let u = c .before .before in
+    let u = c .before in
     let i = u .before .before .before .before in
-    (omega (arith, i .loop-test .taken), judged-next (i .before .loop .inv .1) (read i) (u .before .step .result) (u .before .before .before .is-last .ensures) (u .before .step .ensures (ready i)) (c .before .if1 .left))
+    (omega (arith, i .loop-test .taken), judged-next (i .before .loop .inv .1) (read i) (u .before .step .result) (u .before .before .before .is-last .ensures) (u .before .step .ensures (ready i)) (c .if1 .left))
 
 -- src/firm.rt:46:8
 closed-requires : tie.Need-closed-requires Inv-loop μ-loop

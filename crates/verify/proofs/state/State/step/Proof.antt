@@ -111,7 +111,7 @@ same-length-2 c = search needs
 returns-2 : tie.Need-returns-2
 returns-2 c r =
     let g = c .before in
-    goes-on r (zero (g .before .before .before .before)) (g .before .before .before .far .ensures) (g .go-on .ensures) _ (not-true _ (c .if2 .taken))
+    goes-on r (zero (g .before .before .before .before)) (g .before .before .before .far .ensures) (g .go-on .ensures) _ (not-true _ (c .if2 .taken)) _ (g .before .before .before .before .if1 .left)
 
 -- src/state.rt:80:30
 cast-from : tie.Need-cast-from
@@ -184,7 +184,7 @@ returns-4 c r =
     let t = c .before .before .before in
     let e = t .before .before .before .before .before .before .before .before .before in
     let g = e .before in
-    passes r (zero (g .before .before .before .before)) (g .before .before .before .far .ensures) (g .go-on .ensures) _ (not-false _ (e .if2 .left)) _ (c .before .add-rows .ensures) (sym (told-number r (zero (g .before .before .before .before)) (g .before .before .before .far .ensures) (g .go-on .ensures) _ (t .before .step-number .ensures)) ∙ t .if3 .left) _ (c .begins .ensures)
+    passes r (zero (g .before .before .before .before)) (g .before .before .before .far .ensures) (g .go-on .ensures) _ (not-false _ (e .if2 .left)) _ (c .before .add-rows .ensures) (sym (told-number r (zero (g .before .before .before .before)) (g .before .before .before .far .ensures) (g .go-on .ensures) _ (t .before .step-number .ensures)) ∙ t .if3 .left) _ (t .if3 .left) _ (c .begins .ensures)
 
 pub step-spec : {M : Type 1} → statement M
 step-spec =
