@@ -15,7 +15,7 @@ use Rattle.connectivity.specs.Walk.{hits, degree}
 use Rattle.connectivity.specs.Admission.{EndsFit}
 use Rattle.connectivity.proofs.Lists.{raised}
 use Rattle.connectivity.proofs.Degree.{hits-most}
-use Rattle.search.proofs.Parted.{zeros}
+use Rattle.search.proofs.From0.{zeros}
 use Rattle.certify.specs.Step.{Marks, Sums, toward}
 use Rattle.certify.specs.Record.{Tables, Adding, Added, Edging, Rowing}
 use Rattle.certify.proofs.NeighbourSum.{sum-most}

@@ -17,7 +17,7 @@ use Rattle.search.specs.declared.Explored.the-variants.{Refused, Seen, Met}
 use Rattle.search.proofs.Climb as trees
 use Rattle.search.proofs.Outcomes.{enough-room}
 use Rattle.search.proofs.Leads.{joins-edge}
-use Rattle.search.proofs.Parted.{zeros}
+use Rattle.search.proofs.From0.{zeros}
 use Rattle.search.proofs.Tally.{tally-le}
 use Rattle.certify.specs.Step.{Path, there, up}
 use Rattle.certify.specs.Opening.{Around, Up, Rooted}

@@ -1,27 +1,22 @@
 -- The search from vertex 0 over all edges: it has seen fewer vertices than there are exactly where the graph is not connected; else its
 -- tree spans the graph.
-use mathlib.Core.Path.{_≡_, refl, sym, ap, _∙_, subst}
+use mathlib.Core.Path.{_≡_, sym, ap, _∙_, subst}
 use mathlib.Core.Logic.{inl, inr}
 use mathlib.Core.Bool.{Bool, true, false, not}
 use mathlib.Core.List.{List, [], List·Memᴰ·not-nil as not-in}
-use Prim.Native.Nat.{ℕ, _/_}
+use Prim.Native.Nat.{ℕ}
 use native.Mathlib.Omega.{arith}
 use lib.Dec.{T, ltb}
-use lib.ListN.{length, getD, replicate, length-set, length-replicate}
+use lib.ListN.{getD, replicate}
 use borrow.Author.Tests.{ltb-false}
 use Rattle.connectivity.specs.Graph.{graphOf, always}
 use Rattle.connectivity.specs.Label.{Balanced}
-use Rattle.connectivity.specs.Admission.{Answer, limits, Admitted}
-use Rattle.graph.specs.Admission.{lent}
-use Rattle.search.specs.Search.{Live, Start, Pass, Goal, Found, Whole, enough}
-use Rattle.search.specs.Cut.{Removed}
+use Rattle.connectivity.specs.Admission.{limits, Admitted}
+use Rattle.search.specs.Search.{Live, Start, Pass, Goal, Found, Whole}
 use Rattle.search.proofs.Tally.{tally-lt, tally-le}
-use Rattle.search.proofs.Outcomes.{enough-room}
-use Rattle.search.proofs.Parted.{rolesFrom0, only-start, fewer}
+use Rattle.search.proofs.From0.{zeros, rolesFrom0, only-start}
+use Rattle.removal.proofs.Parted.{fewer}
 use Rattle.cuts.specs.Labels.{Spanning, Searched, Labelled}
-
-none-removed : (edges k : ℕ) → Removed edges [] (replicate k 0) (replicate k 0)
-none-removed edges k = record { long = refl; in-cut = λ e l i. absurd (not-in i); out = λ e n. refl }
 
 module _ (m k : ℕ) {n : ℕ} {ends : List ℕ} (a : Admitted limits n ends) {first₀ order₀ first order : List ℕ} {count : ℕ}
     (f : Found (graphOf n always ends) (Live (replicate k 0)) (Pass (rolesFrom0 m)) (Start (rolesFrom0 m)) n first₀ order₀ first order count)
@@ -44,17 +39,7 @@ module _ (m k : ℕ) {n : ℕ} {ends : List ℕ} (a : Admitted limits n ends) {f
     }
 
   pub searched : Searched n ends first order (ltb count n)
-  searched = record { answer = fewer m k n (length ends / 2) ends [] (replicate k 0) a refl (none-removed (length ends / 2) k) f w; tree = spanning }
-
--- the slices of such a search are long enough
-pub enough-lent : {n : ℕ} {ends : List ℕ} (first order : List ℕ) → Admitted limits n ends → length first ≡ 1000 → length order ≡ 1000
-    → ((lent n ends (enough n ends (rolesFrom0 999) (replicate 4000 0) first order)) .number ≡ 0 → ⊥) → ⊥
-enough-lent {n} {ends} first order a p q h =
-    let thousand = length-replicate {A = ℕ} 1000 0 in
-    let roles = length-set {A = ℕ} (replicate 1000 0) 0 1 in
-    let edges = length-replicate {A = ℕ} 4000 0 in
-    h (ap (λ (x : Answer). x .number) (enough-room n ends (rolesFrom0 999) (replicate 4000 0) first order a
-    (omega (arith, a .vertices), (omega (arith, a .edges), (omega (arith, a .vertices), omega (arith, a .vertices))))))
+  searched = record { answer = fewer m n ends [] (replicate k 0) a (λ e l i z. not-in i) (λ e o. zeros k e) f w; tree = spanning }
 
 -- the answer for a graph that is not connected, and for one that is and has been labelled
 pub labelled-not : {n : ℕ} {ends first order : List ℕ} (labels : List ℕ) → Searched n ends first order true → Labelled n ends labels false

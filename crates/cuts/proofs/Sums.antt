@@ -19,7 +19,7 @@ use Rattle.connectivity.proofs.Order.{ordered-edges}
 use Rattle.connectivity.proofs.Distinct.{ordered-distinct}
 use Rattle.connectivity.proofs.Search.{edges-are}
 use Rattle.connectivity.proofs.Admission.{admitted-edge}
-use Rattle.search.proofs.Parted.{zeros}
+use Rattle.search.proofs.From0.{zeros}
 use Rattle.cuts.specs.Labels.{xorAt, xorAll, Summed, Ready, Toggled}
 use Rattle.cuts.proofs.Xor.{xor-swap, xor-first, all-xor, all-zero}
 

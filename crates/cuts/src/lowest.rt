@@ -131,7 +131,7 @@ fn one_cuts(vertices: u16, ends: &[u16], label: u64, e: u16) -> bool
         return false;
     }
     let cut = [e];
-    search::cut::is_cut(vertices, ends, &cut)
+    removal::is_cut(vertices, ends, &cut)
 }
 
 // The edges `e` and `d` disconnect.
@@ -143,5 +143,5 @@ fn two_cut(vertices: u16, ends: &[u16], label: u64, other: u64, e: u16, d: u16) 
         return false;
     }
     let cut = [e, d];
-    search::cut::is_cut(vertices, ends, &cut)
+    removal::is_cut(vertices, ends, &cut)
 }

@@ -3,7 +3,5 @@ pub mod Growth
 pub mod Leads
 pub mod Starts
 pub mod Outcomes
-pub mod Removal
-pub mod Parted
+pub mod From0
 pub mod Climb
-pub mod Cuts

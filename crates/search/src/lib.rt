@@ -10,8 +10,6 @@ ghost use Rattle.connectivity.specs.Admission.{Admitted, limits};
 ghost use Rattle.search.specs.Search.{Live, Pass, Start, Goal, Answered};
 ghost use Rattle.search.specs.Sweep as sweeps;
 
-pub mod cut; // cut.rt: whether some edges disconnect the graph
-
 // What a search answers: refused; how many vertices were seen; or how many with the goal at which it ended.
 pub enum Explored {
     Refused(Answer),
@@ -204,7 +202,7 @@ pub fn explore(
 }
 
 // The same of an admitted plan.
-pub(crate) fn explore_admitted(
+fn explore_admitted(
     vertices: u16,
     ends: &[u16],
     edges: u16,

@@ -1,7 +1,7 @@
 // Runs the search and the test for cuts on some plans, and prints what document 01's terms call the outcome.
 use libc::STDOUT_FILENO;
+use removal::Split;
 use search::Explored;
-use search::cut::Split;
 
 fn say(text: &[u8]) {
     io::write_all(STDOUT_FILENO, text);
@@ -100,12 +100,7 @@ fn count(reached: &[bool]) -> u16 {
 fn part(name: &[u8], pieces: u16, ends: &[u16], numbers: usize, cut: &[u16], tabs: usize) {
     say(name);
     let mut reached = [false; 1000];
-    let split = search::cut::disconnects(
-        pieces,
-        front(ends, numbers),
-        front(cut, tabs),
-        &mut reached,
-    );
+    let split = removal::disconnects(pieces, front(ends, numbers), front(cut, tabs), &mut reached);
     match split {
         Split::Refused(a) => {
             say(b": refused");

@@ -36,7 +36,7 @@ fn weak_admitted(vertices: u16, ends: &[u16], edges: u16, list: &[u16]) -> Answe
     if number != 0 {
         return turn;
     }
-    if search::cut::is_cut(vertices, ends, list) {
+    if removal::is_cut(vertices, ends, list) {
         return answer(0, 0);
     }
     answer(17, 0)

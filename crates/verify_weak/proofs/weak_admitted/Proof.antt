@@ -12,7 +12,7 @@ use Rattle.connectivity.specs.Judge.{ascending}
 use Rattle.graph.specs.declared.Answer.{Answer}
 use Rattle.graph.specs.Admission.{toldBy}
 use Rattle.verify_weak.specs.Weak.{InTurn}
-use Rattle.search.proofs.Cuts.{cut-admitted}
+use Rattle.removal.proofs.Cuts.{cut-admitted}
 use Rattle.verify_weak.proofs.Weak.{admitted-all, weak-long, weak-turn, weak-cut}
 use Rattle.verify_weak.proofs.weak_admitted.Statement.{statement}
 use Rattle.verify_weak.proofs.weak_admitted.Tie as tie

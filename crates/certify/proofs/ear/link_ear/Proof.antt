@@ -3,7 +3,7 @@ use native.Mathlib.Omega.{arith}
 use mathlib.Core.List.{List}
 use Prim.Native.Nat.{ℕ, _≤_}
 use lib.ListN.{length, replicate, length-replicate}
-use Rattle.search.proofs.Parted.{zeros}
+use Rattle.search.proofs.From0.{zeros}
 use Rattle.certify.specs.Growth.{GrowingLink}
 use Rattle.certify.proofs.FromLink.{linking, link-exiting, link-rooting, link-climbing, link-grown}
 use borrow.Author.Needs.{needs}

@@ -1,7 +1,9 @@
 -- `is_split` meets its contract: the search sees every vertex exactly where the graph is connected.
+use Prim.Native.Nat.{ℕ}
+use lib.ListN.{replicate, length-replicate}
 use borrow.Author.Needs.{needs}
-use Rattle.search.proofs.Parted.{no-goal}
-use Rattle.cuts.proofs.Spanning.{searched, enough-lent}
+use Rattle.search.proofs.From0.{no-goal, not-admitted}
+use Rattle.cuts.proofs.Spanning.{searched}
 use Rattle.cuts.proofs.labels.is_split.Statement.{statement}
 use Rattle.cuts.proofs.labels.is_split.Tie as tie
 
@@ -62,7 +64,7 @@ returns-3 c =
     let explore = c .before .before .before .before .before .before in
     let start = explore .before .before .before .before .before .before .before .before in
     let e = rw (c .enum-told2 .given .1) at (explore .explore .ensures) in
-    absurd (enough-lent (start .args .first .now) (start .args .order .now) (start .pre .0) (start .pre .1) (start .pre .2) (e .0 .0))
+    absurd (not-admitted (replicate 4000 0) (start .args .first .now) (start .args .order .now) (length-replicate {A = ℕ} 4000 0) (start .pre .1) (start .pre .2) (e .0 .0) (start .pre .0))
 
 pub is-split-spec : {M : Type 1} → statement M
 is-split-spec =

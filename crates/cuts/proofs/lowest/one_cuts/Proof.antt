@@ -1,7 +1,7 @@
 -- `one_cuts` meets its contract: an edge whose label is not 0 need no search.
 use borrow.Author.Needs.{needs}
 use mathlib.Core.Path.{sym, _∙_}
-use Rattle.search.proofs.Cuts.{cut-admitted}
+use Rattle.removal.proofs.Cuts.{cut-admitted}
 use Rattle.cuts.proofs.lowest.one_cuts.Statement.{statement}
 use Rattle.cuts.proofs.lowest.one_cuts.Tie as tie
 

@@ -1,7 +1,7 @@
 -- `two_cut` meets its contract: two edges with different labels need no search.
 use borrow.Author.Needs.{needs}
 use mathlib.Core.Path.{sym, _∙_}
-use Rattle.search.proofs.Cuts.{cut-admitted}
+use Rattle.removal.proofs.Cuts.{cut-admitted}
 use Rattle.cuts.proofs.lowest.two_cut.Statement.{statement}
 use Rattle.cuts.proofs.lowest.two_cut.Tie as tie
 

@@ -4,7 +4,7 @@ use mathlib.Core.Bool.{Bool, false}
 use mathlib.Core.List.{List}
 use Prim.Native.Nat.{ℕ}
 use native.Mathlib.Omega.{arith}
-use lib.Dec.{eqb, leb, le→leb}
+use lib.Dec.{leb, le→leb}
 use lib.ListN.{length, replicate, length-replicate}
 use borrow.Author.Tests.{eq-eqb, ne-eqb}
 use Rattle.connectivity.specs.Graph.{graphOf, always}
@@ -13,7 +13,12 @@ use Rattle.connectivity.specs.Admission.{Answer, passed, limits, Admitted, admi
 use Rattle.connectivity.proofs.Admission.{both-passed, admission-number}
 use Rattle.graph.specs.Admission.{lent}
 use Rattle.graph.proofs.Lent.{lent-enough}
-use Rattle.search.specs.Cut.{isCut}
+use Rattle.removal.specs.Cut.{isCut}
+
+-- a plan that is not refused is admitted
+pub plan-admitted : {n : ℕ} {ends : List ℕ} (enough : Bool) → lent n ends enough ≡ passed → Admitted limits n ends
+unfolding lent
+plan-admitted {n} {ends} enough p = admission-number limits n ends .0 (both-passed _ _ p .0)
 
 module _ (n : ℕ) (ends cut : List ℕ) where
   pub cut-admitted : Admitted limits n ends → isCut limits n ends cut ≡ disconnects (graphOf n always ends) cut
@@ -21,8 +26,7 @@ module _ (n : ℕ) (ends cut : List ℕ) where
   cut-admitted a = rw (eq-eqb ((admission limits n ends) .number) 0 (admission-number limits n ends .1 a))
 
   pub cut-told : (enough : Bool) {t : Bool} → lent n ends enough ≡ passed → t ≡ disconnects (graphOf n always ends) cut → t ≡ isCut limits n ends cut
-  unfolding lent
-  cut-told enough p q = q ∙ sym (cut-admitted (admission-number limits n ends .0 (both-passed _ _ p .0)))
+  cut-told enough p q = q ∙ sym (cut-admitted (plan-admitted enough p))
 
   -- a mark for each of 1,000 vertices is enough
   pub cut-refused : ((lent n ends (leb n (length {A = Bool} (replicate 1000 false)))) .number ≡ 0 → ⊥) → false ≡ isCut limits n ends cut

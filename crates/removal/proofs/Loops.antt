@@ -1,17 +1,15 @@
 -- The loops around the search: the marks of the removed edges, and the copy of what was seen.
-use mathlib.Core.Path.{_≡_, refl, sym, ap, _∙_, subst}
-use mathlib.Core.Logic.{_⊎_, inl, inr}
-use mathlib.Core.Bool.{Bool, true, false, not, cond}
-use mathlib.Core.List.{List, [], _∷_, List·Memᴰ as In, List·Memᴰ·head as first, List·Memᴰ·tail as later, List·Memᴰ·not-nil as not-in, List·Memᴰ·cases-cons as in-cons}
-use Prim.Native.Nat.{ℕ, zero, suc, _+_, _≤_, _<_}
+use mathlib.Core.Path.{_≡_, refl, sym, _∙_}
+use mathlib.Core.Bool.{Bool, false, not}
+use mathlib.Core.List.{List, [], _∷_, List·Memᴰ as In, List·Memᴰ·head as first, List·Memᴰ·tail as later}
+use Prim.Native.Nat.{ℕ, zero, suc, _+_, _<_}
 use native.Mathlib.Omega.{arith}
-use native.Mathlib.Decide.{ℕ-discrete, decLt}
+use native.Mathlib.Decide.{ℕ-discrete}
 use borrow.Author.Count.{below-more}
-use borrow.Author.Tests.{lt-ltb, le-ltb}
-use lib.Dec.{eqb, ltb}
+use lib.Dec.{eqb}
 use lib.ListN.{length, getD, set, length-set}
 use lib.Seq.{getD-set-same, getD-set-other}
-use Rattle.search.specs.Cut.{Removed, Copied}
+use Rattle.removal.specs.Cut.{Removed, Copied}
 
 -- members by their index
 pub in-index : {x : ℕ} {l : List ℕ} → In x l → (j : ℕ) × (j < length l) × (getD l j 0 ≡ x)
@@ -24,41 +22,31 @@ index-in (y ∷ l) zero h p = first (sym p)
 index-in (y ∷ l) (suc j) h p = later (index-in l j (omega arith) p)
 
 -- after the first i numbers of the cut
-pub record Removing (edges : ℕ) (cut dead₀ dead : List ℕ) (i : ℕ) : Type 0 where
+pub record Removing (cut dead₀ dead : List ℕ) (i : ℕ) : Type 0 where
   pub long : length dead ≡ length dead₀
-  pub in-cut : (e : ℕ) → e < edges → (j : ℕ) → j < i → getD cut j 0 ≡ e → getD dead e 0 ≡ 1
+  pub in-cut : (e : ℕ) → e < length dead₀ → (j : ℕ) → j < i → getD cut j 0 ≡ e → getD dead e 0 ≡ 1
   pub out : (e : ℕ) → ((j : ℕ) → j < i → getD cut j 0 ≡ e → ⊥) → getD dead e 0 ≡ getD dead₀ e 0
 
-pub removing-start : (edges : ℕ) (cut dead : List ℕ) → Removing edges cut dead dead 0
-removing-start edges cut dead = record { long = refl; in-cut = λ e l j h. absurd (omega arith); out = λ e n. refl }
+pub removing-start : (cut dead : List ℕ) → Removing cut dead dead 0
+removing-start cut dead = record { long = refl; in-cut = λ e l j h. absurd (omega arith); out = λ e n. refl }
 
-module _ {edges : ℕ} {cut dead₀ dead : List ℕ} {i : ℕ} (room : edges ≤ length dead₀) (r : Removing edges cut dead₀ dead i) where
+module _ {cut dead₀ dead : List ℕ} {i : ℕ} (r : Removing cut dead₀ dead i) where
   abbrev x : ℕ
   x = getD cut i 0
 
-  set-one : x < edges → Removing edges cut dead₀ (set dead x 1) (i + 1)
-  set-one l = record {
+  at-x : (e : ℕ) → e < length dead₀ → e ≡ x → getD (set dead x 1) e 0 ≡ 1
+  at-x e h q = rw q (getD-set-same dead x 1 0 (omega (arith, r .long)))
+
+  pub removing-step : Removing cut dead₀ (set dead x 1) (i + 1)
+  removing-step = record {
     long = length-set dead x 1 ∙ r .long;
     in-cut = λ e h. below-more (λ (j : ℕ). getD cut j 0 ≡ e → getD (set dead x 1) e 0 ≡ 1) i
-        (λ j k p. elim (ℕ-discrete e x) [ yes q ↦ at-x e q | no n ↦ getD-set-other dead x e 1 0 n ∙ r .in-cut e h j k p ])
-        (λ p. at-x e (sym p));
+        (λ j k p. elim (ℕ-discrete e x) [ yes q ↦ at-x e h q | no n ↦ getD-set-other dead x e 1 0 n ∙ r .in-cut e h j k p ])
+        (λ p. at-x e h (sym p));
     out = λ e n. getD-set-other dead x e 1 0 (λ q. n i (omega arith) (sym q)) ∙ r .out e (λ j k. n j (omega arith));
   }
-    where
-      at-x : (e : ℕ) → e ≡ x → getD (set dead x 1) e 0 ≡ 1
-      at-x e q = rw q (getD-set-same dead x 1 0 (omega (arith, r .long)))
 
-  skip-one : edges ≤ x → Removing edges cut dead₀ dead (i + 1)
-  skip-one l = record {
-    long = r .long;
-    in-cut = λ e h. below-more (λ (j : ℕ). getD cut j 0 ≡ e → getD dead e 0 ≡ 1) i (λ j k p. r .in-cut e h j k p) (λ p. absurd (omega arith));
-    out = λ e n. r .out e (λ j k. n j (omega arith));
-  }
-
-  pub removing-step : Removing edges cut dead₀ (cond (ltb x edges) (set dead x 1) dead) (i + 1)
-  removing-step = elim (decLt x edges) [ yes l ↦ rw (lt-ltb x edges l) (set-one l) | no n ↦ rw (le-ltb x edges (omega arith)) (skip-one (omega arith)) ]
-
-pub removing-end : {edges : ℕ} {cut dead₀ dead : List ℕ} {i : ℕ} → i ≡ length cut → Removing edges cut dead₀ dead i → Removed edges cut dead₀ dead
+pub removing-end : {cut dead₀ dead : List ℕ} {i : ℕ} → i ≡ length cut → Removing cut dead₀ dead i → Removed cut dead₀ dead
 removing-end {cut = cut} all r = record {
   long = r .long;
   in-cut = λ e l m. let q = in-index m in r .in-cut e l (q .0) (omega (arith, q .1)) (q .2);

@@ -1,13 +1,12 @@
 -- `copy` meets its contract. The loop's invariant: the first v marks have been copied.
 use mathlib.Core.Path.{_≡_, refl, subst}
-use mathlib.Core.Bool.{Bool}
 use Prim.Native.Nat.{ℕ, _-_, _≤_}
 use native.Mathlib.Omega.{arith}
 use lib.ListN.{length}
-use Rattle.search.specs.Cut.{Copied}
-use Rattle.search.proofs.Removal.{copied-start, copied-step}
-use Rattle.search.proofs.cut.copy.Statement.{statement}
-use Rattle.search.proofs.cut.copy.Tie as tie
+use Rattle.removal.specs.Cut.{Copied}
+use Rattle.removal.proofs.Loops.{copied-start, copied-step}
+use Rattle.removal.proofs.copy.Statement.{statement}
+use Rattle.removal.proofs.copy.Tie as tie
 
 abbrev Inv-loop : tie.InvT-loop
 Inv-loop vertices first reached₀ n v₀ reached v = (v ≤ n) × (n ≡ vertices) × Copied v first reached₀ reached

@@ -1,8 +1,8 @@
 -- `is_cut` meets its contract: the lent marks are enough for every admitted plan, so the test is refused only where the plan is.
 use borrow.Author.Needs.{needs}
-use Rattle.search.proofs.Cuts.{cut-told, cut-refused}
-use Rattle.search.proofs.cut.is_cut.Statement.{statement}
-use Rattle.search.proofs.cut.is_cut.Tie as tie
+use Rattle.removal.proofs.Cuts.{cut-told, cut-refused}
+use Rattle.removal.proofs.is_cut.Statement.{statement}
+use Rattle.removal.proofs.is_cut.Tie as tie
 
 slice-aggregate-disconnects : tie.Need-slice-aggregate-disconnects
 slice-aggregate-disconnects c = search needs

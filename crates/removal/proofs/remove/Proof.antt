@@ -1,19 +1,20 @@
 -- `remove` meets its contract. The loop's invariant: the first i numbers of the cut have been marked.
 use Prim.Native.Nat.{_-_, _≤_}
 use native.Mathlib.Omega.{arith}
+use borrow.Author.Needs.{needs}
 use lib.ListN.{length}
-use Rattle.search.proofs.Removal.{Removing, removing-start, removing-step, removing-end}
-use Rattle.search.proofs.cut.remove.Statement.{statement}
-use Rattle.search.proofs.cut.remove.Tie as tie
+use Rattle.removal.proofs.Loops.{Removing, removing-start, removing-step, removing-end}
+use Rattle.removal.proofs.remove.Statement.{statement}
+use Rattle.removal.proofs.remove.Tie as tie
 
 abbrev Inv-loop : tie.InvT-loop
-Inv-loop edges cut dead₀ i₀ dead i = (i ≤ length cut) × Removing edges cut dead₀ dead i
+Inv-loop cut dead₀ i₀ dead i = (i ≤ length cut) × Removing cut dead₀ dead i
 
 abbrev μ-loop : tie.MeasureT-loop
-μ-loop edges cut dead₀ i₀ dead i = length cut - i
+μ-loop cut dead₀ i₀ dead i = length cut - i
 
 loop-holds : tie.Need-loop-holds Inv-loop μ-loop
-loop-holds c = (omega arith, removing-start _ _ _)
+loop-holds c = (omega arith, removing-start _ _)
 
 mul-remove-one : tie.Need-mul-remove-one Inv-loop μ-loop
 mul-remove-one c = omega arith
@@ -22,9 +23,7 @@ shared-slice-read-remove-one : tie.Need-shared-slice-read-remove-one Inv-loop μ
 shared-slice-read-remove-one c = omega arith
 
 remove-one-requires : tie.Need-remove-one-requires Inv-loop μ-loop
-remove-one-requires c κs =
-    let l = c .before .before .before in
-    omega (arith, l .loop .inv .1 .long, l .before .before .before .pre)
+remove-one-requires c κs = search needs
 
 add-i : tie.Need-add-i Inv-loop μ-loop
 add-i c = omega arith
@@ -36,7 +35,7 @@ loop-again : tie.Need-loop-again Inv-loop μ-loop
 loop-again c =
     let one = c .before .before in
     let l = one .before .before .before .before in
-    (omega arith, rw (one .remove-one .ensures) (removing-step (l .before .before .before .pre) (l .loop .inv .1)))
+    (omega arith, rw (one .remove-one .ensures) (removing-step (l .loop .inv .1)))
 
 same-length : tie.Need-same-length Inv-loop μ-loop
 same-length c = c .before .loop .inv .1 .long

@@ -1,9 +1,10 @@
--- `remove_one` meets its contract, by its test.
+-- `remove_one` meets its contract: a mark behind the last place changes nothing.
+use mathlib.Core.Path.{sym}
 use native.Mathlib.Omega.{arith}
 use borrow.Author.Needs.{needs}
-use borrow.Author.Tests.{lt-ltb, le-ltb}
-use Rattle.search.proofs.cut.remove_one.Statement.{statement}
-use Rattle.search.proofs.cut.remove_one.Tie as tie
+use lib.Seq.{set-out}
+use Rattle.removal.proofs.remove_one.Statement.{statement}
+use Rattle.removal.proofs.remove_one.Tie as tie
 
 slice-write-dead : tie.Need-slice-write-dead
 slice-write-dead c = search needs
@@ -12,10 +13,10 @@ same-length : tie.Need-same-length
 same-length c = search needs
 
 returns : tie.Need-returns
-returns c = let a = c .before .args in rw (lt-ltb (a .e) (a .edges) (omega arith))
+returns c = search needs
 
 returns-2 : tie.Need-returns-2
-returns-2 c = let a = c .before .args in rw (le-ltb (a .e) (a .edges) (omega arith))
+returns-2 c = sym (set-out _ _ _ (omega arith))
 
 pub remove-one-spec : {M : Type 1} → statement M
 remove-one-spec = tie.close (tie.spec slice-write-dead same-length returns returns-2)

@@ -3,15 +3,17 @@ use mathlib.Core.Path.{_≡_}
 use mathlib.Core.Bool.{Bool, true, false, not, _&&_}
 use mathlib.Core.List.{List, List·Memᴰ as In}
 use Prim.Native.Nat.{ℕ, _≤_, _<_}
-use lib.Dec.{eqb, leb}
+use lib.Dec.{eqb, leb, ltb}
 use lib.ListN.{length, getD}
 use Rattle.connectivity.specs.Lists.{mem}
 use Rattle.connectivity.specs.Graph.{graphOf, always}
 use Rattle.connectivity.specs.Cut.{cutOff, disconnects}
 use Rattle.connectivity.specs.Admission as meaning
-use Rattle.search.specs.declared.cut.Split.{Split}
-use Rattle.search.specs.declared.cut.Split.the-variants.{Refused, Connected, Disconnected}
-use Rattle.graph.specs.Admission.{lent, RefusedBy}
+use Rattle.removal.specs.declared.Split.{Split}
+use Rattle.removal.specs.declared.Split.the-variants.{Refused, Connected, Disconnected}
+use Rattle.graph.specs.Admission.{toldBy, lent, RefusedBy}
+use Rattle.search.specs.declared.Explored.{Explored}
+use Rattle.search.specs.declared.Explored.the-variants as found
 
 -- the answer t, and of each vertex whether the lowest one reaches it; what lies behind stays
 pub record Parted (n : ℕ) (ends cut : List ℕ) (reached₀ reached : List Bool) (t : Bool) : Type 0 where
@@ -31,10 +33,22 @@ Answered n ends cut reached₀ reached Disconnected =
 unfoldable pub isCut : meaning.Limits → ℕ → List ℕ → List ℕ → Bool
 isCut limits n ends cut = eqb ((meaning.admission limits n ends) .number) 0 && disconnects (graphOf n always ends) cut
 
+-- what a search has left of an admitted plan without the cut: `count` vertices were seen, and those that were not are cut off
+pub record Left (n : ℕ) (ends cut first : List ℕ) (count : ℕ) : Type 0 where
+  pub admitted : meaning.Admitted meaning.limits n ends
+  pub fewer : ltb count n ≡ disconnects (graphOf n always ends) cut
+  pub unseen : (v : ℕ) → v < n → eqb (getD first v 0) 0 ≡ mem v (cutOff (graphOf n always ends) cut)
+
+-- `without`: the plan's own refusal, or what is left
+abbrev pub Searched : ℕ → List ℕ → List ℕ → List ℕ → Explored → Type 0
+Searched n ends cut first (found.Refused a) = (meaning.Admitted meaning.limits n ends → ⊥) × (a ≡ toldBy (meaning.admission meaning.limits n ends))
+Searched n ends cut first (found.Seen count) = Left n ends cut first count
+Searched n ends cut first (found.Met count) = ⊥
+
 -- `remove`: the marks of the edges of `cut` are set
-pub record Removed (edges : ℕ) (cut dead₀ dead : List ℕ) : Type 0 where
+pub record Removed (cut dead₀ dead : List ℕ) : Type 0 where
   pub long : length dead ≡ length dead₀
-  pub in-cut : (e : ℕ) → e < edges → In e cut → getD dead e 0 ≡ 1
+  pub in-cut : (e : ℕ) → e < length dead₀ → In e cut → getD dead e 0 ≡ 1
   pub out : (e : ℕ) → (In e cut → ⊥) → getD dead e 0 ≡ getD dead₀ e 0
 
 -- `copy`: true where the mark is not 0

@@ -1,64 +1,37 @@
 -- What a search from vertex 0 over the edges that are left says of a cut.
 use mathlib.Core.Path.{_≡_, refl, sym, ap, _∙_, subst}
-use mathlib.Core.Logic.{_⊎_, inl, inr}
-use mathlib.Core.Bool.{Bool, true, false, not}
+use mathlib.Core.Logic.{inl, inr}
+use mathlib.Core.Bool.{Bool, not}
 use mathlib.Core.List.{List, List·Memᴰ as In}
-use Prim.Native.Nat.{ℕ, zero, suc, _-_, _/_, _≤_, _<_}
+use Prim.Native.Nat.{ℕ, _/_, _<_}
 use native.Mathlib.Omega.{arith}
 use native.Mathlib.Decide.{ℕ-discrete, decLt}
 use lib.Dec.{T, eqb, ltb}
-use lib.ListN.{length, getD, set, replicate, length-set, length-replicate}
+use lib.ListN.{length, getD, replicate, length-replicate}
 use borrow.Author.Tests.{eq-eqb, ne-eqb, lt-ltb, le-ltb}
 use Rattle.connectivity.specs.Lists.{mem, empty}
-use Rattle.connectivity.specs.Graph.{Graph, Vertex, Joins, graphOf, always}
+use Rattle.connectivity.specs.Graph.{Graph, graphOf, always}
 use Rattle.connectivity.specs.Reach.{Reach, Without}
 use Rattle.connectivity.specs.Cut.{cutOff, disconnects}
-use Rattle.connectivity.specs.Admission.{Answer, limits, Admitted}
+use Rattle.connectivity.specs.Admission.{limits, Admitted}
 use Rattle.connectivity.proofs.Lists.{T-dec, T-true, T-false, in-mem, mem-in, empty-none, none-empty}
 use Rattle.connectivity.proofs.Reach.{reach-edges, through-reach, reach-through}
 use Rattle.connectivity.proofs.Admission.{admitted-vertex}
 use Rattle.connectivity.proofs.CutOff.{Lowest, cut-off-not, cut-off-or, cut-off-some}
-use Rattle.search.specs.Search.{Live, Start, Pass, Goal, Marked, Found, Whole, Stopped, enough}
-use Rattle.search.specs.Cut.{Parted, Removed, Copied}
-use Rattle.search.proofs.Tally.{tally-lt, tally-full, tally-le}
-use Rattle.graph.specs.Admission.{lent}
-use Rattle.search.proofs.Outcomes.{enough-room}
+use Rattle.graph.proofs.Lent.{lent-refused}
+use Rattle.search.specs.declared.Explored.{Explored}
+use Rattle.search.specs.declared.Explored.the-variants.{Refused, Seen, Met}
+use Rattle.search.specs.Search.{Live, Start, Pass, Goal, Marked, Found, Whole, Answered}
+use Rattle.search.proofs.Tally.{tally-lt, tally-full}
 use Rattle.search.proofs.Leads.{vertex-below, joins-edge}
+use Rattle.search.proofs.From0.{zeros, rolesFrom0, only-start, all-pass, no-goal, not-admitted}
+use Rattle.removal.specs.Cut.{Parted, Left, Searched, Removed, Copied}
+use Rattle.removal.proofs.Cuts.{plan-admitted}
 
--- Marks that are all 0, and roles in which vertex 0 is the only start.
+-- What was seen is what vertex 0 reaches, where the live edges are those outside the cut.
 
-pub zeros : (m k : ℕ) → getD {A = ℕ} (replicate m 0) k 0 ≡ 0
-zeros zero k = refl
-zeros (suc m) zero = refl
-zeros (suc m) (suc k) = zeros m k
-
-abbrev pub rolesFrom0 : ℕ → List ℕ
-rolesFrom0 m = set (replicate (suc m) 0) 0 1
-
-pub only-start : (m v : ℕ) → Start (rolesFrom0 m) v → v ≡ 0
-only-start m zero p = refl
-only-start m (suc v) p = absurd (omega (arith, zeros m v))
-
-pub all-pass : (m v : ℕ) → Pass (rolesFrom0 m) v
-all-pass m zero = omega arith
-all-pass m (suc v) = omega (arith, zeros m v)
-
-pub no-goal : (m : ℕ) {order : List ℕ} {count : ℕ} → Stopped (Goal (rolesFrom0 m)) order count → ⊥
-no-goal m {order} {count} s = omega (arith, s .met, all-pass m (getD order (count - 1) 0))
-
--- the arrays that a cut's search works on are long enough
-pub no-refusal : {n : ℕ} {ends : List ℕ} (dead : List ℕ) → Admitted limits n ends → length dead ≡ length {A = ℕ} (replicate 4000 0)
-    → ((lent n ends (enough n ends (rolesFrom0 999) dead (replicate 1000 0) (replicate 1000 0))) .number ≡ 0 → ⊥) → ⊥
-no-refusal {n} {ends} dead a long h =
-    let thousand = length-replicate {A = ℕ} 1000 0 in
-    let roles = length-set {A = ℕ} (replicate 1000 0) 0 1 in
-    let edges = length-replicate {A = ℕ} 4000 0 in
-    h (ap (λ (x : Answer). x .number) (enough-room n ends (rolesFrom0 999) dead (replicate 1000 0) (replicate 1000 0) a
-    (omega (arith, a .vertices), (omega (arith, a .edges), (omega (arith, a .vertices), omega (arith, a .vertices))))))
-
--- What was seen is what vertex 0 reaches.
-
-module _ (m k n edges : ℕ) (ends cut dead : List ℕ) (a : Admitted limits n ends) (p : edges ≡ length ends / 2) (r : Removed edges cut (replicate k 0) dead) where
+module _ (m n : ℕ) (ends cut dead : List ℕ) (a : Admitted limits n ends) (gone : (e : ℕ) → e < length ends / 2 → In e cut → Live dead e → ⊥)
+    (kept : (e : ℕ) → (In e cut → ⊥) → Live dead e) where
   abbrev g : Graph
   g = graphOf n always ends
 
@@ -66,10 +39,10 @@ module _ (m k n edges : ℕ) (ends cut dead : List ℕ) (a : Admitted limits n e
   low = record { vertex = admitted-vertex a 0 (omega (arith, a .two)); least = λ v h. omega arith }
 
   left : {u v : ℕ} → Reach g (Live dead) u v → Reach g (Without cut) u v
-  left w = reach-edges (λ e x y j l i. let q = joins-edge n ends e x y j in omega (arith, r .in-cut e (omega arith) i)) w
+  left w = reach-edges (λ e x y j l i. gone e (joins-edge n ends e x y j) i l) w
 
   live : {u v : ℕ} → Reach g (Without cut) u v → Reach g (Live dead) u v
-  live w = reach-edges (λ e x y j n. r .out e n ∙ zeros k e) w
+  live w = reach-edges (λ e x y j n. kept e n) w
 
   module _ {first₀ order₀ first order : List ℕ} {count : ℕ} (f : Found g (Live dead) (Pass (rolesFrom0 m)) (Start (rolesFrom0 m)) n first₀ order₀ first order count)
       (w : Whole g (Live dead) (Pass (rolesFrom0 m)) (Start (rolesFrom0 m)) (Goal (rolesFrom0 m)) n first order count) where
@@ -107,5 +80,23 @@ module _ (m k n edges : ℕ) (ends cut dead : List ℕ) (a : Admitted limits n e
               elim (ℕ-discrete (getD first v 0) 0) [ yes z ↦ omega (arith, tally-lt first n v l z, f .counted) | no b ↦ q .1 (seen v l b) ])))
         ]
 
-    pub parted : {reached₀ reached : List Bool} → Copied n first reached₀ reached → Parted n ends cut reached₀ reached (ltb count n)
-    parted c = record { answer = fewer; marks = λ v l. c .marks v l ∙ ap not (mark-is v l); rest = c .rest }
+    pub left-by : Left n ends cut first count
+    left-by = record { admitted = a; fewer = fewer; unseen = mark-is }
+
+-- What `without` says of a cut whose edges have been marked.
+
+pub searched : {cut dead : List ℕ} (n : ℕ) (ends first₀ first order : List ℕ) (r : Explored) → Removed cut (replicate 4000 0) dead → length first₀ ≡ 1000
+    → Answered n ends (rolesFrom0 999) dead first₀ (replicate 1000 0) first order r → Searched n ends cut first r
+searched {dead = dead} n ends first₀ first order (Refused a) r long h =
+    let no = not-admitted dead first₀ (replicate 1000 0) (r .long ∙ length-replicate {A = ℕ} 4000 0) long (length-replicate {A = ℕ} 1000 0) (h .0 .0) in
+    (no, h .0 .1 ∙ sym (lent-refused _ no refl .1))
+searched {cut} {dead} n ends first₀ first order (Seen count) r long h =
+    let p = plan-admitted _ (h .0) in
+    left-by 999 n ends cut dead p
+    (λ e l i z. omega (arith, r .in-cut e (omega (arith, p .edges, length-replicate {A = ℕ} 4000 0)) i))
+    (λ e o. r .out e o ∙ zeros 4000 e) (h .1) (h .2)
+searched n ends first₀ first order (Met count) r long h = no-goal 999 (h .2)
+
+pub parted : {n : ℕ} {ends cut first : List ℕ} {count : ℕ} {reached₀ reached : List Bool} → Left n ends cut first count → Copied n first reached₀ reached
+    → Parted n ends cut reached₀ reached (ltb count n)
+parted l c = record { answer = l .fewer; marks = λ v h. c .marks v h ∙ ap not (l .unseen v h); rest = c .rest }
