@@ -20,9 +20,9 @@ use Rattle.connectivity.proofs.Complete.{numbers-below, builds-length}
 use Rattle.text.specs.Column.{five, largest}
 use Rattle.text.specs.Plan.{Reading}
 use Rattle.text.specs.Verdict.{hasText, verdictText}
-use Rattle.text.specs.Entry.{bytesTold}
-use Rattle.text.specs.declared.Written.{Written}
-use Rattle.text.specs.declared.Written.the-variants as written
+use Rattle.text_write.specs.Entry.{bytesTold}
+use Rattle.text_write.specs.declared.Written.{Written}
+use Rattle.text_write.specs.declared.Written.the-variants as written
 use Rattle.text.proofs.Writing.{length-verdict, verdict-size, verdict-written}
 use Rattle.text.proofs.RoundTrip.{verdict-kept-five}
 use Rattle.verify_texts.specs.Texts.{planIn, verdictIn, judgeRead, judgeTextsBy, judgeTexts}

@@ -14,8 +14,8 @@ use Rattle.graph.specs.Admission.{toldBy}
 use Rattle.graph.specs.declared.Answer as declared
 use Rattle.text.specs.Column.{five, largest}
 use Rattle.text.specs.Plan.{Reading}
-use Rattle.text.specs.Entry.{WritesVerdict}
-use Rattle.text.specs.declared.Written.{Written}
+use Rattle.text_write.specs.Entry.{WritesVerdict}
+use Rattle.text_write.specs.declared.Written.{Written}
 use Rattle.text.proofs.RoundTrip.{plan-admitted}
 use Rattle.verify_texts.specs.Texts.{planIn}
 use Rattle.certify.specs.declared.Finding.{Finding}

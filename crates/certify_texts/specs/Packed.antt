@@ -11,8 +11,8 @@ use Rattle.certify.specs.declared.Finding.{Finding}
 use Rattle.certify.specs.declared.Outcome.{Outcome}
 use Rattle.certify.specs.declared.Outcome.the-variants.{Refused, Weak, Firm}
 use Rattle.certify.specs.Answered.{Answered, told}
-use Rattle.text.specs.declared.Written.{Written}
-use Rattle.text.specs.declared.Written.the-variants as written
+use Rattle.text_write.specs.declared.Written.{Written}
+use Rattle.text_write.specs.declared.Written.the-variants as written
 use Rattle.certify_texts.specs.Says.{WritesFor}
 
 -- four numbers of sixteen bits, the first in the uppermost

@@ -9,8 +9,8 @@ use Rattle.connectivity.specs.Judge.{judge}
 use Rattle.connectivity.specs.Verdict as meaning
 use Rattle.text.specs.Column.{five, largest}
 use Rattle.text.specs.Plan.{Reading}
-use Rattle.text.specs.Entry.{WritesVerdict}
-use Rattle.text.specs.declared.Written.{Written}
+use Rattle.text_write.specs.Entry.{WritesVerdict}
+use Rattle.text_write.specs.declared.Written.{Written}
 use Rattle.verify_texts.specs.Texts.{planIn}
 
 -- 01: kind 1 with the tabs of a weak plan, kind 0 with a record that passes of a firm one

@@ -1,7 +1,7 @@
 // The writer for C: include/hearthtansy_writer.h declares these functions. A slice is a pointer and a length.
 use certify::Finding;
 use certify::Outcome;
-use text::Written;
+use text_write::Written;
 ghost use mathlib.Core.Path.{_≡_};
 ghost use Rattle.certify_texts.specs.Packed.{four, packed, Packed, bytesIn, TextLength};
 

@@ -3,11 +3,11 @@ use certify::Outcome;
 use cuts::lowest::Lowest;
 use graph::Admission;
 use graph::Graph;
-use text::Written;
+use text_write::Written;
 ghost use mathlib.Core.List.{[], _∷_};
 ghost use Prim.Native.Nat.{_≤_};
 ghost use Rattle.connectivity.specs.Admission.{Admitted, limits};
-ghost use Rattle.text.specs.Entry.{WritesVerdict};
+ghost use Rattle.text_write.specs.Entry.{WritesVerdict};
 ghost use Rattle.certify.specs.Answered.{named};
 ghost use Rattle.certify_texts.specs.Says.{WritesFor, WritesOf};
 
@@ -18,7 +18,7 @@ pub fn verdict_text(plan: &[u8], bytes: &mut [u8]) -> Written
     ensures { λ r. ⌜ WritesFor (now (plan .entry)) (now (bytes .entry)) (now (bytes .exit)) r ⌝ }
 {
     let mut ends = [0u16; 2 * Graph::MAX_EDGES];
-    let read = text::read_plan(plan, &mut ends);
+    let read = text_read::read_plan(plan, &mut ends);
     match read {
         Admission::Refused(answer) => write_refusal(answer.number, bytes),
         Admission::Admitted(graph) => {
@@ -32,7 +32,7 @@ fn write_refusal(number: u16, bytes: &mut [u8]) -> Written
     ensures { λ r. ⌜ WritesVerdict 2 (number ∷ []) (now (bytes .entry)) (now (bytes .exit)) r ⌝ }
 {
     let list = [number];
-    text::write_verdict(2, &list, bytes)
+    text_write::write_verdict(2, &list, bytes)
 }
 
 // The verdict text of a plan that has been read.
@@ -48,7 +48,7 @@ fn write_admitted(vertices: u16, ends: &[u16], bytes: &mut [u8]) -> Written
         Outcome::Weak => write_weak(found.cut, bytes),
         Outcome::Firm => {
             let size = 3 * (ends.len() / 2);
-            text::write_verdict(0, &rows[..size], bytes)
+            text_write::write_verdict(0, &rows[..size], bytes)
         }
     }
 }
@@ -59,5 +59,5 @@ fn write_weak(cut: Lowest, bytes: &mut [u8]) -> Written
 {
     let list = [cut.first, cut.second];
     let count = cut.count as usize;
-    text::write_verdict(1, &list[..count], bytes)
+    text_write::write_verdict(1, &list[..count], bytes)
 }

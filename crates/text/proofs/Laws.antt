@@ -53,10 +53,9 @@ pub column-next : (ws : List ℕ) (x i : ℕ) → i < length ws → column (drop
 unfolding column
 column-next ws x i h = rw (add-one i, drop-cons ws i 0 h)
 
-pub same-next : (ws col : List ℕ) (x i : ℕ) → i < length ws → i < length col
-    → same (column (drop i ws) x) (drop i col) ≡ (eqb (byteAt (getD ws i 0) x) (getD col i 0) && same (column (drop (i + 1) ws) x) (drop (i + 1) col))
+same-next : (a b : List ℕ) (i : ℕ) → i < length a → i < length b → same (drop i a) (drop i b) ≡ (eqb (getD a i 0) (getD b i 0) && same (drop (i + 1) a) (drop (i + 1) b))
 unfolding same
-same-next ws col x i h k = rw (column-next ws x i h, add-one i, drop-cons col i 0 k)
+same-next a b i h k = rw (add-one i, drop-cons a i 0 h, drop-cons b i 0 k)
 
 pub value-next : (ws col : List ℕ) (i : ℕ) → i < length ws → i < length col
     → value (drop i ws) (drop i col) ≡ getD ws i 0 * digit (getD col i 0) + value (drop (i + 1) ws) (drop (i + 1) col)
@@ -151,21 +150,21 @@ module _ (copy : List ℕ) (at i : ℕ) (h : i < 5) (k : at + 5 ≤ length copy)
       → value (drop i five) (drop i (take 5 (drop at copy))) ≡ getD five i 0 * d + value (drop (i + 1) five) (drop (i + 1) (take 5 (drop at copy)))
   number-next d p = value-next five (take 5 (drop at copy)) i h col-long ∙ rw (col-at, p)
 
-  pub bytes-next : (x b : ℕ) → b ≡ byteAt (getD five i 0) x
-      → same (column (drop i five) x) (drop i (take 5 (drop at copy))) ≡ (eqb b (getD copy (at + i) 0) && same (column (drop (i + 1) five) x) (drop (i + 1) (take 5 (drop at copy))))
-  bytes-next x b p = same-next five (take 5 (drop at copy)) x i h col-long ∙ rw (col-at, p)
+  module _ (bytes : List ℕ) (l : length bytes ≡ 5) where
+    bytes-next : same (drop i bytes) (drop i (take 5 (drop at copy))) ≡ (eqb (getD bytes i 0) (getD copy (at + i) 0) && same (drop (i + 1) bytes) (drop (i + 1) (take 5 (drop at copy))))
+    bytes-next = same-next bytes (take 5 (drop at copy)) i (omega arith) col-long ∙ rw col-at
 
-  pub bytes-same : (x b : ℕ) → b ≡ byteAt (getD five i 0) x → getD copy (at + i) 0 ≡ b
-      → same (column (drop i five) x) (drop i (take 5 (drop at copy))) ≡ same (column (drop (i + 1) five) x) (drop (i + 1) (take 5 (drop at copy)))
-  bytes-same x b p q = bytes-next x b p ∙ rw (eq-eqb b (getD copy (at + i) 0) (sym q))
+    pub bytes-same : getD copy (at + i) 0 ≡ getD bytes i 0 → same (drop i bytes) (drop i (take 5 (drop at copy))) ≡ same (drop (i + 1) bytes) (drop (i + 1) (take 5 (drop at copy)))
+    bytes-same q = bytes-next ∙ rw (eq-eqb (getD bytes i 0) (getD copy (at + i) 0) (sym q))
 
-  pub bytes-differ : (x b : ℕ) → b ≡ byteAt (getD five i 0) x → (getD copy (at + i) 0 ≡ b → ⊥)
-      → same (column (drop i five) x) (drop i (take 5 (drop at copy))) ≡ false
-  bytes-differ x b p q = bytes-next x b p ∙ rw (ne-eqb b (getD copy (at + i) 0) (λ z. q (sym z)))
+    pub bytes-differ : (getD copy (at + i) 0 ≡ getD bytes i 0 → ⊥) → same (drop i bytes) (drop i (take 5 (drop at copy))) ≡ false
+    bytes-differ q = bytes-next ∙ rw (ne-eqb (getD bytes i 0) (getD copy (at + i) 0) (λ z. q (sym z)))
 
 -- after the last of them
-pub drop-col : (copy : List ℕ) (at i : ℕ) → 5 ≤ i → drop i (take 5 (drop at copy)) ≡ []
-drop-col copy at i h = drop-of-length-le (take 5 (drop at copy)) {i = i} (omega (arith, length-take 5 (drop at copy)))
+pub bytes-over : (copy : List ℕ) (at i : ℕ) (bytes : List ℕ) → length bytes ≡ 5 → 5 ≤ i → same (drop i bytes) (drop i (take 5 (drop at copy))) ≡ true
+unfolding same
+bytes-over copy at i bytes l h =
+    rw (drop-of-length-le bytes {i = i} (omega arith), drop-of-length-le (take 5 (drop at copy)) {i = i} (omega (arith, length-take 5 (drop at copy))))
 
 pub no-worth : (i : ℕ) → 5 ≤ i → drop i five ≡ []
 no-worth i h = drop-of-length-le five {i = i} h

@@ -1,5 +1,5 @@
 -- What reading gives, by its tests; and how the lent memory is filled.
-use mathlib.Core.Path.{_≡_, sym, ap, _∙_}
+use mathlib.Core.Path.{_≡_, ap, _∙_}
 use mathlib.Core.Bool.{Bool, true, false, cond, _&&_, _||_}
 use mathlib.Core.List.{List, [], _∷_, _++_}
 use Prim.Native.Nat.{ℕ, zero, suc, _+_, _*_, _≤_, _<_}
@@ -9,13 +9,10 @@ use lib.Dec.{ltb}
 use lib.ListN.{length, drop, length-append}
 use lib.Seq.{sets, sets-eq}
 use borrow.Author.Tests.{lt-ltb, le-ltb, eq-eqb, ne-eqb}
-use Rattle.connectivity.specs.Admission.{Limits, answer, limits, endsAnswer}
-use Rattle.graph.specs.declared.Admission.{Admission}
-use Rattle.text.specs.declared.VerdictRead.{VerdictRead}
-use Rattle.text.specs.Column.{five, largest, lineSize, lineFits, numbers, linesFit, linesNumbers}
-use Rattle.text.specs.Plan.{Reading, headerFirst, headerSecond, behindHeader, readEnds, readPlan}
+use Rattle.connectivity.specs.Admission.{Limits, answer, endsAnswer}
+use Rattle.text.specs.Column.{lineSize, lineFits, numbers, linesFit, linesNumbers}
+use Rattle.text.specs.Plan.{Reading, filled, headerFirst, headerSecond, behindHeader, readEnds, readPlan}
 use Rattle.text.specs.Verdict.{perLine, linesOf, needed, countFits, listRead, readVerdict}
-use Rattle.text.specs.Entry.{filled, afterReading, planTold, verdictTold, ReadsPlan, ReadsVerdict}
 use Rattle.text.proofs.Laws.{length-numbers}
 
 pub length-lines-numbers : (ws : List ℕ) (k m : ℕ) (text : List ℕ) → length (linesNumbers ws k m text) ≡ k * m
@@ -26,15 +23,6 @@ length-lines-numbers ws k (suc m) text =
 
 pub sets-filled : (l xs : List ℕ) → length xs ≤ length l → sets l 0 xs ≡ filled xs l
 sets-filled l xs h = let p : 0 + length xs ≡ length xs = omega arith in sets-eq xs l 0 (omega arith) ∙ ap (λ (n : ℕ). xs ++ drop n l) p
-
--- a result of reading, met by the code's answer and memory
-pub reads-plan : (text lent after : List ℕ) (r : Admission) (x : Reading)
-    → readPlan five largest limits text (length lent) ≡ x → r ≡ planTold x → after ≡ afterReading x lent → ReadsPlan text lent after r
-reads-plan text lent after r x p q m = record { answer = q ∙ sym (ap planTold p); memory = m ∙ sym (ap (λ (y : Reading). afterReading y lent) p) }
-
-pub reads-verdict : (text lent after : List ℕ) (r : VerdictRead) (x : Reading)
-    → readVerdict five largest limits text (length lent) ≡ x → r ≡ verdictTold x → after ≡ afterReading x lent → ReadsVerdict text lent after r
-reads-verdict text lent after r x p q m = record { answer = q ∙ sym (ap verdictTold p); memory = m ∙ sym (ap (λ (y : Reading). afterReading y lent) p) }
 
 abbrev pub refusal : ℕ → Reading
 refusal k = Reading.refused (answer k 0)

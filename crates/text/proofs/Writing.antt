@@ -11,27 +11,12 @@ use lib.Dec.{eqb, leb}
 use lib.ListN.{length, take, drop, getD, length-append, length-drop}
 use lib.Seq.{length-take-le}
 use borrow.Author.Tests.{ne-eqb, lt-ltb, le-ltb, eq-eqb, eqb-true, leb-true}
-use Rattle.connectivity.specs.Admission.{Limits, Answer, answer, limits, Admitted, admission}
+use Rattle.connectivity.specs.Admission.{Limits, answer, limits, Admitted, admission}
 use Rattle.connectivity.proofs.Admission.{admission-number}
-use Rattle.graph.specs.Admission.{constructed}
-use Rattle.graph.proofs.Lent.{constructed-admitted}
-use Rattle.graph.specs.declared.Graph.{Graph}
-use Rattle.graph.specs.declared.Admission.{Admission}
-use Rattle.text.specs.declared.Written.{Written}
 use Rattle.text.specs.Column.{five, line, lines, lineSize}
 use Rattle.text.specs.Plan.{Writing, planText, writePlan}
 use Rattle.text.specs.Verdict.{perLine, linesOf, needed, countOf, countFits, hasText, verdictText, writeVerdict}
-use Rattle.text.specs.Entry.{afterWriting, bytesTold, WritesPlan, WritesVerdict}
 use Rattle.text.proofs.Laws.{and-true, length-line}
-
--- a result of writing, met by the code's answer and memory
-pub writes-plan : (n : ℕ) (ends lent after : List ℕ) (r : Written) (x : Writing)
-    → writePlan five limits n ends (length lent) ≡ x → r ≡ bytesTold x → after ≡ afterWriting x lent → WritesPlan n ends lent after r
-writes-plan n ends lent after r x p q m = record { answer = q ∙ sym (ap bytesTold p); memory = m ∙ sym (ap (λ (y : Writing). afterWriting y lent) p) }
-
-pub writes-verdict : (kind : ℕ) (list lent after : List ℕ) (r : Written) (x : Writing)
-    → writeVerdict five limits kind list (length lent) ≡ x → r ≡ bytesTold x → after ≡ afterWriting x lent → WritesVerdict kind list lent after r
-writes-verdict kind list lent after r x p q m = record { answer = q ∙ sym (ap bytesTold p); memory = m ∙ sym (ap (λ (y : Writing). afterWriting y lent) p) }
 
 pub length-lines : (ws : List ℕ) (k m : ℕ) (list : List ℕ) → k * m ≤ length list → length (lines ws k m list) ≡ m * lineSize ws k
 unfolding lines
@@ -44,10 +29,6 @@ length-lines ws k (suc m) list h =
 
 abbrev refusal : ℕ → Writing
 refusal k = Writing.refused (answer k 0)
-
--- what the constructor says of a plan that it admits
-pub plan-made : (n : ℕ) (ends : List ℕ) {g : Graph} → constructed limits n ends ≡ Admission.Admitted g → ((admission limits n ends) .number ≡ 0) × (g .edges ≡ length ends / 2)
-plan-made n ends p = let q = constructed-admitted n ends p in (admission-number limits n ends .1 (q .0), q .2)
 
 -- writing a plan
 module _ (ws : List ℕ) (limits : Limits) (n : ℕ) (ends : List ℕ) (space : ℕ) where
@@ -182,10 +163,13 @@ module _ (ws : List ℕ) (limits : Limits) (kind : ℕ) (list : List ℕ) (space
     verdict-written z = rw (h, le-ltb space (length (verdictText ws kind list)) z)
 
 -- within 01's limits
+pub count-small : (kind count : ℕ) → countFits limits kind count ≡ true → count ≤ 4000
+count-small kind count h = ⊎-elim (λ p. p) (λ p. omega arith) (count-most limits kind count h)
+
 pub verdict-size : (kind : ℕ) (list : List ℕ) → hasText limits kind list ≡ true
     → (countOf kind list ≤ 4000) × (linesOf kind (countOf kind list) * (perLine kind * 5 + 1) ≤ 64000)
 verdict-size kind list h =
-    let few : countOf kind list ≤ 4000 = ⊎-elim (λ p. p) (λ p. omega arith) (count-most limits kind (countOf kind list) (form five limits kind list 0 h .0)) in
+    let few = count-small kind (countOf kind list) (form five limits kind list 0 h .0) in
     let m : linesOf kind (countOf kind list) ≤ 4000 = omega (arith, lines-needed kind (countOf kind list) .0) in
     let k : perLine kind * 5 + 1 ≤ 16 = omega (arith, per-line-most kind) in
     (few, mul-le-mul m k)

@@ -1,4 +1,3 @@
 pub mod Column
 pub mod Plan
 pub mod Verdict
-pub mod Entry

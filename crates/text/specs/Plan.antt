@@ -17,6 +17,10 @@ pub data Writing : Type 0 where
   refused : Answer → Writing
   written : List ℕ → Writing
 
+-- 01: what is written fills just what it needs; what stands behind stays
+abbrev pub filled : List ℕ → List ℕ → List ℕ
+filled xs lent = xs ++ drop (length xs) lent
+
 -- 01: pieces and tabs on one line, then a line of two ends for each tab
 unfoldable pub planText : List ℕ → ℕ → List ℕ → List ℕ
 planText ws n ends = line ws (n ∷ (length ends / 2 ∷ [])) ++ lines ws 2 (length ends / 2) ends

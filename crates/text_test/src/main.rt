@@ -1,8 +1,8 @@
 // Runs the four entries on texts in the form and on damaged ones, and prints each answer and what the lent memory holds then.
 use graph::Admission;
 use graph::Answer;
-use text::VerdictRead;
-use text::Written;
+use text_read::VerdictRead;
+use text_write::Written;
 ghost use Prim.Native.Nat.{_≤_};
 
 fn show(byte: u8) {
@@ -44,7 +44,7 @@ fn plan(text: &[u8], space: usize)
     requires { ⌜ space ≤ 8 ⌝ }
 {
     let mut ends = [9u16; 8];
-    let answer = text::read_plan(text, &mut ends[..space]);
+    let answer = text_read::read_plan(text, &mut ends[..space]);
     match answer {
         Admission::Refused(a) => refused(a),
         Admission::Admitted(g) => {
@@ -62,7 +62,7 @@ fn verdict(text: &[u8], space: usize)
     requires { ⌜ space ≤ 8 ⌝ }
 {
     let mut list = [9u16; 8];
-    let answer = text::read_verdict(text, &mut list[..space]);
+    let answer = text_read::read_verdict(text, &mut list[..space]);
     match answer {
         VerdictRead::Refused(a) => refused(a),
         VerdictRead::Read { kind, count } => {
@@ -91,7 +91,7 @@ fn plan_text(vertices: u16, ends: &[u16], space: usize)
     requires { ⌜ space ≤ 56 ⌝ }
 {
     let mut bytes = [b'.'; 56];
-    told(text::write_plan(vertices, ends, &mut bytes[..space]));
+    told(text_write::write_plan(vertices, ends, &mut bytes[..space]));
     io::write_all(1, &bytes);
     show(b'\n');
 }
@@ -101,7 +101,7 @@ fn verdict_text(kind: u16, list: &[u16], space: usize)
     requires { ⌜ space ≤ 56 ⌝ }
 {
     let mut bytes = [b'.'; 56];
-    told(text::write_verdict(kind, list, &mut bytes[..space]));
+    told(text_write::write_verdict(kind, list, &mut bytes[..space]));
     io::write_all(1, &bytes);
     show(b'\n');
 }

@@ -1,7 +1,7 @@
 // The verdict program: reads a plan text on standard input and writes its verdict text.
 use libc::STDIN_FILENO;
 use libc::STDOUT_FILENO;
-use text::Written;
+use text_write::Written;
 
 fn main() {
     // One byte more than the longest text in the form: a longer text is read as its front is (proofs/Longer of `verify_texts`).

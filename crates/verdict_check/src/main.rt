@@ -9,7 +9,7 @@ fn main() {
     let plan_length = read_file(b"plan.txt", &mut plan);
     let verdict_length = read_file(b"verdict.txt", &mut verdict);
     let answer = verify_texts::check_texts(&plan[..plan_length], &verdict[..verdict_length]);
-    io::write_all(STDOUT_FILENO, &text::answer_line(answer));
+    io::write_all(STDOUT_FILENO, &text_write::answer_line(answer));
 }
 
 // Reads the file until `bytes` is full and answers how many there were. A file that can't be opened counts as an empty text.

@@ -11,11 +11,11 @@ use Rattle.graph.specs.Admission.{toldBy}
 use Rattle.graph.specs.declared.Answer.{Answer}
 use Rattle.graph.specs.declared.Graph.{Graph}
 use Rattle.graph.specs.declared.Admission.{Admission}
-use Rattle.text.specs.declared.VerdictRead.{VerdictRead}
+use Rattle.text_read.specs.declared.VerdictRead.{VerdictRead}
 use Rattle.text.specs.Column.{five, largest}
-use Rattle.text.specs.Plan.{Reading, readPlan}
+use Rattle.text.specs.Plan.{Reading, filled, readPlan}
 use Rattle.text.specs.Verdict.{readVerdict}
-use Rattle.text.specs.Entry.{filled, afterReading, planTold, verdictTold, ReadsPlan, ReadsVerdict}
+use Rattle.text_read.specs.Entry.{afterReading, planTold, verdictTold, ReadsPlan, ReadsVerdict}
 use Rattle.text.proofs.RoundTrip.{plan-admitted}
 use Rattle.verify_texts.specs.Texts.{planIn, verdictIn, judgeRead}
 use Rattle.verify_texts.proofs.TwoTexts.{plan-space, verdict-space}

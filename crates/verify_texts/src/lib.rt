@@ -2,7 +2,7 @@
 use graph::Admission;
 use graph::Answer;
 use graph::Graph;
-use text::VerdictRead;
+use text_read::VerdictRead;
 ghost use mathlib.Core.Path.{_≡_};
 ghost use Rattle.connectivity.specs.Admission.{limits};
 ghost use Rattle.graph.specs.Admission.{toldBy};
@@ -17,7 +17,7 @@ pub fn check_texts(plan: &[u8], verdict: &[u8]) -> Answer
     ensures { λ r. ⌜ r ≡ toldBy (judgeTexts (now (plan .entry)) (now (verdict .entry))) ⌝ }
 {
     let mut ends = [0u16; 2 * Graph::MAX_EDGES];
-    let read = text::read_plan(plan, &mut ends);
+    let read = text_read::read_plan(plan, &mut ends);
     match read {
         Admission::Refused(answer) => answer,
         Admission::Admitted(graph) => {
@@ -32,7 +32,7 @@ fn check_verdict(vertices: u16, ends: &[u16], verdict: &[u8]) -> Answer
     ensures { λ r. ⌜ r ≡ toldBy (judgeRead limits (Reading.read vertices (now (ends .entry))) (verdictIn five largest limits (now (verdict .entry)))) ⌝ }
 {
     let mut list = [0u16; 3 * Graph::MAX_EDGES];
-    let read = text::read_verdict(verdict, &mut list);
+    let read = text_read::read_verdict(verdict, &mut list);
     match read {
         VerdictRead::Refused(answer) => answer,
         VerdictRead::Read { kind, count } => verify::check(vertices, ends, kind, &list[..count]),

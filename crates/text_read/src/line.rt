@@ -1,0 +1,137 @@
+// Lines of numbers in columns, taken by the reader.
+use crate::column::column_fits;
+use crate::column::number;
+use crate::reader::take_line;
+use text::HEADER;
+use text::LONGEST;
+use text::WIDTH;
+ghost use mathlib.Core.Path.{_≡_};
+ghost use mathlib.Core.Bool.{true};
+ghost use Prim.Native.Nat.{_+_, _*_, _≤_};
+ghost use lib.ListN.{length, drop, getD};
+ghost use lib.Seq.{sets};
+ghost use Rattle.text.specs.Column.{five, largest, lineFits, numbers, linesFit, linesNumbers};
+
+// The two numbers of a line, and the place behind it.
+pub struct Pair {
+    pub first: u16,
+    pub second: u16,
+    pub next: usize,
+}
+
+// Whether a line is in the form, and the place behind it.
+struct Judged {
+    fits: bool,
+    next: usize,
+}
+
+// A line of `columns` numbers in the form begins at `at`.
+pub(crate) fn line_fits(text: &[u8], at: usize, columns: usize) -> bool
+    requires { ⌜ (at ≤ length (now text)) × (columns ≤ 3) ⌝ }
+    ensures { λ r. ⌜ r ≡ lineFits five largest columns (drop at (now (text .entry))) ⌝ }
+{
+    let judged = judge_line(text, at, columns);
+    judged.fits
+}
+
+// Judges the line of `columns` numbers that begins at `at`. The place behind it counts if it fits.
+fn judge_line(text: &[u8], at: usize, columns: usize) -> Judged
+    requires { ⌜ (at ≤ length (now text)) × (columns ≤ 3) ⌝ }
+    ensures { λ r. ⌜ (r .fits ≡ lineFits five largest columns (drop at (now (text .entry)))) × (r .fits ≡ true → r .next ≡ at + (columns * 5 + 1)) ⌝ }
+{
+    let size = columns * WIDTH + 1;
+    if text.len() - at < size {
+        return Judged {
+            fits: false,
+            next: at,
+        };
+    }
+    let line = take_line(text, at, size);
+    Judged {
+        fits: columns_fit(&line.bytes, columns),
+        next: line.next,
+    }
+}
+
+// The line has `columns` columns in the form and then a line feed.
+fn columns_fit(copy: &[u8; LONGEST], columns: usize) -> bool
+    requires { ⌜ (columns ≤ 3) × (length (now copy) ≡ 16) ⌝ }
+    ensures { λ r. ⌜ r ≡ lineFits five largest columns (now (copy .entry)) ⌝ }
+{
+    let mut k = 0;
+    while k < columns {
+        if !column_fits(copy, k * WIDTH) {
+            return false;
+        }
+        k += 1;
+    }
+    copy[columns * WIDTH] == 10
+}
+
+// From `at` on the text is `count` lines of `columns` numbers each, in the form, and nothing follows the last.
+pub(crate) fn lines_fit(text: &[u8], at: usize, columns: usize, count: usize) -> bool
+    requires { ⌜ (at ≤ length (now text)) × (columns ≤ 3) ⌝ }
+    ensures { λ r. ⌜ r ≡ linesFit five largest columns count (drop at (now (text .entry))) ⌝ }
+{
+    let mut next = at;
+    let mut left = count;
+    while 0 < left {
+        let judged = judge_line(text, next, columns);
+        let fits = judged.fits;
+        if !fits {
+            return false;
+        }
+        next = judged.next;
+        left -= 1;
+    }
+    next == text.len()
+}
+
+// The two numbers of the line that begins at `at`.
+pub(crate) fn two_numbers(text: &[u8], at: usize) -> Pair
+    requires { ⌜ (at ≤ length (now text)) × (lineFits five largest 2 (drop at (now text)) ≡ true) ⌝ }
+    ensures { λ r. ⌜ (r .first ≡ getD (numbers five 2 (drop at (now (text .entry)))) 0 0) × (r .second ≡ getD (numbers five 2 (drop at (now (text .entry)))) 1 0) × (r .next ≡ at + 11) ⌝ }
+{
+    let line = take_line(text, at, HEADER);
+    Pair {
+        first: number(&line.bytes, 0) as u16,
+        second: number(&line.bytes, WIDTH) as u16,
+        next: line.next,
+    }
+}
+
+// Stores the numbers of the line that begins at `at` from `to` on, and gives the place behind it.
+fn store_line(text: &[u8], at: usize, columns: usize, list: &mut [u16], to: usize) -> usize
+    requires { ⌜ (at ≤ length (now text)) × (columns ≤ 3) × (to + columns ≤ length (now list)) × (lineFits five largest columns (drop at (now text)) ≡ true) ⌝ }
+    ensures { λ r. ⌜ (r ≡ at + (columns * 5 + 1)) × (now (list .exit) ≡ sets (now (list .entry)) to (numbers five columns (drop at (now (text .entry))))) ⌝ }
+{
+    let line = take_line(text, at, columns * WIDTH + 1);
+    store_columns(&line.bytes, columns, list, to);
+    line.next
+}
+
+fn store_columns(copy: &[u8; LONGEST], columns: usize, list: &mut [u16], to: usize)
+    requires { ⌜ (columns ≤ 3) × (length (now copy) ≡ 16) × (to + columns ≤ length (now list)) × (lineFits five largest columns (now copy) ≡ true) ⌝ }
+    ensures { λ r. ⌜ now (list .exit) ≡ sets (now (list .entry)) to (numbers five columns (now (copy .entry))) ⌝ }
+{
+    let mut k = 0;
+    while k < columns {
+        list[to + k] = number(copy, k * WIDTH) as u16;
+        k += 1;
+    }
+}
+
+// Stores the numbers of `count` lines of `columns` numbers each.
+pub(crate) fn store_lines(text: &[u8], at: usize, columns: usize, count: usize, list: &mut [u16])
+    requires { ⌜ (at ≤ length (now text)) × (columns ≤ 3) × (columns * count ≤ length (now list)) × (linesFit five largest columns count (drop at (now text)) ≡ true) ⌝ }
+    ensures { λ r. ⌜ now (list .exit) ≡ sets (now (list .entry)) 0 (linesNumbers five columns count (drop at (now (text .entry)))) ⌝ }
+{
+    let mut next = at;
+    let mut to = 0;
+    let mut left = count;
+    while 0 < left {
+        next = store_line(text, next, columns, list, to);
+        to += columns;
+        left -= 1;
+    }
+}

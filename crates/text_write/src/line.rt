@@ -1,0 +1,68 @@
+// Lines of numbers in columns, written.
+use text::HEADER;
+use text::WIDTH;
+ghost use mathlib.Core.Path.{_≡_};
+ghost use mathlib.Core.List.{_++_, _∷_, []};
+ghost use Prim.Native.Nat.{_+_, _*_, _≤_};
+ghost use lib.ListN.{length, take, drop};
+ghost use lib.Seq.{sets};
+ghost use Rattle.text.specs.Column.{five, column, line, lines};
+
+// Writes x into the column that begins at `at`.
+fn write_column(text: &mut [u8], at: usize, x: u32)
+    requires { ⌜ at + 5 ≤ length (now text) ⌝ }
+    ensures { λ r. ⌜ now (text .exit) ≡ sets (now (text .entry)) at (column five x) ⌝ }
+{
+    let bytes = text::column(x);
+    let mut i = 0;
+    while i < WIDTH {
+        text[at + i] = bytes[i];
+        i += 1;
+    }
+}
+
+// Writes a line of the `columns` numbers from `from` on.
+fn write_line(list: &[u16], from: usize, columns: usize, text: &mut [u8], at: usize)
+    requires { ⌜ (columns ≤ 3) × (from + columns ≤ length (now list)) × (at + (columns * 5 + 1) ≤ length (now text)) ⌝ }
+    ensures { λ r. ⌜ now (text .exit) ≡ sets (now (text .entry)) at (line five (take columns (drop from (now (list .entry))))) ⌝ }
+{
+    let mut k = 0;
+    while k < columns {
+        write_column(text, at + k * WIDTH, list[from + k] as u32);
+        k += 1;
+    }
+    text[at + columns * WIDTH] = 10;
+}
+
+// Writes `count` lines of `columns` numbers each, from `at` on.
+fn write_lines(list: &[u16], columns: usize, count: usize, text: &mut [u8], at: usize)
+    requires { ⌜ (columns ≤ 3) × (columns * count ≤ length (now list)) × (at + count * (columns * 5 + 1) ≤ length (now text)) ⌝ }
+    ensures { λ r. ⌜ now (text .exit) ≡ sets (now (text .entry)) at (lines five columns count (now (list .entry))) ⌝ }
+{
+    let mut next = at;
+    let mut from = 0;
+    let mut left = count;
+    while 0 < left {
+        write_line(list, from, columns, text, next);
+        next += columns * WIDTH + 1;
+        from += columns;
+        left -= 1;
+    }
+}
+
+// Writes a header of two numbers, then `count` lines of `columns` numbers each.
+pub(crate) fn write_text(
+    first: u16,
+    second: u16,
+    list: &[u16],
+    columns: usize,
+    count: usize,
+    text: &mut [u8],
+)
+    requires { ⌜ (columns ≤ 3) × (columns * count ≤ length (now list)) × (11 + count * (columns * 5 + 1) ≤ length (now text)) ⌝ }
+    ensures { λ r. ⌜ now (text .exit) ≡ sets (now (text .entry)) 0 (line five (first ∷ (second ∷ [])) ++ lines five columns count (now (list .entry))) ⌝ }
+{
+    let header = [first, second];
+    write_line(&header, 0, 2, text, 0);
+    write_lines(list, columns, count, text, HEADER);
+}
