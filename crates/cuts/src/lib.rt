@@ -1,13 +1,12 @@
 // The lowest cut of at most two edges of a plan.
-use graph::Admission;
 use graph::Answer;
 use graph::Graph;
+use labels::Labelling;
 use lowest::Lowest;
 ghost use mathlib.Core.Path.{_≡_};
 ghost use Rattle.connectivity.specs.Admission.{limits};
 ghost use Rattle.cuts.specs.Verdict.{lowestTold, lightest};
 
-mod labels; // labels.rt: labels of edges that cancel around every vertex
 pub mod lowest; // lowest.rt: the fewest edges that disconnect, the lowest set
 
 // What is said of a plan's cuts of at most two edges.
@@ -21,13 +20,23 @@ pub enum Lightest {
 pub fn lowest_cut(vertices: u16, ends: &[u16]) -> Lightest
     ensures { λ r. ⌜ r ≡ lowestTold limits vertices (now (ends .entry)) ⌝ }
 {
-    let made = Graph::new(vertices, ends);
-    match made {
-        Admission::Refused(answer) => Lightest::Refused(answer),
-        Admission::Admitted(graph) => told(lowest::lowest_cut(vertices, ends, graph.edges)),
+    let mut labels = [0u64; Graph::MAX_EDGES];
+    let labelling = labels::label(vertices, ends, &mut labels);
+    match labelling {
+        Labelling::Refused(answer) => Lightest::Refused(answer),
+        Labelling::Disconnected => told(Lowest {
+            count: 0,
+            first: 0,
+            second: 0,
+        }),
+        Labelling::Labelled => {
+            let edges = (ends.len() / 2) as u16;
+            told(lowest::small_cut(vertices, ends, &labels, edges))
+        }
     }
 }
 
+// Three edges stand for no cut.
 fn told(cut: Lowest) -> Lightest
     ensures { λ r. ⌜ r ≡ lightest cut ⌝ }
 {

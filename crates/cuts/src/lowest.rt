@@ -1,11 +1,8 @@
 // The lowest cut of at most two edges. Labels tell which sets need not be tried; a search tries the others.
-use crate::labels;
-use graph::Graph;
 ghost use mathlib.Core.Path.{_≡_};
 ghost use mathlib.Core.Bool.{false};
 ghost use mathlib.Core.List.{[], _∷_};
-ghost use Prim.Native.Nat.{_/_, _≤_, _<_};
-ghost use lib.ListN.{length};
+ghost use Prim.Native.Nat.{_≤_, _<_};
 ghost use Rattle.connectivity.specs.Graph.{graphOf, always};
 ghost use Rattle.connectivity.specs.Cut.{disconnects, lowestCut};
 ghost use Rattle.connectivity.specs.Admission.{Admitted, limits};
@@ -24,24 +21,8 @@ pub(crate) struct Pair {
     pub second: u16,
 }
 
-// The fewest edges, two at most, that disconnect, and of such sets the lowest.
-pub(crate) fn lowest_cut(vertices: u16, ends: &[u16], edges: u16) -> Lowest
-    requires { ⌜ (edges ≡ length (now ends) / 2) × Admitted limits vertices (now ends) ⌝ }
-    ensures { λ r. ⌜ Told r (lowestCut (graphOf vertices always (now (ends .entry)))) ⌝ }
-{
-    let mut labels = [0u64; Graph::MAX_EDGES];
-    if labels::label(vertices, ends, &mut labels) {
-        return small_cut(vertices, ends, &labels, edges);
-    }
-    Lowest {
-        count: 0,
-        first: 0,
-        second: 0,
-    }
-}
-
-// The same of a connected plan whose edges have labels.
-fn small_cut(vertices: u16, ends: &[u16], labels: &[u64], edges: u16) -> Lowest
+// The fewest edges, two at most, that disconnect a connected plan whose edges have labels, and of such sets the lowest.
+pub(crate) fn small_cut(vertices: u16, ends: &[u16], labels: &[u64], edges: u16) -> Lowest
     requires { ⌜ Whole vertices (now ends) (now labels) edges ⌝ }
     ensures { λ r. ⌜ Told r (lowestCut (graphOf vertices always (now (ends .entry)))) ⌝ }
 {

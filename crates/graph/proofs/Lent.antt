@@ -5,10 +5,11 @@ use mathlib.Core.Bool.{Bool, true, false, cond}
 use mathlib.Core.List.{List}
 use Prim.Native.Nat.{ℕ, _/_}
 use native.Mathlib.Omega.{arith}
+use native.Mathlib.Decide.{ℕ-discrete}
 use lib.Dec.{T, eqb}
 use lib.ListN.{length}
 use borrow.Author.Tests.{eqb-true, eqb-false}
-use Rattle.connectivity.specs.Admission.{answer, passed, andThen, limits, Admitted, admission}
+use Rattle.connectivity.specs.Admission.{Answer, answer, passed, andThen, limits, Admitted, admission}
 use Rattle.connectivity.proofs.Lists.{T-true, T-false}
 use Rattle.connectivity.proofs.Admission.{passed-then, failed-then, admission-number}
 use Rattle.graph.specs.declared.Answer as code
@@ -61,3 +62,16 @@ module _ {n : ℕ} {ends : List ℕ} (enough : Bool) where
 
     pub lent-short : (T enough → ⊥) → RefusedBy (lent n ends enough) (record { number = 6; place = 0 })
     lent-short h = let same : lent n ends enough ≡ answer 6 0 = admitted-lent ∙ rw (T-false enough h) in (rw same (λ z. omega arith), ap toldBy (sym same))
+
+  -- What an answer to a plan and lent space says of the plan.
+
+  pub lent-passed : (lent n ends enough) .number ≡ 0 → Admitted limits n ends
+  unfolding lent
+  lent-passed z = elim (ℕ-discrete ((admission limits n ends) .number) 0) [
+    | yes p ↦ admission-number limits n ends .0 p
+    | no h ↦ absurd (h (ap (λ (x : Answer). x .number) (sym (failed-then (admission limits n ends) (cond enough passed (answer 6 0)) h)) ∙ z))
+  ]
+
+  pub refused-own : {a : code.Answer} → (Admitted limits n ends → ⊥) → RefusedBy (lent n ends enough) a → a ≡ toldBy (admission limits n ends)
+  unfolding lent
+  refused-own h r = r .1 ∙ ap toldBy (failed-then (admission limits n ends) (cond enough passed (answer 6 0)) (λ z. h (admission-number limits n ends .0 z)))

@@ -4,4 +4,5 @@ pub mod Leads
 pub mod Starts
 pub mod Outcomes
 pub mod From0
+pub mod Left
 pub mod Climb

@@ -1,59 +1,81 @@
--- `lowest_cut` meets its contract: a plan that the constructor refuses is refused by its answer, any other has its lowest cut told.
-use mathlib.Core.Path.{_≡_, sym, _∙_}
+-- `lowest_cut` meets its contract: the plan's refusal, the empty set where it is not connected, else what the labels lead to.
+use mathlib.Core.Path.{_∙_}
+use Prim.Native.Nat.{ℕ}
+use native.Mathlib.Omega.{arith}
 use borrow.Author.Needs.{needs}
-use Rattle.graph.proofs.Lent.{constructed-refused, constructed-admitted}
-use Rattle.cuts.proofs.Answers.{answers-refused, answers-cut}
+use lib.ListN.{replicate, length-replicate}
+use Rattle.labels.proofs.Answers.{plan-disconnected, plan-labelled}
+use Rattle.cuts.proofs.Answers.{answers-refused, answers-parted, answers-cut, whole-labelled}
 use Rattle.cuts.proofs.lowest_cut.Statement.{statement}
 use Rattle.cuts.proofs.lowest_cut.Tie as tie
 
--- src/lib.rt:24:9
-new-requires : tie.Need-new-requires
-new-requires c κs = search needs
+slice-aggregate-label : tie.Need-slice-aggregate-label
+slice-aggregate-label c = search needs
 
--- src/lib.rt:26:28
-enum-known-made : tie.Need-enum-known-made
-enum-known-made c = search needs
+label-requires : tie.Need-label-requires
+label-requires c κs = search needs
 
--- src/lib.rt:27:29
-enum-known-made-2 : tie.Need-enum-known-made-2
-enum-known-made-2 c = search needs
+enum-known-labelling : tie.Need-enum-known-labelling
+enum-known-labelling c = search needs
 
--- src/lib.rt:27:44
-lowest-cut-requires : tie.Need-lowest-cut-requires
-lowest-cut-requires c κs =
-    let made = c .before in
-    let new = made .before .before in
-    let p = constructed-admitted _ _ (sym (new .new .ensures) ∙ made .made2 .given .1) in
-    (p .2, p .0)
+enum-told : tie.Need-enum-told
+enum-told c = search needs
 
--- src/lib.rt:27:39
 told-requires : tie.Need-told-requires
 told-requires c κs = search needs
 
--- src/lib.rt:21:1
+enum-told-2 : tie.Need-enum-told-2
+enum-told-2 c = search needs
+
+cast-edges : tie.Need-cast-edges
+cast-edges c =
+    let e = rw (c .enum-told2 .given .1) at (c .before .before .before .label .ensures) in
+    let a = plan-labelled _ _ _ e .0 in
+    omega (arith, a .edges)
+
+slice-aggregate-small-cut : tie.Need-slice-aggregate-small-cut
+slice-aggregate-small-cut c = search needs
+
+small-cut-requires : tie.Need-small-cut-requires
+small-cut-requires c κs =
+    let told = c .before in
+    let e = rw (told .enum-told2 .given .1) at (told .before .before .before .label .ensures) in
+    let a = plan-labelled _ _ _ e .0 in
+    whole-labelled _ _ (omega (arith, a .edges)) e
+
+told-requires-2 : tie.Need-told-requires-2
+told-requires-2 c κs = search needs
+
 returns : tie.Need-returns
 returns c =
-    let made = c .before in
-    let new = made .before .before in
-    let p = constructed-refused _ _ (sym (new .new .ensures) ∙ made .made .given .1) in
-    answers-refused _ _ _ (p .0) (p .1)
+    let e = rw (c .before .labelling .given .1) at (c .before .before .before .before .label .ensures) in
+    answers-refused _ _ (replicate 4000 0) (omega (arith, length-replicate {A = ℕ} 4000 0)) e
 
--- src/lib.rt:21:1
 returns-2 : tie.Need-returns-2
 returns-2 c =
-    let made = c .before .before .before in
-    let new = made .before .before in
-    let p = constructed-admitted _ _ (sym (new .new .ensures) ∙ made .made2 .given .1) in
-    c .told .ensures ∙ answers-cut _ _ _ (p .0) (c .before .lowest-cut .ensures)
+    let e = rw (c .before .enum-told .given .1) at (c .before .before .before .before .label .ensures) in
+    c .told .ensures ∙ answers-cut _ _ _ (plan-disconnected _ _ _ e .0) (answers-parted _ _ e)
+
+returns-3 : tie.Need-returns-3
+returns-3 c =
+    let told = c .before .before .before in
+    let e = rw (told .enum-told2 .given .1) at (told .before .before .before .label .ensures) in
+    c .told2 .ensures ∙ answers-cut _ _ _ (plan-labelled _ _ _ e .0) (c .before .small-cut .ensures)
 
 pub lowest-cut-spec : {M : Type 1} → statement M
 lowest-cut-spec =
     tie.close
     (tie.spec
-    new-requires
-    enum-known-made
-    enum-known-made-2
-    lowest-cut-requires
+    slice-aggregate-label
+    label-requires
+    enum-known-labelling
+    enum-told
     told-requires
+    enum-told-2
+    cast-edges
+    slice-aggregate-small-cut
+    small-cut-requires
+    told-requires-2
     returns
-    returns-2)
+    returns-2
+    returns-3)

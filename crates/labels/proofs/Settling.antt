@@ -14,9 +14,9 @@ use Rattle.connectivity.specs.Label.{Balanced}
 use Rattle.connectivity.specs.Admission.{limits, Admitted}
 use Rattle.connectivity.proofs.Lists.{T-true, or-left, or-right, eq-T}
 use Rattle.search.proofs.Leads.{joins-edge}
-use Rattle.cuts.specs.Labels.{xorAt, Spanning, Summed, Ready, Toggled}
-use Rattle.cuts.proofs.Xor.{all-one}
-use Rattle.cuts.proofs.Sums.{ready, at-ends, away, summed-toggled}
+use Rattle.labels.specs.Labels.{xorAt, Spanning, Summed, Ready, Toggled}
+use Rattle.labels.proofs.Xor.{all-one}
+use Rattle.labels.proofs.Sums.{ready, at-ends, away, summed-toggled}
 
 -- the ends a and b of an edge that joins u and v
 abbrev Ends : ℕ → ℕ → ℕ → ℕ → Type 0

@@ -1,22 +1,23 @@
--- `settle` meets its contract. The loop's invariant: the vertices from place k of the order on have the sum 0.
+-- `settle` meets its contract. The loop's invariant: the vertices from place k of the order on have the sum 0, and what lies behind the labels has stayed.
 use mathlib.Core.Path.{_≡_, refl, _∙_}
-use Prim.Native.Nat.{_<_}
+use Prim.Native.Nat.{_/_, _<_}
 use native.Mathlib.Omega.{arith}
 use lib.ListN.{length}
-use Rattle.cuts.proofs.Sums.{labels-long, sums-long}
-use Rattle.cuts.proofs.Settling.{Settling, settling-start, settling-ready, settling-vertex, settling-mark, settling-step, settled}
-use Rattle.cuts.proofs.labels.settle.Statement.{statement}
-use Rattle.cuts.proofs.labels.settle.Tie as tie
+use Rattle.labels.specs.Labels.{Kept}
+use Rattle.labels.proofs.Sums.{kept-all, kept-then, kept-toggled, sums-long}
+use Rattle.labels.proofs.Settling.{Settling, settling-start, settling-ready, settling-vertex, settling-mark, settling-step, settled}
+use Rattle.labels.proofs.settle.Statement.{statement}
+use Rattle.labels.proofs.settle.Tie as tie
 
 abbrev Inv-loop : tie.InvT-loop
 Inv-loop vertices ends first order labels₀ sums₀ k₀ labels sums k =
-    (length labels ≡ length labels₀) × (length sums ≡ length sums₀) × Settling vertices ends first order labels sums k
+    Kept (length ends / 2) labels₀ labels × (length sums ≡ length sums₀) × Settling vertices ends first order labels sums k
 
 abbrev μ-loop : tie.MeasureT-loop
 μ-loop vertices ends first order labels₀ sums₀ k₀ labels sums k = k
 
 loop-holds : tie.Need-loop-holds Inv-loop μ-loop
-loop-holds c = let start = c .before .before .before .before .before in (refl, refl, settling-start (start .pre .0) (start .pre .1) (start .pre .4))
+loop-holds c = let start = c .before .before .before .before .before in (kept-all _ _, refl, settling-start (start .pre .0) (start .pre .1) (start .pre .4))
 
 sub-k : tie.Need-sub-k Inv-loop μ-loop
 sub-k c = omega arith
@@ -48,10 +49,10 @@ loop-again c =
     let pre = l .before .before .before .before .before .before .pre in
     let more : 1 < l .loop .k = omega (arith, in-loop .loop-test .taken) in
     let t = one .settle-one .ensures in
-    (labels-long t ∙ l .loop .inv .0, sums-long t ∙ l .loop .inv .1, settling-step (pre .0) (pre .1) (l .loop .inv .2) more t)
+    (kept-then (l .loop .inv .0) (kept-toggled t (settling-ready (pre .0) (pre .1) (l .loop .inv .2) more .edge)), sums-long t ∙ l .loop .inv .1, settling-step (pre .0) (pre .1) (l .loop .inv .2) more t)
 
 same-length : tie.Need-same-length Inv-loop μ-loop
-same-length c = c .before .loop .inv .0
+same-length c = c .before .loop .inv .0 .long
 
 same-length-2 : tie.Need-same-length-2 Inv-loop μ-loop
 same-length-2 c = c .before .loop .inv .1
@@ -60,7 +61,7 @@ returns : tie.Need-returns Inv-loop μ-loop
 returns c =
     let l = c .before in
     let pre = l .before .before .before .before .before .before .pre in
-    settled (pre .0) (pre .1) (l .loop .inv .2) (c .loop-test .left)
+    (settled (pre .0) (pre .1) (l .loop .inv .2) (c .loop-test .left), l .loop .inv .0)
 
 pub settle-spec : {M : Type 1} → statement M
 settle-spec =

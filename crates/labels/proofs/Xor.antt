@@ -7,7 +7,7 @@ use native.Mathlib.Nat.{le-of-suc-le-suc}
 use lib.Bits.{bitXor, xor-comm, xor-zero-r}
 use lib.ListN.{length, getD}
 use Rattle.connectivity.proofs.Label.{xor-assoc}
-use Rattle.cuts.specs.Labels.{xorAt, xorAll}
+use Rattle.labels.specs.Labels.{xorAt, xorAll}
 
 pub xor-swap : (a b c : ℕ) → bitXor a (bitXor b c) ≡ bitXor b (bitXor a c)
 xor-swap a b c = sym (xor-assoc a b c) ∙ ap (λ (x : ℕ). bitXor x c) (xor-comm a b) ∙ xor-assoc b a c

@@ -1,9 +1,9 @@
--- `balance` meets its contract: labels and sums begin as 0, and agree from there on.
+-- `balance` meets its contract: labels and sums begin as 0, and agree from there on; what lies behind the labels stays.
 use native.Mathlib.Omega.{arith}
 use borrow.Author.Needs.{needs}
-use Rattle.cuts.proofs.Sums.{summed-start}
-use Rattle.cuts.proofs.labels.balance.Statement.{statement}
-use Rattle.cuts.proofs.labels.balance.Tie as tie
+use Rattle.labels.proofs.Sums.{summed-start, kept-then}
+use Rattle.labels.proofs.balance.Statement.{statement}
+use Rattle.labels.proofs.balance.Tie as tie
 
 clear-requires : tie.Need-clear-requires
 clear-requires c κs = search needs
@@ -15,7 +15,7 @@ scatter-requires : tie.Need-scatter-requires
 scatter-requires c κs =
     let clear = c .before .before .before .before in
     let start = clear .before .before .before .before .before .before in
-    (start .pre .0, summed-start (start .pre .0) (omega (arith, start .pre .4)) (clear .clear .ensures))
+    (start .pre .0, summed-start (start .pre .0) (omega (arith, start .pre .4)) (clear .clear .ensures .0))
 
 slice-aggregate-settle : tie.Need-slice-aggregate-settle
 slice-aggregate-settle c = search needs
@@ -27,7 +27,11 @@ same-length : tie.Need-same-length
 same-length c = search needs
 
 returns : tie.Need-returns
-returns c = search needs
+returns c =
+    let settle = c .before .before .before in
+    let scatter = settle .before .before .before .before .before .before in
+    let clear = scatter .before .before .before .before .before in
+    (settle .settle .ensures .0, kept-then (clear .clear .ensures .1) (kept-then (scatter .scatter .ensures .1) (settle .settle .ensures .1)))
 
 pub balance-spec : {M : Type 1} → statement M
 balance-spec =

@@ -1,50 +1,73 @@
 // Labels of edges that cancel around every vertex: the label of an edge that disconnects alone is 0, and those of two that disconnect
 // only together are equal.
+use graph::Answer;
 use graph::Graph;
 use search::Explored;
 ghost use mathlib.Core.Path.{_≡_};
 ghost use Prim.Native.Nat.{ℕ, _/_, _-_, _<_, _≤_};
+ghost use lib.Dec.{ltb};
 ghost use lib.ListN.{length, getD};
 ghost use Rattle.connectivity.specs.Admission.{Admitted, limits};
 ghost use Rattle.connectivity.specs.Graph.{graphOf, always};
 ghost use Rattle.connectivity.specs.Label.{Balanced};
-ghost use Rattle.cuts.specs.Labels.{Labelled, Searched, Spanning, Summed, Ready, Toggled};
+ghost use Rattle.labels.specs.Answered.{Answered};
+ghost use Rattle.labels.specs.Labels.{Kept, Searched, Spanning, Summed, Ready, Toggled};
 
-// Whether the graph is connected; if it is, each edge gets a label, such that around every vertex they xor to 0.
-pub(crate) fn label(vertices: u16, ends: &[u16], labels: &mut [u64]) -> bool
-    requires { ⌜ Admitted limits vertices (now ends) × (length (now ends) / 2 ≤ length (now labels)) ⌝ }
-    ensures { λ r. ⌜ Labelled vertices (now (ends .entry)) (now (labels .exit)) r ⌝ }
-{
-    let mut first = [0u16; Graph::MAX_VERTICES as usize];
-    let mut order = [0u16; Graph::MAX_VERTICES as usize];
-    if is_split(vertices, ends, &mut first, &mut order) {
-        return false;
-    }
-    balance(vertices, ends, &first, &order, labels);
-    true
+// What is said of a plan: refused; not connected; or connected, and its edges have labels.
+pub enum Labelling {
+    Refused(Answer),
+    Disconnected,
+    Labelled,
 }
 
-// Whether the graph is not connected, by a search from vertex 0.
-fn is_split(vertices: u16, ends: &[u16], first: &mut [u16], order: &mut [u16]) -> bool
-    requires { ⌜ Admitted limits vertices (now ends) × (length (now first) ≡ 1000) × (length (now order) ≡ 1000) ⌝ }
-    ensures { λ r. ⌜ Searched vertices (now (ends .entry)) (now (first .exit)) (now (order .exit)) r ⌝ }
+// The plan's own 1 to 5; 6 unless `labels` has a place for each edge; then whether the graph is connected, by a search from vertex 0. If
+// it is, each edge gets a label, such that around every vertex they xor to 0.
+pub fn label(vertices: u16, ends: &[u16], labels: &mut [u64]) -> Labelling
+    ensures { λ r. ⌜ Answered vertices (now (ends .entry)) (now (labels .entry)) (now (labels .exit)) r ⌝ }
 {
     let mut roles = [0u8; Graph::MAX_VERTICES as usize];
     roles[0] = 1;
     let dead = [0u8; Graph::MAX_EDGES];
-    let found = search::explore(vertices, ends, &roles, &dead, first, order);
+    let mut first = [0u16; Graph::MAX_VERTICES as usize];
+    let mut order = [0u16; Graph::MAX_VERTICES as usize];
+    let found = search::explore(vertices, ends, &roles, &dead, &mut first, &mut order);
     match found {
-        Explored::Seen(count) => count < vertices,
-        Explored::Met(_) => true,
-        Explored::Refused(_) => true,
+        Explored::Refused(answer) => Labelling::Refused(answer),
+        Explored::Met(_) => Labelling::Disconnected, // never: no vertex is a goal
+        Explored::Seen(count) => label_seen(vertices, ends, &first, &order, count, labels),
     }
+}
+
+// The same of an admitted plan, of whose vertices that search has seen `count`.
+fn label_seen(
+    vertices: u16,
+    ends: &[u16],
+    first: &[u16],
+    order: &[u16],
+    count: u16,
+    labels: &mut [u64],
+) -> Labelling
+    requires { ⌜ Admitted limits vertices (now ends) × Searched vertices (now ends) (now first) (now order) (ltb count vertices) × (vertices ≤ length (now first)) × (vertices ≤ length (now order)) ⌝ }
+    ensures { λ r. ⌜ Answered vertices (now (ends .entry)) (now (labels .entry)) (now (labels .exit)) r ⌝ }
+{
+    if labels.len() < ends.len() / 2 {
+        return Labelling::Refused(Answer {
+            number: 6,
+            place: 0,
+        });
+    }
+    if count < vertices {
+        return Labelling::Disconnected;
+    }
+    balance(vertices, ends, first, order, labels);
+    Labelling::Labelled
 }
 
 // Labels the edges of a connected graph: any numbers at first; then, from the last vertex found to the second, the label of its first
 // edge is changed such that the labels around it xor to 0.
 fn balance(vertices: u16, ends: &[u16], first: &[u16], order: &[u16], labels: &mut [u64])
     requires { ⌜ Admitted limits vertices (now ends) × Spanning vertices (now ends) (now first) (now order) × (vertices ≤ length (now first)) × (vertices ≤ length (now order)) × (length (now ends) / 2 ≤ length (now labels)) ⌝ }
-    ensures { λ _. ⌜ Balanced (graphOf vertices always (now (ends .entry))) (λ (e : ℕ). getD (now (labels .exit)) e 0) ⌝ }
+    ensures { λ _. ⌜ Balanced (graphOf vertices always (now (ends .entry))) (λ (e : ℕ). getD (now (labels .exit)) e 0) × Kept (length (now (ends .entry)) / 2) (now (labels .entry)) (now (labels .exit)) ⌝ }
 {
     let mut sums = [0u64; Graph::MAX_VERTICES as usize];
     clear(ends.len() / 2, labels);
@@ -55,7 +78,7 @@ fn balance(vertices: u16, ends: &[u16], first: &[u16], order: &[u16], labels: &m
 // The first labels become 0.
 fn clear(edges: usize, labels: &mut [u64])
     requires { ⌜ edges ≤ length (now labels) ⌝ }
-    ensures { λ _. ⌜ ((e : ℕ) → e < edges → getD (now (labels .exit)) e 0 ≡ 0) ⌝ }
+    ensures { λ _. ⌜ ((e : ℕ) → e < edges → getD (now (labels .exit)) e 0 ≡ 0) × Kept edges (now (labels .entry)) (now (labels .exit)) ⌝ }
 {
     let mut e = 0;
     while e < edges {
@@ -67,7 +90,7 @@ fn clear(edges: usize, labels: &mut [u64])
 // Xors a number into the label of each edge.
 fn scatter(vertices: u16, ends: &[u16], labels: &mut [u64], sums: &mut [u64])
     requires { ⌜ Admitted limits vertices (now ends) × Summed vertices (now ends) (now labels) (now sums) ⌝ }
-    ensures { λ _. ⌜ Summed vertices (now (ends .entry)) (now (labels .exit)) (now (sums .exit)) ⌝ }
+    ensures { λ _. ⌜ Summed vertices (now (ends .entry)) (now (labels .exit)) (now (sums .exit)) × Kept (length (now (ends .entry)) / 2) (now (labels .entry)) (now (labels .exit)) ⌝ }
 {
     let edges = ends.len() / 2;
     let mut e = 0;
@@ -87,7 +110,7 @@ fn settle(
     sums: &mut [u64],
 )
     requires { ⌜ Admitted limits vertices (now ends) × Spanning vertices (now ends) (now first) (now order) × (vertices ≤ length (now first)) × (vertices ≤ length (now order)) × Summed vertices (now ends) (now labels) (now sums) ⌝ }
-    ensures { λ _. ⌜ Balanced (graphOf vertices always (now (ends .entry))) (λ (e : ℕ). getD (now (labels .exit)) e 0) ⌝ }
+    ensures { λ _. ⌜ Balanced (graphOf vertices always (now (ends .entry))) (λ (e : ℕ). getD (now (labels .exit)) e 0) × Kept (length (now (ends .entry)) / 2) (now (labels .entry)) (now (labels .exit)) ⌝ }
 {
     let mut k = vertices as usize;
     while 1 < k {

@@ -20,8 +20,8 @@ use Rattle.connectivity.proofs.Distinct.{ordered-distinct}
 use Rattle.connectivity.proofs.Search.{edges-are}
 use Rattle.connectivity.proofs.Admission.{admitted-edge}
 use Rattle.search.proofs.From0.{zeros}
-use Rattle.cuts.specs.Labels.{xorAt, xorAll, Summed, Ready, Toggled}
-use Rattle.cuts.proofs.Xor.{xor-swap, xor-first, all-xor, all-zero}
+use Rattle.labels.specs.Labels.{Kept, xorAt, xorAll, Summed, Ready, Toggled}
+use Rattle.labels.proofs.Xor.{xor-swap, xor-first, all-xor, all-zero}
 
 -- Around one vertex.
 
@@ -159,10 +159,19 @@ pub cleared-step : (labels : List ℕ) (e : ℕ) → e < length labels → ((k :
 cleared-step labels e h z =
     below-more (λ (k : ℕ). getD (set labels e 0) k 0 ≡ 0) e (λ k l. getD-set-other labels e k 0 0 (λ q. omega (arith, q)) ∙ z k l) (getD-set-same labels e 0 0 h)
 
--- the lengths stay
+-- what stays of a list whose first numbers change
+pub kept-all : (m : ℕ) (l : List ℕ) → Kept m l l
+kept-all m l = record { long = refl; rest = λ k h. refl }
+
+pub kept-then : {m : ℕ} {before now after : List ℕ} → Kept m before now → Kept m now after → Kept m before after
+kept-then p q = record { long = q .long ∙ p .long; rest = λ k h. q .rest k h ∙ p .rest k h }
+
+pub kept-set : {m e : ℕ} (l : List ℕ) (x : ℕ) → e < m → Kept m l (set l e x)
+kept-set {m} {e} l x h = record { long = length-set l e x; rest = λ k b. getD-set-other l e k x 0 (λ q. omega (arith, q)) }
+
 module _ {ends : List ℕ} {e x : ℕ} {labels sums labels′ sums′ : List ℕ} (t : Toggled ends e x labels sums labels′ sums′) where
-  pub labels-long : length labels′ ≡ length labels
-  labels-long = ap length (t .labels-now) ∙ length-set labels e _
+  pub kept-toggled : {m : ℕ} → e < m → Kept m labels labels′
+  kept-toggled {m} h = rw (t .labels-now) (kept-set {m = m} labels (bitXor (getD labels e 0) x) h)
 
   pub sums-long : length sums′ ≡ length sums
   sums-long = ap length (t .sums-now) ∙ length-set (xorAt sums (getD ends (2 * e) 0) x) (getD ends (2 * e + 1) 0) _ ∙ length-set sums (getD ends (2 * e) 0) _

@@ -1,23 +1,23 @@
--- `scatter` meets its contract. The loop's invariant: the sums are those of the labels.
+-- `scatter` meets its contract. The loop's invariant: the sums are those of the labels, and what lies behind these has stayed.
 use mathlib.Core.Path.{_≡_, refl, _∙_}
 use Prim.Native.Nat.{_-_, _/_}
 use native.Mathlib.Omega.{arith}
 use borrow.Author.Needs.{needs}
 use lib.ListN.{length}
-use Rattle.cuts.specs.Labels.{Summed}
-use Rattle.cuts.proofs.Sums.{ready, summed-toggled, labels-long, sums-long}
-use Rattle.cuts.proofs.labels.scatter.Statement.{statement}
-use Rattle.cuts.proofs.labels.scatter.Tie as tie
+use Rattle.labels.specs.Labels.{Kept, Summed}
+use Rattle.labels.proofs.Sums.{ready, summed-toggled, kept-all, kept-then, kept-toggled, sums-long}
+use Rattle.labels.proofs.scatter.Statement.{statement}
+use Rattle.labels.proofs.scatter.Tie as tie
 
 abbrev Inv-loop : tie.InvT-loop
 Inv-loop vertices ends labels₀ sums₀ edges e₀ labels sums e =
-    (edges ≡ length ends / 2) × (length labels ≡ length labels₀) × (length sums ≡ length sums₀) × Summed vertices ends labels sums
+    (edges ≡ length ends / 2) × Kept (length ends / 2) labels₀ labels × (length sums ≡ length sums₀) × Summed vertices ends labels sums
 
 abbrev μ-loop : tie.MeasureT-loop
 μ-loop vertices ends labels₀ sums₀ edges e₀ labels sums e = edges - e
 
 loop-holds : tie.Need-loop-holds Inv-loop μ-loop
-loop-holds c = (refl, refl, refl, c .before .before .before .pre .1)
+loop-holds c = (refl, kept-all _ _, refl, c .before .before .before .pre .1)
 
 mix-requires : tie.Need-mix-requires Inv-loop μ-loop
 mix-requires c κs = search needs
@@ -40,19 +40,19 @@ loop-again c =
     let l = in-loop .before in
     let t = toggle .toggle .ensures in (
       l .loop .inv .0,
-      labels-long t ∙ l .loop .inv .1,
+      kept-then (l .loop .inv .1) (kept-toggled t (omega (arith, l .loop .inv .0, in-loop .loop-test .taken))),
       sums-long t ∙ l .loop .inv .2,
       summed-toggled (l .before .before .before .before .pre .0) (omega (arith, l .loop .inv .0, in-loop .loop-test .taken)) (l .loop .inv .3) t,
     )
 
 same-length : tie.Need-same-length Inv-loop μ-loop
-same-length c = c .before .loop .inv .1
+same-length c = c .before .loop .inv .1 .long
 
 same-length-2 : tie.Need-same-length-2 Inv-loop μ-loop
 same-length-2 c = c .before .loop .inv .2
 
 returns : tie.Need-returns Inv-loop μ-loop
-returns c = c .before .loop .inv .3
+returns c = let i = c .before .loop .inv in (i .3, i .1)
 
 pub scatter-spec : {M : Type 1} → statement M
 scatter-spec =

@@ -1,22 +1,21 @@
 -- The search from vertex 0 over all edges: it has seen fewer vertices than there are exactly where the graph is not connected; else its
 -- tree spans the graph.
-use mathlib.Core.Path.{_≡_, sym, ap, _∙_, subst}
+use mathlib.Core.Path.{_≡_, sym, _∙_}
 use mathlib.Core.Logic.{inl, inr}
-use mathlib.Core.Bool.{Bool, true, false, not}
+use mathlib.Core.Bool.{false}
 use mathlib.Core.List.{List, [], List·Memᴰ·not-nil as not-in}
 use Prim.Native.Nat.{ℕ}
 use native.Mathlib.Omega.{arith}
-use lib.Dec.{T, ltb}
+use lib.Dec.{ltb}
 use lib.ListN.{getD, replicate}
 use borrow.Author.Tests.{ltb-false}
 use Rattle.connectivity.specs.Graph.{graphOf, always}
-use Rattle.connectivity.specs.Label.{Balanced}
 use Rattle.connectivity.specs.Admission.{limits, Admitted}
 use Rattle.search.specs.Search.{Live, Start, Pass, Goal, Found, Whole}
 use Rattle.search.proofs.Tally.{tally-lt, tally-le}
 use Rattle.search.proofs.From0.{zeros, rolesFrom0, only-start}
-use Rattle.removal.proofs.Parted.{fewer}
-use Rattle.cuts.specs.Labels.{Spanning, Searched, Labelled}
+use Rattle.search.proofs.Left.{fewer}
+use Rattle.labels.specs.Labels.{Spanning, Searched}
 
 module _ (m k : ℕ) {n : ℕ} {ends : List ℕ} (a : Admitted limits n ends) {first₀ order₀ first order : List ℕ} {count : ℕ}
     (f : Found (graphOf n always ends) (Live (replicate k 0)) (Pass (rolesFrom0 m)) (Start (rolesFrom0 m)) n first₀ order₀ first order count)
@@ -40,11 +39,3 @@ module _ (m k : ℕ) {n : ℕ} {ends : List ℕ} (a : Admitted limits n ends) {f
 
   pub searched : Searched n ends first order (ltb count n)
   searched = record { answer = fewer m n ends [] (replicate k 0) a (λ e l i z. not-in i) (λ e o. zeros k e) f w; tree = spanning }
-
--- the answer for a graph that is not connected, and for one that is and has been labelled
-pub labelled-not : {n : ℕ} {ends first order : List ℕ} (labels : List ℕ) → Searched n ends first order true → Labelled n ends labels false
-labelled-not labels s = record { answer = ap not (s .answer); balanced = λ p. absurd (subst (λ (b : Bool). T (not b)) p tt) }
-
-pub labelled-yes : {n : ℕ} {ends first order : List ℕ} (labels : List ℕ) → Searched n ends first order false
-    → Balanced (graphOf n always ends) (λ e. getD labels e 0) → Labelled n ends labels true
-labelled-yes labels s b = record { answer = ap not (s .answer); balanced = λ p. b }

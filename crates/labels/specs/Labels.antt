@@ -1,18 +1,18 @@
--- Labels of edges that cancel around every vertex: the tree along which they are made, and their sums on the way.
+-- How labels are made: the tree along which this goes, and the sums of the labels on the way.
 use mathlib.Core.Path.{_≡_}
-use mathlib.Core.Bool.{Bool, true, false, not}
+use mathlib.Core.Bool.{Bool, false}
 use mathlib.Core.List.{List, [], _∷_}
 use Prim.Native.Nat.{ℕ, _+_, _-_, _*_, _/_, _≤_, _<_}
 use lib.Bits.{bitXor}
 use lib.ListN.{length, getD, set}
 use Rattle.connectivity.specs.Graph.{Joins, edges, graphOf, always}
-use Rattle.connectivity.specs.Label.{around, Balanced}
+use Rattle.connectivity.specs.Label.{around}
 use Rattle.connectivity.specs.Cut.{disconnects}
 
--- the answer t: whether the graph is connected; if it is, its labels are balanced
-pub record Labelled (n : ℕ) (ends labels : List ℕ) (t : Bool) : Type 0 where
-  pub answer : t ≡ not (disconnects (graphOf n always ends) [])
-  pub balanced : t ≡ true → Balanced (graphOf n always ends) (λ e. getD labels e 0)
+-- a list keeps its length, and its numbers from place m on
+pub record Kept (m : ℕ) (before after : List ℕ) : Type 0 where
+  pub long : length after ≡ length before
+  pub rest : (k : ℕ) → m ≤ k → getD after k 0 ≡ getD before k 0
 
 -- the first n places of the order have every vertex once, and each but the first is joined to an earlier one by its first edge
 pub record Spanning (n : ℕ) (ends first order : List ℕ) : Type 0 where

@@ -1,0 +1,5 @@
+pub mod Xor
+pub mod Sums
+pub mod Spanning
+pub mod Settling
+pub mod Answers
