@@ -17,7 +17,7 @@ use Rattle.connectivity.proofs.Reach.{joins-sym}
 use Rattle.connectivity.proofs.Theta.{Door, one-door, two-doors}
 use Rattle.search.specs.Search.{Marked}
 use Rattle.search.proofs.Leads.{joins-below, joins-edge}
-use Rattle.certify.specs.Step.{Tells}
+use Rattle.connectivity.specs.Tells.{Tells}
 use Rattle.certify.specs.Opening.{IsDoor, DoorFits, DoorsFit, NextDoor, Rooted, farEnd}
 use Rattle.certify.proofs.Paths.{far-end}
 

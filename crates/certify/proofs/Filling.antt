@@ -11,7 +11,7 @@ use lib.Seq.{getD-set-same, getD-set-other}
 use borrow.Author.Count.{below-more}
 use borrow.Author.Tests.{eqb-true, eqb-false, ltb-true, ltb-false}
 use Rattle.certify.specs.Growth.{Filled}
-use Rattle.certify.specs.Step.{Tells}
+use Rattle.connectivity.specs.Tells.{Tells}
 
 -- the first k entries are filled, and the length has stayed
 pub record Filling (R : ℕ → ℕ → Type 0) (list₀ list : List ℕ) (k : ℕ) : Type 0 where

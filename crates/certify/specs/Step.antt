@@ -1,6 +1,6 @@
 -- What is written of a step: the rows along first edges, the first three walks, and an ear.
 use mathlib.Core.Path.{_≡_}
-use mathlib.Core.Bool.{Bool, true, false, cond}
+use mathlib.Core.Bool.{cond}
 use mathlib.Core.List.{List, [], _∷_, _++_, List·Memᴰ as In}
 use Prim.Native.Nat.{ℕ, _+_, _-_, _*_, _/_, _≤_, _<_}
 use lib.Dec.{eqb}
@@ -11,11 +11,6 @@ use Rattle.connectivity.specs.Reach.{ThreeEdgeConnected}
 use Rattle.connectivity.specs.Walk.{Leg, froms, edgesOf, allEdges, degree}
 use Rattle.connectivity.specs.Mader.{Theta, Ear, Steps, stepRows, rows}
 use Rattle.connectivity.specs.Admission.{Admitted, limits}
-
--- a test tells whether a fact holds
-abbrev pub Tells : Bool → Type 0 → Type 0
-Tells true P = P
-Tells false P = P → ⊥
 
 -- from v up to w: each leg leaves a vertex over its first edge
 pub data Path (g : Graph) (first : List ℕ) : ℕ → List Leg → ℕ → Type 0 where

@@ -7,7 +7,8 @@ ghost use mathlib.Core.Bool.{cond};
 ghost use Prim.Native.Nat.{_+_, _-_, _*_, _/_, _≤_, _<_};
 ghost use lib.Dec.{eqb};
 ghost use lib.ListN.{length, getD};
-ghost use Rattle.certify.specs.Step.{Tells, Ready, GrownBy, GrownFrom};
+ghost use Rattle.connectivity.specs.Tells.{Tells};
+ghost use Rattle.certify.specs.Step.{Ready, GrownBy, GrownFrom};
 ghost use Rattle.certify.specs.Growth.{Filled, PlainVertex, LessEdge, EarRole, EndRole, Linking, MarkedBy, Following, Followed, Halved, BuiltAt, Neighbouring, Neighbour, Exiting, Exited, Rooting, Rooted, Opens, Opening, OpenEdge, Crossing, Crossed, GrowingLink, GrowingBranch, GrowingEdge, Readable};
 
 // Writes the rows of the next ear at the front of `rows`; how many there are. `degree` counts the built edges at each vertex, `used` is 1

@@ -3,7 +3,8 @@ use crate::walk;
 use graph::Graph;
 ghost use Prim.Native.Nat.{_<_};
 ghost use lib.ListN.{length};
-ghost use Rattle.certify.specs.Step.{Tells, Sturdy, Opened};
+ghost use Rattle.connectivity.specs.Tells.{Tells};
+ghost use Rattle.certify.specs.Step.{Sturdy, Opened};
 ghost use Rattle.certify.specs.Opening.{Around, Rooted, IsDoor, DoorFits, DoorsFit, NextDoor, Way, MarkedUp, Toward, MetFirst, Meets, Met, OneMore, UpOver, OverUp, Three, ThreeWritten};
 
 // The rows of the first three walks at the front of `rows`; how many there are.

@@ -1,4 +1,5 @@
 pub mod Lists
+pub mod Tells
 pub mod Graph
 pub mod Reach
 pub mod Cut

@@ -68,22 +68,26 @@ module _ (n : ℕ) (ends labels : List ℕ) where
         go true false q p = absurd (refused-labelled p)
         go false d q p = (eqb-false ((lent n ends (enough ends labels)) .number) 0 q, cc)
 
-    pub plan-disconnected : Answered n ends labels after Disconnected → Admitted limits n ends × (disconnects (graphOf n always ends) [] ≡ true)
+    not-refused : {r : Labelling} → ((a : Answer) → Refused a ≡ r → ⊥) → Answered n ends labels after r
+        → Admitted limits n ends × (r ≡ said true (disconnects (graphOf n always ends) []))
     unfolding labelling
-    plan-disconnected c = go (eqb ((lent n ends (enough ends labels)) .number) 0) (disconnects (graphOf n always ends) []) refl refl (c .answer)
+    not-refused {r} f c = go (eqb ((lent n ends (enough ends labels)) .number) 0) refl (c .answer)
       where
-        go : (t d : Bool) → eqb ((lent n ends (enough ends labels)) .number) 0 ≡ t → disconnects (graphOf n always ends) [] ≡ d → Disconnected ≡ said t d
-            → Admitted limits n ends × (disconnects (graphOf n always ends) [] ≡ true)
-        go true true q s p = (lent-passed (enough ends labels) (eqb-true ((lent n ends (enough ends labels)) .number) 0 q), s)
-        go true false q s p = absurd (disconnected-labelled p)
-        go false d q s p = absurd (refused-disconnected (sym p))
+        go : (t : Bool) → eqb ((lent n ends (enough ends labels)) .number) 0 ≡ t → r ≡ said t (disconnects (graphOf n always ends) [])
+            → Admitted limits n ends × (r ≡ said true (disconnects (graphOf n always ends) []))
+        go true q p = (lent-passed (enough ends labels) (eqb-true ((lent n ends (enough ends labels)) .number) 0 q), p)
+        go false q p = absurd (f _ (sym p))
+
+    pub plan-disconnected : Answered n ends labels after Disconnected → Admitted limits n ends × (disconnects (graphOf n always ends) [] ≡ true)
+    plan-disconnected c = let p = not-refused (λ a. refused-disconnected) c in (p .0, go (disconnects (graphOf n always ends) []) (p .1))
+      where
+        go : (d : Bool) → Disconnected ≡ said true d → d ≡ true
+        go true p = refl
+        go false p = absurd (disconnected-labelled p)
 
     pub plan-labelled : Answered n ends labels after Labelled → Admitted limits n ends × (disconnects (graphOf n always ends) [] ≡ false)
-    unfolding labelling
-    plan-labelled c = go (eqb ((lent n ends (enough ends labels)) .number) 0) (disconnects (graphOf n always ends) []) refl refl (c .answer)
+    plan-labelled c = let p = not-refused (λ a. refused-labelled) c in (p .0, go (disconnects (graphOf n always ends) []) (p .1))
       where
-        go : (t d : Bool) → eqb ((lent n ends (enough ends labels)) .number) 0 ≡ t → disconnects (graphOf n always ends) [] ≡ d → Labelled ≡ said t d
-            → Admitted limits n ends × (disconnects (graphOf n always ends) [] ≡ false)
-        go true true q s p = absurd (disconnected-labelled (sym p))
-        go true false q s p = (lent-passed (enough ends labels) (eqb-true ((lent n ends (enough ends labels)) .number) 0 q), s)
-        go false d q s p = absurd (refused-labelled (sym p))
+        go : (d : Bool) → Labelled ≡ said true d → d ≡ false
+        go true p = absurd (disconnected-labelled (sym p))
+        go false p = refl

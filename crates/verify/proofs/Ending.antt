@@ -19,7 +19,8 @@ use Rattle.connectivity.proofs.Degree.{degree-append, walk-from, walk-to}
 use Rattle.connectivity.proofs.Legs.{walk-start, walk-stop}
 use Rattle.connectivity.proofs.Fit.{step-few, step-many, fitting-ear, walk-sound}
 use Rattle.verify.specs.declared.state.Run.{Run}
-use Rattle.verify.specs.Marks.{Tells, Laid, Lies, Stands, Holds, Opens, Parallels, FitsEar, FitsLinks, Reads, Whole, RowsAdded}
+use Rattle.connectivity.specs.Tells.{Tells}
+use Rattle.verify.specs.Marks.{Laid, Lies, Stands, Holds, Opens, Parallels, FitsEar, FitsLinks, Reads, Whole, RowsAdded}
 use Rattle.verify.specs.Marks as marks
 use Rattle.verify.proofs.Going.{fresh-none}
 use Rattle.verify.proofs.Paths.{paths-are, opens-are, parallels-are}

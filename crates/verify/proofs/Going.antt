@@ -21,7 +21,8 @@ use Rattle.connectivity.proofs.Run.{RowFits, comes-to, more-distinct}
 use Rattle.connectivity.proofs.Fresh.{Fresh, fresh-snoc}
 use Rattle.connectivity.proofs.Stretch.{place-vertex, place-edge, edges-of}
 use Rattle.verify.specs.declared.state.Run.{Run}
-use Rattle.verify.specs.Marks.{Tells, stepAt, edgeAt, fromAt, rowAt, Lies, Laid, GoesOn, Left, Lefts, Stands, Holds, StaysFresh, WentOn, begun, on}
+use Rattle.connectivity.specs.Tells.{Tells}
+use Rattle.verify.specs.Marks.{stepAt, edgeAt, fromAt, rowAt, Lies, Laid, GoesOn, Left, Lefts, Stands, Holds, StaysFresh, WentOn, begun, on}
 use Rattle.verify.specs.Marks as marks
 use Rattle.verify.proofs.Rows.{Placed, lies-le, lies-snoc, row-place, laid-step, home, inner-row}
 

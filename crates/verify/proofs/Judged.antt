@@ -17,7 +17,8 @@ use Rattle.connectivity.specs.Judge.{Row, rowsOf, legOf, rowNumber, stepNumber,
 use Rattle.connectivity.proofs.Admission.{passed-then, failed-then, admitted-edges}
 use Rattle.connectivity.proofs.Fit.{closing}
 use Rattle.verify.specs.declared.state.State.{State}
-use Rattle.verify.specs.Marks.{Tells, rowAt, Represents, takenNumber, doneThen, walkThen, SteppedAt, lastAt, Closed}
+use Rattle.connectivity.specs.Tells.{Tells}
+use Rattle.verify.specs.Marks.{rowAt, Represents, takenNumber, doneThen, walkThen, SteppedAt, lastAt, Closed}
 use Rattle.verify_weak.proofs.Weak.{admitted-all}
 use Rattle.verify.proofs.Tests.{rows-next}
 

@@ -12,7 +12,8 @@ use lib.Seq.{drop-cons, drop-length}
 use borrow.Author.Tests.{eqb-true, eqb-false, leb-true, leb-false}
 use Rattle.connectivity.specs.Judge.{Row, rowsOf, isLast}
 use Rattle.verify.specs.declared.state.Run.{Run}
-use Rattle.verify.specs.Marks.{Tells, stepAt, fromAt, rowAt, Joined, FitsLinks, lastAt}
+use Rattle.connectivity.specs.Tells.{Tells}
+use Rattle.verify.specs.Marks.{stepAt, fromAt, rowAt, Joined, FitsLinks, lastAt}
 
 -- a test of two numbers, and a fact that goes with it
 pub tells-same : {P : Type 0} (a b : ℕ) → (a ≡ b → P) → (P → a ≡ b) → Tells (eqb a b) P

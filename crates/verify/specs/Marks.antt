@@ -7,6 +7,7 @@ use Prim.Native.Nat.{ℕ, suc, _+_, _*_, _/_, _-_, _≤_, _<_}
 use lib.Dec.{eqb, ltb}
 use lib.ListN.{length, getD, set, drop}
 use Rattle.connectivity.specs.Lists.{Distinct, mem}
+use Rattle.connectivity.specs.Tells.{Tells}
 use Rattle.connectivity.specs.Graph.{Graph, Joins, graphOf, always}
 use Rattle.connectivity.specs.Walk.{Leg, Walk, Between, edgesOf, allInner, allEdges, degree, far}
 use Rattle.connectivity.specs.Mader.{Steps}
@@ -16,11 +17,6 @@ use Rattle.connectivity.proofs.Fresh.{Fresh}
 use Rattle.connectivity.proofs.Stretch.{Within}
 use Rattle.verify.specs.declared.state.Run.{Run}
 use Rattle.verify.specs.declared.state.State.{State}
-
--- a test tells whether a fact holds
-abbrev pub Tells : Bool → Type 0 → Type 0
-Tells true P = P
-Tells false P = P → ⊥
 
 -- Row k of the list.
 abbrev pub stepAt : List ℕ → ℕ → ℕ

@@ -11,7 +11,8 @@ ghost use Rattle.connectivity.specs.Graph.{graphOf, always};
 ghost use Rattle.connectivity.specs.Admission.{Admitted, limits};
 ghost use Rattle.connectivity.specs.Judge.{rowsOf, judgeRows, judgeFirm};
 ghost use Rattle.graph.specs.Admission.{toldBy};
-ghost use Rattle.verify.specs.Marks.{Tells, Closed, lastAt};
+ghost use Rattle.connectivity.specs.Tells.{Tells};
+ghost use Rattle.verify.specs.Marks.{Closed, lastAt};
 
 // 9 unless the list has three numbers for each edge; then the rows.
 pub(crate) fn firm_admitted(vertices: u16, ends: &[u16], edges: u16, list: &[u16]) -> Answer

@@ -5,7 +5,8 @@ ghost use mathlib.Core.Bool.{true, cond, _||_};
 ghost use Prim.Native.Nat.{_/_, _*_, _+_, _≤_, _<_};
 ghost use lib.Dec.{eqb};
 ghost use lib.ListN.{length, getD};
-ghost use Rattle.verify.specs.Marks.{Tells, rowMark, StaysFresh, WentOn, Opens, Parallels, FitsEar, Joined, FitsLinks, StepTold, Whole, Reads, RowsFit, EdgeReady, EdgeAdded, RowsReady, RowsAdded, Begins, Ready, Stepped};
+ghost use Rattle.connectivity.specs.Tells.{Tells};
+ghost use Rattle.verify.specs.Marks.{rowMark, StaysFresh, WentOn, Opens, Parallels, FitsEar, Joined, FitsLinks, StepTold, Whole, Reads, RowsFit, EdgeReady, EdgeAdded, RowsReady, RowsAdded, Begins, Ready, Stepped};
 
 // The step that runs: its first row, where it began, where it has come to. It is fresh while it has left no vertex twice and its inner
 // ones were in no step before.

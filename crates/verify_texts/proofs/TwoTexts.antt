@@ -81,15 +81,15 @@ module _ (ws : List ℕ) (most : ℕ) (limits : Limits) (text : List ℕ) (space
       go true p = rw (le-ltb space (needed kind count) (room p), le-ltb (needed kind count) (needed kind count) (omega arith))
 
 -- every number but 6 that 01 has
-abbrev pub Answered : ℕ → Type 0
-Answered k = (k ≤ 5) ⊎ ((7 ≤ k) × (k ≤ 17))
+abbrev pub Possible : ℕ → Type 0
+Possible k = (k ≤ 5) ⊎ ((7 ≤ k) × (k ≤ 17))
 
-own-answered : (k : ℕ) → Own k → Answered k
-own-answered k o = ⊎-elim (λ h. inl h) (λ h. inr (omega (arith, h .0), h .1)) o
+own-possible : (k : ℕ) → Own k → Possible k
+own-possible k o = ⊎-elim (λ h. inl h) (λ h. inr (omega (arith, h .0), h .1)) o
 
 -- a refusal of a text is one of them, and not 0
 abbrev Proper : Reading → Type 0
-Proper (Reading.refused a) = (a .number ≡ 0 → ⊥) × Answered (a .number)
+Proper (Reading.refused a) = (a .number ≡ 0 → ⊥) × Possible (a .number)
 Proper (Reading.read n list) = Unit {0}
 
 high : (k : ℕ) → 7 ≤ k → k ≤ 17 → Proper (Reading.refused (answer k 0))
@@ -142,19 +142,19 @@ module _ (ws : List ℕ) (most : ℕ) (limits : Limits) where
       (cond-both Proper (linesFit ws most (perLine kind) (linesOf kind count) (behindHeader ws text)) tt (high 8 (omega arith) (omega arith)))
       (high 8 (omega arith) (omega arith)))
 
-  read-answered : (x y : Reading) → Proper x → Proper y → Answered ((judgeRead limits x y) .number)
+  read-possible : (x y : Reading) → Proper x → Proper y → Possible ((judgeRead limits x y) .number)
   unfolding judgeRead
-  read-answered (Reading.refused a) y p q = p .1
-  read-answered (Reading.read n ends) (Reading.refused a) p q = q .1
-  read-answered (Reading.read n ends) (Reading.read kind list) p q = own-answered ((judge limits n always ends kind list) .number) (judge-own limits n always ends kind list)
+  read-possible (Reading.refused a) y p q = p .1
+  read-possible (Reading.read n ends) (Reading.refused a) p q = q .1
+  read-possible (Reading.read n ends) (Reading.read kind list) p q = own-possible ((judge limits n always ends kind list) .number) (judge-own limits n always ends kind list)
 
   -- so each answer's number is one of 01's, and never 6
-  pub answered : (plan verdict : List ℕ) → Answered ((judgeTextsBy ws most limits plan verdict) .number)
+  pub possible : (plan verdict : List ℕ) → Possible ((judgeTextsBy ws most limits plan verdict) .number)
   unfolding judgeTextsBy
-  answered plan verdict = read-answered (planIn ws most limits plan) (verdictIn ws most limits verdict) (plan-proper plan) (verdict-proper verdict)
+  possible plan verdict = read-possible (planIn ws most limits plan) (verdictIn ws most limits verdict) (plan-proper plan) (verdict-proper verdict)
 
   pub never-six : (plan verdict : List ℕ) → (judgeTextsBy ws most limits plan verdict) .number ≡ 6 → ⊥
-  never-six plan verdict z = ⊎-elim (λ h. omega arith) (λ h. omega (arith, h .0)) (answered plan verdict)
+  never-six plan verdict z = ⊎-elim (λ h. omega arith) (λ h. omega (arith, h .0)) (possible plan verdict)
 
 -- the texts of a plan and of a verdict that passes
 pub record Passing (ws : List ℕ) (limits : Limits) (plan verdict : List ℕ) : Type 0 where

@@ -11,63 +11,49 @@ use Rattle.certify.proofs.judge_admitted.Tie as tie
 enough : (c : tie.Else1) → 3 * (length (c .before .before .before .args .ends .now) / 2) ≤ length (c .before .before .before .args .rows .now)
 enough c = omega (arith, c .if1 .left, c .before .before .before .pre .0)
 
--- src/lib.rt:46:21
 mul-if1 : tie.Need-mul-if1
 mul-if1 c = search needs
 
--- src/lib.rt:47:9
 said-requires : tie.Need-said-requires
 said-requires c κs = search needs
 
--- src/lib.rt:47:9
 returns : tie.Need-returns
 returns c = let p = c .before .before .before .before .pre in answers-short _ _ _ (p .1) (omega (arith, c .before .if1 .taken, p .0)) (c .said .ensures)
 
--- src/lib.rt:52:9
 lowest-cut-requires : tie.Need-lowest-cut-requires
 lowest-cut-requires c κs = search needs
 
--- src/lib.rt:54:27
 enum-known-found : tie.Need-enum-known-found
 enum-known-found c = search needs
 
--- src/lib.rt:54:38
 said-requires-2 : tie.Need-said-requires-2
 said-requires-2 c κs = search needs
 
--- src/lib.rt:55:23
 enum-known-found-2 : tie.Need-enum-known-found-2
 enum-known-found-2 c = search needs
 
--- src/lib.rt:60:57
 enum-told : tie.Need-enum-told
 enum-told c = search needs
 
--- src/lib.rt:60:13
 write-record-requires : tie.Need-write-record-requires
 write-record-requires c κs =
     let start = c .before .before .before .before .before .before .before in
     (start .pre .0, sturdy (start .args .vertices) (start .args .ends .now) (start .args .rows .now) (start .pre .1) (enough (c .before .before .before .before)) (c .before .before .before .lowest-cut .ensures) (c .before .enum-told .given .1))
 
--- src/lib.rt:61:13
 said-requires-3 : tie.Need-said-requires-3
 said-requires-3 c κs = search needs
 
--- src/lib.rt:42:1
 returns-2 : tie.Need-returns-2
 returns-2 c =
     let start = c .before .before .before .before .before .before .before .before in
     never-refused (start .args .vertices) (start .args .ends .now) (start .args .rows .now) (start .pre .1) (enough (c .before .before .before .before .before)) (c .before .before .before .before .lowest-cut .ensures) (c .before .before .found .given .1)
 
--- src/lib.rt:42:1
 returns-3 : tie.Need-returns-3
 returns-3 c = answers-weak _ _ _ (c .before .before .before .before .before .before .before .pre .1) (enough (c .before .before .before .before)) _ (c .before .before .before .lowest-cut .ensures) (c .before .found2 .given .1)
 
--- src/lib.rt:42:1
 same-length : tie.Need-same-length
 same-length c = search needs
 
--- src/lib.rt:42:1
 returns-4 : tie.Need-returns-4
 returns-4 c = answers-firm _ _ _ (c .before .before .before .before .before .before .before .before .before .before .before .pre .1) (enough (c .before .before .before .before .before .before .before .before)) (c .before .before .before .before .before .before .before .lowest-cut .ensures) (c .before .before .before .before .before .enum-told .given .1) (c .before .before .before .write-record .ensures) (c .said3 .ensures)
 

@@ -6,23 +6,18 @@ use Rattle.certify.proofs.Answering.{answers-refused}
 use Rattle.certify.proofs.verdict.Statement.{statement}
 use Rattle.certify.proofs.verdict.Tie as tie
 
--- src/lib.rt:34:9
 new-requires : tie.Need-new-requires
 new-requires c κs = search needs
 
--- src/lib.rt:36:28
 enum-known-made : tie.Need-enum-known-made
 enum-known-made c = search needs
 
--- src/lib.rt:36:39
 said-requires : tie.Need-said-requires
 said-requires c κs = search needs
 
--- src/lib.rt:37:29
 enum-known-made-2 : tie.Need-enum-known-made-2
 enum-known-made-2 c = search needs
 
--- src/lib.rt:37:39
 judge-admitted-requires : tie.Need-judge-admitted-requires
 judge-admitted-requires c κs =
     let made = c .before .before in
@@ -30,7 +25,6 @@ judge-admitted-requires c κs =
     let p = constructed-admitted _ _ (sym (new .new .ensures) ∙ made .made2 .given .1) in
     (p .2, p .0)
 
--- src/lib.rt:31:1
 returns : tie.Need-returns
 returns c =
     let made = c .before .before in
@@ -38,11 +32,9 @@ returns c =
     let p = constructed-refused _ _ (sym (new .new .ensures) ∙ made .made .given .1) in
     answers-refused _ _ _ (p .0) (p .1) (c .said .ensures)
 
--- src/lib.rt:31:1
 same-length : tie.Need-same-length
 same-length c = search needs
 
--- src/lib.rt:31:1
 returns-2 : tie.Need-returns-2
 returns-2 c = search needs
 

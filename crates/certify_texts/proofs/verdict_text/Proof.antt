@@ -20,62 +20,48 @@ stored : (o : tie.After-read2) → let ends = o .before .before .before .read-pl
     × (planIn five largest limits (o .before .before .before .before .before .before .before .args .plan .now) ≡ Reading.read (graph .vertices) (take (2 * graph .edges) ends))
 stored o = plan-stored _ _ _ _ (o .before .before .before .read-plan .ensures) (omega (arith, length-replicate {A = ℕ} 8000 0)) _ (o .read2 .given .1)
 
--- src/lib.rt:18:38
 slice-aggregate-read-plan : tie.Need-slice-aggregate-read-plan
 slice-aggregate-read-plan c = search needs
 
--- src/lib.rt:18:9
 read-plan-requires : tie.Need-read-plan-requires
 read-plan-requires c κs = search needs
 
--- src/lib.rt:20:28
 enum-known-read : tie.Need-enum-known-read
 enum-known-read c = search needs
 
--- src/lib.rt:20:39
 write-refusal-requires : tie.Need-write-refusal-requires
 write-refusal-requires c κs = search needs
 
--- src/lib.rt:21:29
 enum-known-read-2 : tie.Need-enum-known-read-2
 enum-known-read-2 c = search needs
 
--- src/lib.rt:22:28
 cast-size : tie.Need-cast-size
 cast-size c = search needs
 
--- src/lib.rt:22:24
 mul-size : tie.Need-mul-size
 mul-size c = search needs
 
--- src/lib.rt:23:44
 array-share-prefix-ends : tie.Need-array-share-prefix-ends
 array-share-prefix-ends c = omega (arith, stored (c .before .before) .0)
 
--- src/lib.rt:23:44
 slice-aggregate-write-admitted : tie.Need-slice-aggregate-write-admitted
 slice-aggregate-write-admitted c = simp length-take (omega (arith, stored (c .before .before .before) .0))
 
--- src/lib.rt:23:13
 write-admitted-requires : tie.Need-write-admitted-requires
 write-admitted-requires c κs = planned _ (stored (c .before .before .before .before) .1)
 
--- src/lib.rt:14:1
 same-length : tie.Need-same-length
 same-length c = search needs
 
--- src/lib.rt:14:1
 returns : tie.Need-returns
 returns c =
     let o = c .before .before .before .before .before in
     let (b, q, e) = plan-told _ _ _ _ (o .before .before .before .read-plan .ensures) (omega (arith, length-replicate {A = ℕ} 8000 0)) _ (o .read .given .1) in
     says-refused b q e (c .before .before .write-refusal .ensures)
 
--- src/lib.rt:14:1
 same-length-2 : tie.Need-same-length-2
 same-length-2 c = search needs
 
--- src/lib.rt:14:1
 returns-2 : tie.Need-returns-2
 returns-2 c = let w = c .before .before .write-admitted .ensures in record { kind = w .kind; list = w .list; says = read (stored (c .before .before .before .before .before .before .before) .1) (w .says); written = w .written }
 

@@ -16,73 +16,56 @@ said-weak : (o : tie.After-enum-told) → let start = o .before .before .before 
     (cut .count ≤ 2) × SaysOf (start .args .vertices) (start .args .ends .now) 1 (named cut)
 said-weak o = says-weak (o .before .before .before .before .before .before .before .pre) (length-replicate {A = ℕ} 12000 0) (o .before .before .before .verdict .ensures) (o .enum-told .given .1)
 
--- src/lib.rt:41:50
 slice-aggregate-verdict : tie.Need-slice-aggregate-verdict
 slice-aggregate-verdict c = search needs
 
--- src/lib.rt:41:9
 verdict-requires : tie.Need-verdict-requires
 verdict-requires c κs = search needs
 
--- src/lib.rt:44:26
 enum-known-outcome : tie.Need-enum-known-outcome
 enum-known-outcome c = search needs
 
--- src/lib.rt:44:37
 write-refusal-requires : tie.Need-write-refusal-requires
 write-refusal-requires c κs = search needs
 
--- src/lib.rt:45:48
 enum-told : tie.Need-enum-told
 enum-told c = search needs
 
--- src/lib.rt:45:26
 write-weak-requires : tie.Need-write-weak-requires
 write-weak-requires c κs = said-weak (c .before) .0
 
--- src/lib.rt:47:29
 enum-told-2 : tie.Need-enum-told-2
 enum-told-2 c = search needs
 
--- src/lib.rt:47:24
 mul-size : tie.Need-mul-size
 mul-size c = search needs
 
--- src/lib.rt:48:36
 array-share-prefix-rows : tie.Need-array-share-prefix-rows
 array-share-prefix-rows c = search needs
 
--- src/lib.rt:48:36
 slice-aggregate-write-verdict : tie.Need-slice-aggregate-write-verdict
 slice-aggregate-write-verdict c = simp length-take (omega (arith, c .before .before .before .before .before .before .before .before .pre .edges))
 
--- src/lib.rt:48:13
 write-verdict-requires : tie.Need-write-verdict-requires
 write-verdict-requires c κs = search needs
 
--- src/lib.rt:36:1
 same-length : tie.Need-same-length
 same-length c = search needs
 
--- src/lib.rt:36:1
 returns : tie.Need-returns
 returns c =
     let o = c .before .before .before .before .before in
     never-refused (o .before .before .before .before .before .before .before .pre) (length-replicate {A = ℕ} 12000 0) (o .before .before .before .verdict .ensures) (o .outcome .given .1)
 
--- src/lib.rt:36:1
 same-length-2 : tie.Need-same-length-2
 same-length-2 c = search needs
 
--- src/lib.rt:36:1
 returns-2 : tie.Need-returns-2
 returns-2 c = record { kind = 1; list = _; says = said-weak (c .before .before .before .before) .1; written = c .before .before .write-weak .ensures }
 
--- src/lib.rt:36:1
 same-length-3 : tie.Need-same-length-3
 same-length-3 c = search needs
 
--- src/lib.rt:36:1
 returns-3 : tie.Need-returns-3
 returns-3 c =
     let o = c .before .before .before .before .before in record {

@@ -5,27 +5,21 @@ use lib.ListN.{length-take}
 use Rattle.certify_texts.proofs.write_weak.Statement.{statement}
 use Rattle.certify_texts.proofs.write_weak.Tie as tie
 
--- src/lib.rt:58:17
 cast-count : tie.Need-cast-count
 cast-count c = search needs
 
--- src/lib.rt:59:28
 array-share-prefix-list : tie.Need-array-share-prefix-list
 array-share-prefix-list c = search needs
 
--- src/lib.rt:59:28
 slice-aggregate-write-verdict : tie.Need-slice-aggregate-write-verdict
 slice-aggregate-write-verdict c = simp length-take (omega (arith, c .before .before .before .pre))
 
--- src/lib.rt:59:5
 write-verdict-requires : tie.Need-write-verdict-requires
 write-verdict-requires c κs = search needs
 
--- src/lib.rt:53:1
 same-length : tie.Need-same-length
 same-length c = search needs
 
--- src/lib.rt:53:1
 returns : tie.Need-returns
 returns c = search needs
 

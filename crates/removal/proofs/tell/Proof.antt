@@ -38,7 +38,7 @@ returns-2 : tie.Need-returns-2
 returns-2 c =
     let copy = c .before .before .before in
     let start = copy .before .before .before .before .before in
-    λ ends cut l. (enough copy (l .admitted), rw (lt-ltb (start .args .count) (start .args .vertices) (c .if2 .taken)) at (parted l (copy .copy .ensures)))
+    λ ends cut l. (enough copy (l .admitted), rw (lt-ltb (start .args .count) (start .args .vertices) (omega arith)) at (parted l (copy .copy .ensures)))
 
 same-length-2 : tie.Need-same-length-2
 same-length-2 c = search needs
@@ -47,7 +47,7 @@ returns-3 : tie.Need-returns-3
 returns-3 c =
     let copy = c .before .before .before in
     let start = copy .before .before .before .before .before in
-    λ ends cut l. (enough copy (l .admitted), rw (le-ltb (start .args .count) (start .args .vertices) (c .if2 .left)) at (parted l (copy .copy .ensures)))
+    λ ends cut l. (enough copy (l .admitted), rw (le-ltb (start .args .count) (start .args .vertices) (omega arith)) at (parted l (copy .copy .ensures)))
 
 pub tell-spec : {M : Type 1} → statement M
 tell-spec =

@@ -11,54 +11,42 @@ use Rattle.verdict.proofs.main.Tie as tie
 fits : (o : tie.After-written) → o .written .given .0 .0 ≤ 64011
 fits o = bytes-fit (o .before .before .before .verdict-text .ensures) (omega (arith, length-replicate {A = ℕ} 64011 0)) (o .written .given .1)
 
--- src/main.rt:9:46
 slice-aggregate-read-full : tie.Need-slice-aggregate-read-full
 slice-aggregate-read-full c = search needs
 
--- src/main.rt:9:9
 read-full-requires : tie.Need-read-full-requires
 read-full-requires c κs = search needs
 
--- src/main.rt:11:47
 array-share-prefix-plan : tie.Need-array-share-prefix-plan
 array-share-prefix-plan c = search needs
 
--- src/main.rt:11:47
 slice-aggregate-verdict-text : tie.Need-slice-aggregate-verdict-text
 slice-aggregate-verdict-text c = search needs
 
--- src/main.rt:11:64
 slice-aggregate-verdict-text-2 : tie.Need-slice-aggregate-verdict-text-2
 slice-aggregate-verdict-text-2 c = search needs
 
--- src/main.rt:11:9
 verdict-text-requires : tie.Need-verdict-text-requires
 verdict-text-requires c κs = search needs
 
--- src/main.rt:13:24
 enum-known-written : tie.Need-enum-known-written
 enum-known-written c = search needs
 
--- src/main.rt:14:42
 array-share-prefix-verdict : tie.Need-array-share-prefix-verdict
 array-share-prefix-verdict c = omega (arith, fits (c .before))
 
--- src/main.rt:14:42
 slice-aggregate-write-all : tie.Need-slice-aggregate-write-all
 slice-aggregate-write-all c = simp length-take (omega (arith, fits (c .before .before)))
 
--- src/main.rt:14:13
 write-all-requires : tie.Need-write-all-requires
 write-all-requires c κs = search needs
 
 enum-told : tie.Need-enum-told
 enum-told c = search needs
 
--- src/main.rt:6:1
 returns : tie.Need-returns
 returns c = search needs
 
--- src/main.rt:6:1
 returns-2 : tie.Need-returns-2
 returns-2 c = search needs
 

@@ -9,29 +9,23 @@ use Rattle.verify.proofs.Judged.{kind-firm, kind-weak, kind-other}
 use Rattle.verify.proofs.check_admitted.Statement.{statement}
 use Rattle.verify.proofs.check_admitted.Tie as tie
 
--- src/lib.rt:37:9
 firm-admitted-requires : tie.Need-firm-admitted-requires
 firm-admitted-requires c κs = search needs
 
--- src/lib.rt:37:9
 returns : tie.Need-returns
 returns c = c .firm-admitted .ensures ∙ sym (ap toldBy (kind-firm _ _ _ (c .before .if1 .taken)))
 
--- src/lib.rt:40:9
 check-weak-requires : tie.Need-check-weak-requires
 check-weak-requires c κs = search needs
 
--- src/lib.rt:40:9
 returns-2 : tie.Need-returns-2
 returns-2 c =
     let start = c .before .before .before .before .before in
     c .check-weak .ensures ∙ ap toldBy (judge-weak limits _ always _ _ (start .pre .1)) ∙ sym (ap toldBy (kind-weak _ _ _ (c .before .if2 .taken)))
 
--- src/lib.rt:42:5
 answer-requires : tie.Need-answer-requires
 answer-requires c κs = search needs
 
--- src/lib.rt:32:1
 returns-3 : tie.Need-returns-3
 returns-3 c = c .answer .ensures ∙ sym (ap toldBy (kind-other _ _ _ (c .before .before .if1 .left) (c .before .if2 .left)))
 

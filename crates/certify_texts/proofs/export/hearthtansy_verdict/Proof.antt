@@ -4,19 +4,15 @@ use Rattle.certify_texts.proofs.Saying.{packs}
 use Rattle.certify_texts.proofs.export.hearthtansy_verdict.Statement.{statement}
 use Rattle.certify_texts.proofs.export.hearthtansy_verdict.Tie as tie
 
--- src/export.rt:13:10
 verdict-requires : tie.Need-verdict-requires
 verdict-requires c κs = search needs
 
--- src/export.rt:13:5
 pack-requires : tie.Need-pack-requires
 pack-requires c κs = search needs
 
--- src/export.rt:9:1
 same-length : tie.Need-same-length
 same-length c = search needs
 
--- src/export.rt:9:1
 returns : tie.Need-returns
 returns c = packs (c .before .before .before .verdict .ensures) (c .pack .ensures)
 

@@ -6,35 +6,27 @@ use Rattle.certify_texts.specs.Packed.{packedBy}
 use Rattle.certify_texts.proofs.export.pack.Statement.{statement}
 use Rattle.certify_texts.proofs.export.pack.Tie as tie
 
--- src/export.rt:30:26
 enum-told : tie.Need-enum-told
 enum-told c = search needs
 
--- src/export.rt:31:26
 enum-told-2 : tie.Need-enum-told-2
 enum-told-2 c = search needs
 
--- src/export.rt:31:26
 join-requires : tie.Need-join-requires
 join-requires c κs = search needs
 
--- src/export.rt:32:26
 enum-known-outcome : tie.Need-enum-known-outcome
 enum-known-outcome c = search needs
 
--- src/export.rt:32:37
 join-requires-2 : tie.Need-join-requires-2
 join-requires-2 c κs = search needs
 
--- src/export.rt:24:1
 returns : tie.Need-returns
 returns c = search needs
 
--- src/export.rt:24:1
 returns-2 : tie.Need-returns-2
 returns-2 c = c .join .ensures ∙ sym (ap (λ (o : Outcome). packedBy o (c .before .before .before .before .args .found .cut)) (c .before .enum-told2 .given .1))
 
--- src/export.rt:24:1
 returns-3 : tie.Need-returns-3
 returns-3 c = c .join2 .ensures ∙ sym (ap (λ (o : Outcome). packedBy o (c .before .before .before .before .before .args .found .cut)) (c .before .before .outcome .given .1))
 

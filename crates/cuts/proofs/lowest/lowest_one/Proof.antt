@@ -17,43 +17,33 @@ Inv-loop vertices ends labels edges e₀ e =
 abbrev μ-loop : tie.MeasureT-loop
 μ-loop vertices ends labels edges e₀ e = edges - e
 
--- src/lowest.rt:23:5
 loop-holds : tie.Need-loop-holds Inv-loop μ-loop
 loop-holds c = (omega arith, refl)
 
--- src/lowest.rt:24:44
 cast-one-cuts : tie.Need-cast-one-cuts Inv-loop μ-loop
 cast-one-cuts c = search needs
 
--- src/lowest.rt:24:37
 mul-one-cuts : tie.Need-mul-one-cuts Inv-loop μ-loop
 mul-one-cuts c = search needs
 
--- src/lowest.rt:24:37
 shared-slice-read-one-cuts : tie.Need-shared-slice-read-one-cuts Inv-loop μ-loop
 shared-slice-read-one-cuts c = search needs
 
--- src/lowest.rt:24:12
 one-cuts-requires : tie.Need-one-cuts-requires Inv-loop μ-loop
 one-cuts-requires c κs = let p = c .before .before .before .before .before .pre in (p .admitted, p .one _ (c .before .loop-test .taken))
 
--- src/lowest.rt:25:13
 returns : tie.Need-returns Inv-loop μ-loop
 returns c = let i = c .before .before .before in (omega (arith, i .loop-test .taken), i .before .loop .inv .1 ∙ one-found _ _ _ (i .loop-test .taken) (sym (c .before .one-cuts .ensures) ∙ c .if1 .taken))
 
--- src/lowest.rt:27:9
 add-e : tie.Need-add-e Inv-loop μ-loop
 add-e c = search needs
 
--- src/lowest.rt:23:5
 loop-less : tie.Need-loop-less Inv-loop μ-loop
 loop-less c = search needs
 
--- src/lowest.rt:23:5
 loop-again : tie.Need-loop-again Inv-loop μ-loop
 loop-again c = let i = c .before .before .before in (omega (arith, i .loop-test .taken), i .before .loop .inv .1 ∙ one-next _ _ _ (i .loop-test .taken) (sym (c .before .one-cuts .ensures) ∙ c .if1 .left))
 
--- src/lowest.rt:18:1
 returns-2 : tie.Need-returns-2 Inv-loop μ-loop
 returns-2 c = let l = c .before .loop in (omega arith, l .inv .1 ∙ one-over _ (l .e) _ (omega (arith, c .loop-test .left, l .inv .0)))
 

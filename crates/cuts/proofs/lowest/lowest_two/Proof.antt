@@ -17,31 +17,24 @@ Inv-loop vertices ends labels edges e₀ e =
 abbrev μ-loop : tie.MeasureT-loop
 μ-loop vertices ends labels edges e₀ e = edges - e
 
--- src/lowest.rt:54:5
 loop-holds : tie.Need-loop-holds Inv-loop μ-loop
 loop-holds c = (omega arith, refl)
 
--- src/lowest.rt:55:13
 lowest-with-requires : tie.Need-lowest-with-requires Inv-loop μ-loop
 lowest-with-requires c κs = (c .before .before .before .before .pre, c .loop-test .taken)
 
--- src/lowest.rt:57:13
 returns : tie.Need-returns Inv-loop μ-loop
 returns c = let i = c .before .before in (omega (arith, c .if1 .taken), i .before .loop .inv .1 ∙ two-found _ _ _ _ (i .loop-test .taken) (c .if1 .taken) (c .before .lowest-with .ensures .1))
 
--- src/lowest.rt:62:9
 add-e : tie.Need-add-e Inv-loop μ-loop
 add-e c = search needs
 
--- src/lowest.rt:54:5
 loop-less : tie.Need-loop-less Inv-loop μ-loop
 loop-less c = search needs
 
--- src/lowest.rt:54:5
 loop-again : tie.Need-loop-again Inv-loop μ-loop
 loop-again c = let i = c .before .before in (omega (arith, i .loop-test .taken), i .before .loop .inv .1 ∙ two-next _ _ _ _ (i .loop-test .taken) (c .if1 .left) (c .before .lowest-with .ensures .1))
 
--- src/lowest.rt:49:1
 returns-2 : tie.Need-returns-2 Inv-loop μ-loop
 returns-2 c = let l = c .before .loop in (omega arith, l .inv .1 ∙ two-over _ (l .e) _ (omega (arith, c .loop-test .left, l .inv .0)))
 

@@ -17,55 +17,42 @@ Inv-loop vertices ends labels edges e label d₀ d =
 abbrev μ-loop : tie.MeasureT-loop
 μ-loop vertices ends labels edges e label d₀ d = edges - d
 
--- src/lowest.rt:37:17
 mul-label : tie.Need-mul-label Inv-loop μ-loop
 mul-label c = search needs
 
--- src/lowest.rt:37:17
 shared-slice-read-label : tie.Need-shared-slice-read-label Inv-loop μ-loop
 shared-slice-read-label c = search needs
 
--- src/lowest.rt:38:17
 add-d : tie.Need-add-d Inv-loop μ-loop
 add-d c = search needs
 
--- src/lowest.rt:39:5
 loop-holds : tie.Need-loop-holds Inv-loop μ-loop
 loop-holds c = (omega arith, omega (arith, c .before .before .before .pre .1), refl)
 
--- src/lowest.rt:40:50
 cast-two-cut : tie.Need-cast-two-cut Inv-loop μ-loop
 cast-two-cut c = search needs
 
--- src/lowest.rt:40:43
 mul-two-cut : tie.Need-mul-two-cut Inv-loop μ-loop
 mul-two-cut c = search needs
 
--- src/lowest.rt:40:43
 shared-slice-read-two-cut : tie.Need-shared-slice-read-two-cut Inv-loop μ-loop
 shared-slice-read-two-cut c = search needs
 
--- src/lowest.rt:40:12
 two-cut-requires : tie.Need-two-cut-requires Inv-loop μ-loop
 two-cut-requires c κs = let p = c .before .before .before .before .before .before .pre .0 in (p .shown .admitted, p .two _ _ (c .before .before .loop .inv .0) (c .before .loop-test .taken))
 
--- src/lowest.rt:41:13
 returns : tie.Need-returns Inv-loop μ-loop
 returns c = let i = c .before .before .before in (omega (arith, i .loop-test .taken), i .before .loop .inv .2 ∙ with-found _ _ _ _ (i .loop-test .taken) (sym (c .before .two-cut .ensures) ∙ c .if1 .taken))
 
--- src/lowest.rt:43:9
 add-d-2 : tie.Need-add-d-2 Inv-loop μ-loop
 add-d-2 c = search needs
 
--- src/lowest.rt:39:5
 loop-less : tie.Need-loop-less Inv-loop μ-loop
 loop-less c = search needs
 
--- src/lowest.rt:39:5
 loop-again : tie.Need-loop-again Inv-loop μ-loop
 loop-again c = let i = c .before .before .before in (omega (arith, i .before .loop .inv .0), omega (arith, i .loop-test .taken), i .before .loop .inv .2 ∙ with-next _ _ _ _ (i .loop-test .taken) (sym (c .before .two-cut .ensures) ∙ c .if1 .left))
 
--- src/lowest.rt:33:1
 returns-2 : tie.Need-returns-2 Inv-loop μ-loop
 returns-2 c = let l = c .before .loop in (omega arith, l .inv .2 ∙ with-over _ _ (l .d) _ (omega (arith, c .loop-test .left, l .inv .1)))
 

@@ -16,23 +16,18 @@ found : {n : ℕ} {ends labels : List ℕ} {m : ℕ} (w : Whole n ends labels m)
     → (a b : ℕ) → firstTwo (graphOf n always ends) m ≡ twoTold m a b → lowestCut (graphOf n always ends) ≡ twoTold m a b
 found {n} {ends} {m = m} w e h q a b p = lowest-two (w .admitted) m (w .edges) (w .connected) (none-one (graphOf n always ends) m e h q) ∙ p
 
--- src/lowest.rt:48:9
 lowest-one-requires : tie.Need-lowest-one-requires
 lowest-one-requires c κs = shows-one (c .before .before .pre)
 
--- src/lowest.rt:50:9
 returns : tie.Need-returns
 returns c = let p = c .before .before .before .before .pre in rw (lowest-one (p .admitted) _ (p .edges) (p .connected) _ (c .if1 .taken) (c .before .lowest-one .ensures .1)) (one _)
 
--- src/lowest.rt:56:9
 lowest-two-requires : tie.Need-lowest-two-requires
 lowest-two-requires c κs = shows-both (c .before .before .before .before .pre) (none-one _ _ _ (c .if1 .left) (c .before .lowest-one .ensures .1))
 
--- src/lowest.rt:59:9
 returns-2 : tie.Need-returns-2
 returns-2 c = rw (found (c .before .before .before .before .before .before .pre) _ (c .before .before .if1 .left) (c .before .before .before .lowest-one .ensures .1) _ _ (c .before .lowest-two .ensures .1), lt-ltb _ _ (c .if2 .taken)) (two _ _)
 
--- src/lowest.rt:44:1
 returns-3 : tie.Need-returns-3
 returns-3 c = rw (found (c .before .before .before .before .before .before .pre) _ (c .before .before .if1 .left) (c .before .before .before .lowest-one .ensures .1) _ _ (c .before .lowest-two .ensures .1), le-ltb _ _ (c .if2 .left)) uncut
 

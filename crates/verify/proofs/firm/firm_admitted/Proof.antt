@@ -8,25 +8,20 @@ use Rattle.verify.proofs.Judged.{firm-long, firm-rows}
 use Rattle.verify.proofs.firm.firm_admitted.Statement.{statement}
 use Rattle.verify.proofs.firm.firm_admitted.Tie as tie
 
--- src/firm.rt:21:22
 mul-if1 : tie.Need-mul-if1
 mul-if1 c = search needs
 
--- src/firm.rt:22:9
 answer-requires : tie.Need-answer-requires
 answer-requires c κs = search needs
 
--- src/firm.rt:22:9
 returns : tie.Need-returns
 returns c =
     let p = c .before .before .before .before .pre in
     c .answer .ensures ∙ sym (ap toldBy (firm-long (p .1) _ (λ e. c .before .if1 .taken (e ∙ sym (ap (λ m. 3 * m) (p .0))))))
 
--- src/firm.rt:24:5
 judge-rows-requires : tie.Need-judge-rows-requires
 judge-rows-requires c κs = search needs
 
--- src/firm.rt:17:1
 returns-2 : tie.Need-returns-2
 returns-2 c =
     let p = c .before .before .before .before .pre in

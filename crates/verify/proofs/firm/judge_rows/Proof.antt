@@ -42,71 +42,56 @@ read c = omega (arith, c .loop-test .taken, c .before .before .before .before .b
 over : (c : tie.After-loop Inv-loop μ-loop) → 3 * c .before .loop .row ≡ length (c .before .before .before .before .before .args .list .now)
 over c = omega (arith, c .loop-test .left, c .before .loop .inv .0, c .before .before .before .before .before .pre .2)
 
--- src/firm.rt:33:21
 new-requires : tie.Need-new-requires Inv-loop μ-loop
 new-requires c κs = search needs
 
--- src/firm.rt:35:5
 loop-holds : tie.Need-loop-holds Inv-loop μ-loop
 loop-holds c = (omega arith, judged-start (c .new .ensures _ _ _ _ (length-replicate {A = Bool} 4000 false) (λ e. all-same 4000 e false)))
 
--- src/firm.rt:36:13
 is-last-requires : tie.Need-is-last-requires Inv-loop μ-loop
 is-last-requires c κs = (c .loop-test .taken, c .before .before .before .before .before .pre .2)
 
--- src/firm.rt:37:38
 slice-aggregate-step : tie.Need-slice-aggregate-step Inv-loop μ-loop
 slice-aggregate-step c = search needs
 
--- src/firm.rt:37:13
 step-requires : tie.Need-step-requires Inv-loop μ-loop
 step-requires c κs = ready (c .before .before)
 
--- src/firm.rt:40:13
 answer-requires : tie.Need-answer-requires Inv-loop μ-loop
 answer-requires c κs = search needs
 
--- src/firm.rt:40:13
 returns : tie.Need-returns Inv-loop μ-loop
 returns c =
     let u = c .before .before in
     let i = u .before .before .before .before in
     c .answer .ensures ∙ sym (ap toldBy (judged-stop (i .before .loop .inv .1) (read i) (u .before .step .result) (u .before .before .before .is-last .ensures) (u .before .step .ensures (ready i)) (c .before .if1 .taken)))
 
--- src/firm.rt:43:9
 add-row : tie.Need-add-row Inv-loop μ-loop
 add-row c = search needs
 
--- src/firm.rt:35:5
 loop-less : tie.Need-loop-less Inv-loop μ-loop
 loop-less c = search needs
 
--- src/firm.rt:35:5
 loop-again : tie.Need-loop-again Inv-loop μ-loop
 loop-again c =
     let u = c .before in
     let i = u .before .before .before .before in
     (omega (arith, i .loop-test .taken), judged-next (i .before .loop .inv .1) (read i) (u .before .step .result) (u .before .before .before .is-last .ensures) (u .before .step .ensures (ready i)) (c .if1 .left))
 
--- src/firm.rt:46:8
 closed-requires : tie.Need-closed-requires Inv-loop μ-loop
 closed-requires c κs = let l = c .before .before .before .before in omega (arith, l .loop .inv .1 .represents .holds .marks-length, l .before .before .before .before .pre .1 .vertices)
 
--- src/firm.rt:47:9
 answer-requires-2 : tie.Need-answer-requires-2 Inv-loop μ-loop
 answer-requires-2 c κs = search needs
 
--- src/firm.rt:47:9
 returns-2 : tie.Need-returns-2 Inv-loop μ-loop
 returns-2 c =
     let l = c .before .before .before .before .before .before in
     c .answer2 .ensures ∙ sym (ap toldBy (judged-passes (l .before .loop .inv .1) (over l) (l .before .before .before .before .before .pre .1 .vertices) (rw (c .before .if2 .taken) at (c .before .before .closed .ensures))))
 
--- src/firm.rt:49:5
 answer-requires-3 : tie.Need-answer-requires-3 Inv-loop μ-loop
 answer-requires-3 c κs = search needs
 
--- src/firm.rt:28:1
 returns-3 : tie.Need-returns-3 Inv-loop μ-loop
 returns-3 c =
     let l = c .before .before .before .before .before .before in

@@ -10,47 +10,36 @@ use Rattle.verify.proofs.state.step_number.Tie as tie
 ear : (c : tie.Then5) → FitsEar (c .before .before .before .before .before .before .args .degree .now) (c .before .before .before .before .before .before .args .run)
 ear c = rw (c .if5 .taken) at (c .before .fits-ear .ensures)
 
--- src/state.rt:215:12
 opens-requires : tie.Need-opens-requires
 opens-requires c κs = search needs
 
--- src/state.rt:216:13
 returns : tie.Need-returns
 returns c w = told-opens w (c .before .before .if1 .taken) true (rw (c .if2 .taken) at (c .before .opens .ensures))
 
--- src/state.rt:218:9
 returns-2 : tie.Need-returns-2
 returns-2 c w = told-opens w (c .before .before .if1 .taken) false (rw (c .if2 .left) at (c .before .opens .ensures))
 
--- src/state.rt:221:12
 parallels-requires : tie.Need-parallels-requires
 parallels-requires c κs = search needs
 
--- src/state.rt:222:13
 returns-3 : tie.Need-returns-3
 returns-3 c w = told-parallels w (c .before .before .before .if1 .left) (c .before .before .if3 .taken) true (rw (c .if4 .taken) at (c .before .parallels .ensures))
 
--- src/state.rt:224:9
 returns-4 : tie.Need-returns-4
 returns-4 c w = told-parallels w (c .before .before .before .if1 .left) (c .before .before .if3 .taken) false (rw (c .if4 .left) at (c .before .parallels .ensures))
 
--- src/state.rt:226:9
 fits-ear-requires : tie.Need-fits-ear-requires
 fits-ear-requires c κs = whole-below (c .before .before .before .before .pre)
 
--- src/state.rt:227:9
 returns-5 : tie.Need-returns-5
 returns-5 c w = told-links w (c .before .before .before .before .if3 .left) (ear (c .before .before)) true (rw (c .if6 .taken) at (c .before .fits-links .ensures))
 
--- src/state.rt:229:8
 fits-links-requires : tie.Need-fits-links-requires
 fits-links-requires c κs = told-reads (c .before .before .before .before .before .before .pre) (c .before .before .if3 .left) (ear c)
 
--- src/state.rt:230:9
 returns-6 : tie.Need-returns-6
 returns-6 c w = told-links w (c .before .before .before .before .if3 .left) (ear (c .before .before)) false (rw (c .if6 .left) at (c .before .fits-links .ensures))
 
--- src/state.rt:210:1
 returns-7 : tie.Need-returns-7
 returns-7 c w = told-ear w (c .before .before .if3 .left) (rw (c .if5 .left) at (c .before .fits-ear .ensures))
 

@@ -27,158 +27,121 @@ ready : (g : tie.After-go-on) → let a = g .before .before .before .before .bef
     Whole (a .t1 .degree) (a .list .now) (a .t1 .steps) n (a .t1 .low) (a .t1 .high) (getD (g .go-on .last .1 .1 .1 .1 .1 .0) (n .start) 0) (getD (g .go-on .last .1 .1 .1 .1 .1 .0) (n .at) 0)
 ready g = whole (g .before .before .before .before .before .before .before .before .before .before .before .before .before .before .pre) (zero (g .before .before .before .before)) (g .before .before .before .far .ensures) (g .go-on .ensures)
 
--- src/state.rt:55:17
 mul-k : tie.Need-mul-k
 mul-k c = search needs
 
--- src/state.rt:56:22
 add-e : tie.Need-add-e
 add-e c = search needs
 
--- src/state.rt:56:17
 mul-e : tie.Need-mul-e
 mul-e c = search needs
 
--- src/state.rt:56:17
 shared-slice-read-e : tie.Need-shared-slice-read-e
 shared-slice-read-e c = search needs
 
--- src/state.rt:57:22
 add-v : tie.Need-add-v
 add-v c = search needs
 
--- src/state.rt:57:17
 mul-v : tie.Need-mul-v
 mul-v c = search needs
 
--- src/state.rt:57:17
 shared-slice-read-v : tie.Need-shared-slice-read-v
 shared-slice-read-v c = search needs
 
--- src/state.rt:60:45
 mul-row-number : tie.Need-mul-row-number
 mul-row-number c = search needs
 
--- src/state.rt:60:45
 shared-slice-read-row-number : tie.Need-shared-slice-read-row-number
 shared-slice-read-row-number c = search needs
 
--- src/state.rt:60:13
 row-number-requires : tie.Need-row-number-requires
 row-number-requires c κs = search needs
 
--- src/state.rt:62:13
 same-length : tie.Need-same-length
 same-length c = search needs
 
--- src/state.rt:62:13
 returns : tie.Need-returns
 returns c r = stops-own r _ _ _ (c .before .row-number .ensures) (c .if1 .taken)
 
--- src/state.rt:67:14
 cast-used : tie.Need-cast-used
 cast-used c = omega (arith, edge c, c .before .before .before .before .before .before .before .before .before .before .pre .admitted .edges)
 
--- src/state.rt:67:9
 slice-write-used : tie.Need-slice-write-used
 slice-write-used c = omega (arith, edge c, c .before .before .before .before .before .before .before .before .before .before .pre .admitted .edges, c .before .before .before .before .before .before .before .before .before .before .pre .represents .used-length)
 
--- src/state.rt:68:13
 far-requires : tie.Need-far-requires
 far-requires c κs = edge c
 
--- src/state.rt:69:33
 cast-built : tie.Need-cast-built
 cast-built c = omega (arith, from (c .before))
 
--- src/state.rt:69:21
 mul-built : tie.Need-mul-built
 mul-built c = omega (arith, from (c .before))
 
--- src/state.rt:69:21
 element-copy-out-built : tie.Need-element-copy-out-built
 element-copy-out-built c = from (c .before)
 
--- src/state.rt:70:13
 go-on-requires : tie.Need-go-on-requires
 go-on-requires c κs = (from (c .before .before .before), omega (arith, c .before .before .before .before .before .before .before .before .before .before .before .before .before .pre .below, c .before .before .before .before .before .before .before .before .before .before .before .before .before .pre .admitted .edges))
 
--- src/state.rt:73:13
 same-length-2 : tie.Need-same-length-2
 same-length-2 c = search needs
 
--- src/state.rt:73:13
 returns-2 : tie.Need-returns-2
 returns-2 c r =
     let g = c .before in
     goes-on r (zero (g .before .before .before .before)) (g .before .before .before .far .ensures) (g .go-on .ensures) _ (not-true _ (c .if2 .taken)) _ (g .before .before .before .before .if1 .left)
 
--- src/state.rt:80:30
 cast-from : tie.Need-cast-from
 cast-from c = search needs
 
--- src/state.rt:80:20
 mul-from : tie.Need-mul-from
 mul-from c = search needs
 
--- src/state.rt:80:20
 element-copy-out-from : tie.Need-element-copy-out-from
 element-copy-out-from c = omega (arith, whole-below (ready (c .before .before)) .0, ready (c .before .before) .holds .marks-length)
 
--- src/state.rt:81:30
 cast-came : tie.Need-cast-came
 cast-came c = search needs
 
--- src/state.rt:81:20
 mul-came : tie.Need-mul-came
 mul-came c = search needs
 
--- src/state.rt:81:20
 element-copy-out-came : tie.Need-element-copy-out-came
 element-copy-out-came c = omega (arith, whole-below (ready (c .before .before .before .before)) .1, ready (c .before .before .before .before) .holds .marks-length)
 
--- src/state.rt:82:13
 step-number-requires : tie.Need-step-number-requires
 step-number-requires c κs = ready (c .before .before .before .before .before .before .before .before)
 
--- src/state.rt:84:13
 same-length-3 : tie.Need-same-length-3
 same-length-3 c = search needs
 
--- src/state.rt:84:13
 returns-3 : tie.Need-returns-3
 returns-3 c r =
     let e = c .before .before .before .before .before .before .before .before .before in
     let g = e .before in
     stops-whole r (zero (g .before .before .before .before)) (g .before .before .before .far .ensures) (g .go-on .ensures) _ (not-false _ (e .if2 .left)) _ (told-number r (zero (g .before .before .before .before)) (g .before .before .before .far .ensures) (g .go-on .ensures) _ (c .before .step-number .ensures)) (c .if3 .taken)
 
--- src/state.rt:90:55
 add-add-rows : tie.Need-add-add-rows
 add-add-rows c = omega (arith, c .before .before .before .before .before .before .before .before .before .before .before .before .before .before .before .before .before .before .before .before .before .before .before .before .before .pre .below, c .before .before .before .before .before .before .before .before .before .before .before .before .before .before .before .before .before .before .before .before .before .before .before .before .before .pre .admitted .edges)
 
--- src/state.rt:90:9
 add-rows-requires : tie.Need-add-rows-requires
 add-rows-requires c κs =
     let g = c .before .before .before .before .before .before .before .before .before .before .before in
     rows-ready (g .before .before .before .before .before .before .before .before .before .before .before .before .before .before .pre) (zero (g .before .before .before .before)) (g .before .before .before .far .ensures) (g .go-on .ensures)
 
--- src/state.rt:91:22
 add-self : tie.Need-add-self
 add-self c = let p = c .before .before .before .before .before .before .before .before .before .before .before .before .before .before .before .before .before .before .before .before .before .before .before .before .before .before .pre in omega (arith, steps-few p, p .below, p .admitted .edges)
 
--- src/state.rt:94:27
 add-begins : tie.Need-add-begins
 add-begins c = omega (arith, c .before .before .before .before .before .before .before .before .before .before .before .before .before .before .before .before .before .before .before .before .before .before .before .before .before .before .pre .below, c .before .before .before .before .before .before .before .before .before .before .before .before .before .before .before .before .before .before .before .before .before .before .before .before .before .before .pre .admitted .edges)
 
--- src/state.rt:94:20
 begins-requires : tie.Need-begins-requires
 begins-requires c κs = search needs
 
--- src/state.rt:51:5
 same-length-4 : tie.Need-same-length-4
 same-length-4 c = search needs
 
--- src/state.rt:51:5
 returns-4 : tie.Need-returns-4
 returns-4 c r =
     let t = c .before .before .before in

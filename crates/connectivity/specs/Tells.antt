@@ -1,0 +1,7 @@
+-- A test of the code, and the fact that it is about.
+use mathlib.Core.Bool.{Bool, true, false}
+
+-- a test tells whether a fact holds
+abbrev pub Tells : Bool → Type 0 → Type 0
+Tells true P = P
+Tells false P = P → ⊥
