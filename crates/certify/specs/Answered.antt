@@ -1,14 +1,11 @@
--- The verdict on a plan as the code's types have it, and the lent record afterwards.
-use mathlib.Core.Path.{_≡_}
+-- The verdict on a plan as the code's types have it.
 use mathlib.Core.List.{List, [], _∷_}
-use Prim.Native.Nat.{ℕ, _*_, _/_}
-use lib.ListN.{length, take, drop}
-use Rattle.connectivity.specs.Graph.{always}
-use Rattle.connectivity.specs.Admission.{limits, passed}
+use Prim.Native.Nat.{ℕ}
+use lib.ListN.{take}
 use Rattle.connectivity.specs.Verdict as meaning
-use Rattle.connectivity.specs.Judge.{judge}
 use Rattle.graph.specs.Admission.{toldBy}
 use Rattle.cuts.specs.declared.lowest.Lowest.{Lowest}
+use Rattle.record.specs.Answered.{AnsweredBy}
 use Rattle.certify.specs.declared.Finding.{Finding}
 use Rattle.certify.specs.declared.Outcome.{Outcome}
 use Rattle.certify.specs.declared.Outcome.the-variants.{Refused, Weak, Firm}
@@ -29,10 +26,6 @@ told meaning.firm = record { outcome = Firm; cut = unnamed }
 abbrev pub named : Lowest → List ℕ
 named cut = take (cut .count) (cut .first ∷ (cut .second ∷ []))
 
--- 01: firm: the record passes and the numbers behind it stay; weak or refused: the lent record is unchanged
-pub record Answered (n : ℕ) (ends before after : List ℕ) (r : Finding) : Type 0 where
-  pub answer : r ≡ told (meaning.verdict limits n always ends (length before))
-  pub passes : meaning.verdict limits n always ends (length before) ≡ meaning.firm
-      → judge limits n always ends 0 (take (3 * (length ends / 2)) after) ≡ passed
-  pub behind : drop (3 * (length ends / 2)) after ≡ drop (3 * (length ends / 2)) before
-  pub unchanged : (meaning.verdict limits n always ends (length before) ≡ meaning.firm → ⊥) → after ≡ before
+-- the writer's answer tells the verdict, and its record is as 01 has it
+abbrev pub Answered : ℕ → List ℕ → List ℕ → List ℕ → Finding → Type 0
+Answered n ends before after r = AnsweredBy told n ends before after r

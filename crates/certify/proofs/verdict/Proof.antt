@@ -1,52 +1,65 @@
--- `verdict` meets its contract: a plan that the constructor refuses is refused by its answer, any other is judged.
+-- `verdict` meets its contract: each answer about the record is told as an outcome.
 use borrow.Author.Needs.{needs}
-use mathlib.Core.Path.{sym, _∙_}
-use Rattle.graph.proofs.Lent.{constructed-refused, constructed-admitted}
-use Rattle.certify.proofs.Answering.{answers-refused}
+use mathlib.Core.Path.{sym, ap, _∙_}
+use Rattle.certify.proofs.Answering.{finding, answers}
 use Rattle.certify.proofs.verdict.Statement.{statement}
 use Rattle.certify.proofs.verdict.Tie as tie
 
-new-requires : tie.Need-new-requires
-new-requires c κs = search needs
+write-record-requires : tie.Need-write-record-requires
+write-record-requires c κs = search needs
 
-enum-known-made : tie.Need-enum-known-made
-enum-known-made c = search needs
+enum-known-found : tie.Need-enum-known-found
+enum-known-found c = search needs
 
 said-requires : tie.Need-said-requires
 said-requires c κs = search needs
 
-enum-known-made-2 : tie.Need-enum-known-made-2
-enum-known-made-2 c = search needs
+enum-known-found-2 : tie.Need-enum-known-found-2
+enum-known-found-2 c = search needs
 
-judge-admitted-requires : tie.Need-judge-admitted-requires
-judge-admitted-requires c κs =
-    let made = c .before .before in
-    let new = made .before .before in
-    let p = constructed-admitted _ _ (sym (new .new .ensures) ∙ made .made2 .given .1) in
-    (p .2, p .0)
+enum-told : tie.Need-enum-told
+enum-told c = search needs
 
-returns : tie.Need-returns
-returns c =
-    let made = c .before .before in
-    let new = made .before .before in
-    let p = constructed-refused _ _ (sym (new .new .ensures) ∙ made .made .given .1) in
-    answers-refused _ _ _ (p .0) (p .1) (c .said .ensures)
+said-requires-2 : tie.Need-said-requires-2
+said-requires-2 c κs = search needs
 
 same-length : tie.Need-same-length
 same-length c = search needs
 
+returns : tie.Need-returns
+returns c =
+    let found = c .before .before in
+    answers (found .before .before .before .before .write-record .ensures) (c .said .ensures ∙ ap finding (sym (found .found .given .1)))
+
+same-length-2 : tie.Need-same-length-2
+same-length-2 c = search needs
+
 returns-2 : tie.Need-returns-2
-returns-2 c = search needs
+returns-2 c =
+    let found = c .before in
+    answers (found .before .before .before .before .write-record .ensures) (ap finding (sym (found .found2 .given .1)))
+
+same-length-3 : tie.Need-same-length-3
+same-length-3 c = search needs
+
+returns-3 : tie.Need-returns-3
+returns-3 c =
+    let told = c .before in
+    answers (told .before .before .before .before .write-record .ensures) (c .said2 .ensures ∙ ap finding (sym (told .enum-told .given .1)))
 
 pub verdict-spec : {M : Type 1} → statement M
 verdict-spec =
     tie.close
     (tie.spec
-    new-requires
-    enum-known-made
+    write-record-requires
+    enum-known-found
     said-requires
-    enum-known-made-2
-    judge-admitted-requires
-    returns
+    enum-known-found-2
+    enum-told
+    said-requires-2
     same-length
-    returns-2)
+    returns
+    same-length-2
+    returns-2
+    same-length-3
+    returns-3)

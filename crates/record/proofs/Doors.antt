@@ -1,0 +1,165 @@
+-- The doors of x: the test of one edge, the lowest door from one edge to the next, and that there are two.
+use mathlib.Core.Path.{_≡_, refl, sym, _∙_, subst}
+use mathlib.Core.Logic.{_⊎_, inl, inr, ⊎-elim}
+use mathlib.Core.Bool.{Bool, true, false}
+use mathlib.Core.List.{List}
+use Prim.Native.Nat.{ℕ, _+_, _*_, _/_, _≤_, _<_}
+use native.Mathlib.Omega.{arith}
+use native.Mathlib.Decide.{ℕ-discrete, decLt}
+use lib.Dec.{ltb}
+use lib.ListN.{length, getD}
+use borrow.Author.Tests.{ltb-true, ltb-false}
+use Rattle.connectivity.specs.Graph.{Graph, Edge, Joins, graphOf, always}
+use Rattle.connectivity.specs.Reach.{ThreeEdgeConnected}
+use Rattle.connectivity.specs.Admission.{Admitted, limits}
+use Rattle.connectivity.proofs.Admission.{admitted-edge}
+use Rattle.connectivity.proofs.Reach.{joins-sym}
+use Rattle.connectivity.proofs.Theta.{Door, one-door, two-doors}
+use Rattle.search.specs.Search.{Marked}
+use Rattle.search.proofs.Leads.{joins-below, joins-edge}
+use Rattle.connectivity.specs.Tells.{Tells}
+use Rattle.record.specs.Opening.{IsDoor, DoorFits, DoorsFit, NextDoor, Rooted, farEnd}
+use Rattle.record.proofs.Paths.{far-end}
+
+-- One edge.
+
+module _ {ends marks : List ℕ} {e : ℕ} (x : ℕ) (f : DoorFits ends marks e) where
+  abbrev l : ℕ
+  l = getD ends (2 * e) 0
+
+  abbrev r : ℕ
+  r = getD ends (2 * e + 1) 0
+
+  pub door-left : l ≡ x → Tells (ltb 0 (getD marks r 0)) (IsDoor ends marks x e)
+  door-left p = go (ltb 0 (getD marks r 0)) refl
+    where
+      go : (t : Bool) → ltb 0 (getD marks r 0) ≡ t → Tells t (IsDoor ends marks x e)
+      go true q = let m = ltb-true 0 (getD marks r 0) q in inl (p, λ z. omega (arith, m, z))
+      go false q = let m = ltb-false 0 (getD marks r 0) q in
+          λ d. ⊎-elim (λ h. h .1 (omega (arith, m))) (λ h. f .different (p ∙ sym (h .0))) d
+
+  module _ (n : l ≡ x → ⊥) where
+    pub door-right : r ≡ x → Tells (ltb 0 (getD marks l 0)) (IsDoor ends marks x e)
+    door-right p = go (ltb 0 (getD marks l 0)) refl
+      where
+        go : (t : Bool) → ltb 0 (getD marks l 0) ≡ t → Tells t (IsDoor ends marks x e)
+        go true q = let m = ltb-true 0 (getD marks l 0) q in inr (p, λ z. omega (arith, m, z))
+        go false q = let m = ltb-false 0 (getD marks l 0) q in
+            λ d. ⊎-elim (λ h. n (h .0)) (λ h. h .1 (omega (arith, m))) d
+
+    pub door-none : (r ≡ x → ⊥) → IsDoor ends marks x e → ⊥
+    door-none m d = ⊎-elim (λ h. n (h .0)) (λ h. m (h .0)) d
+
+-- From one edge to the next.
+
+pub record Passing (ends marks : List ℕ) (x after edges e : ℕ) : Type 0 where
+  pub above : after < e
+  pub most : e ≤ edges
+  pub none : (d : ℕ) → after < d → d < e → IsDoor ends marks x d → ⊥
+
+pub passing-start : (ends marks : List ℕ) (x after edges : ℕ) → after < edges → Passing ends marks x after edges (after + 1)
+passing-start ends marks x after edges l = record { above = omega arith; most = omega (arith, l); none = λ d h k. absurd (omega (arith, h, k)) }
+
+module _ {ends marks : List ℕ} {x after edges e : ℕ} (p : Passing ends marks x after edges e) where
+  pub passing-step : e < edges → (IsDoor ends marks x e → ⊥) → Passing ends marks x after edges (e + 1)
+  passing-step l n = record {
+    above = omega (arith, p .above);
+    most = omega (arith, l);
+    none = λ d h k. elim (ℕ-discrete d e) [ yes q ↦ λ i. n (subst (IsDoor ends marks x) q i) | no q ↦ p .none d h (omega (arith, k, q)) ];
+  }
+
+  pub passing-door : e < edges → IsDoor ends marks x e → NextDoor ends marks x after edges e
+  passing-door l i = record { above = p .above; most = p .most; door = λ h. i; lowest = p .none }
+
+  pub passing-end : edges ≤ e → NextDoor ends marks x after edges edges
+  passing-end l = record {
+    above = omega (arith, p .above, p .most, l);
+    most = omega arith;
+    door = λ h. absurd (omega (arith, h));
+    lowest = λ d h k. p .none d h (omega (arith, k, l));
+  }
+
+-- The edges of a table that is admitted.
+
+pub doors-fit : {n : ℕ} {ends : List ℕ} (marks : List ℕ) (edges : ℕ) → Admitted limits n ends → n ≤ length marks → edges ≡ length ends / 2 → DoorsFit ends marks edges
+doors-fit {n} {ends} marks edges a l p = record {
+  fit = λ e h. let k = a .fit e (omega (arith, h, p)) in record {
+    below = omega (arith, h, p);
+    left = omega (arith, k .left, l);
+    right = omega (arith, k .right, l);
+    different = k .different;
+  };
+  few = omega (arith, a .edges, p);
+}
+
+ends-join : (n : ℕ) (ends : List ℕ) (e : ℕ) → Edge (graphOf n always ends) e
+    → Joins (graphOf n always ends) e (getD ends (2 * e) 0) (getD ends (2 * e + 1) 0)
+unfolding graphOf
+ends-join n ends e h = record { edge = h; ends = inl (refl, refl) }
+
+pub edge-joins : (n : ℕ) (ends : List ℕ) (e : ℕ) → Admitted limits n ends → e < length ends / 2
+    → Joins (graphOf n always ends) e (getD ends (2 * e) 0) (getD ends (2 * e + 1) 0)
+edge-joins n ends e a l = ends-join n ends e (admitted-edge a e l)
+
+joins-ends : (n : ℕ) (ends : List ℕ) (e u v : ℕ) → Joins (graphOf n always ends) e u v
+    → ((getD ends (2 * e) 0 ≡ u) × (getD ends (2 * e + 1) 0 ≡ v)) ⊎ ((getD ends (2 * e) 0 ≡ v) × (getD ends (2 * e + 1) 0 ≡ u))
+unfolding graphOf
+joins-ends n ends e u v j = j .ends
+
+-- where a door leads
+pub record Leads (n : ℕ) (ends marks : List ℕ) (x e : ℕ) : Type 0 where
+  pub joins : Joins (graphOf n always ends) e x (farEnd ends e x)
+  pub below : farEnd ends e x < n
+  pub seen : Marked marks (farEnd ends e x)
+  pub off : farEnd ends e x ≡ x → ⊥
+
+pub door-leads : {n e : ℕ} {ends : List ℕ} (marks : List ℕ) (x : ℕ) → Admitted limits n ends → e < length ends / 2 → IsDoor ends marks x e → Leads n ends marks x e
+door-leads {n} {e} {ends} marks x a l d =
+    let j = edge-joins n ends e a l in
+    let k = a .fit e l in
+    ⊎-elim (λ h. to (getD ends (2 * e + 1) 0) (subst (λ (u : ℕ). Joins (graphOf n always ends) e u (getD ends (2 * e + 1) 0)) (h .0) j) (h .1) (λ p. k .different (h .0 ∙ sym p)))
+    (λ h. to (getD ends (2 * e) 0) (subst (λ (u : ℕ). Joins (graphOf n always ends) e u (getD ends (2 * e) 0)) (h .0) (joins-sym j)) (h .1) (λ p. k .different (p ∙ sym (h .0)))) d
+  where
+    to : (k : ℕ) → Joins (graphOf n always ends) e x k → Marked marks k → (k ≡ x → ⊥) → Leads n ends marks x e
+    to k j m o = let p : k ≡ farEnd ends e x = sym (far-end n ends e x k j) in record {
+      joins = subst (λ (u : ℕ). Joins (graphOf n always ends) e x u) p j;
+      below = subst (λ (u : ℕ). u < n) p (joins-below n ends e x k j);
+      seen = subst (Marked marks) p m;
+      off = subst (λ (u : ℕ). u ≡ x → ⊥) p o;
+    }
+
+-- There are two.
+
+module _ {n r x edges : ℕ} {ends marks : List ℕ} (t : ThreeEdgeConnected (graphOf n always ends)) (j : Joins (graphOf n always ends) 0 r x) (apart : r ≡ x → ⊥)
+    (s : Rooted n ends r x marks) (p : edges ≡ length ends / 2) where
+  abbrev g : Graph
+  g = graphOf n always ends
+
+  -- a door is found by the test
+  tested : (e : ℕ) → Door g (Edge g) x r 0 e → IsDoor ends marks x e × (0 < e) × (e < edges)
+  tested e d =
+      let m = s .whole (d .to) (joins-below n ends e x (d .to) (d .joins)) (d .reached) in (
+        ⊎-elim (λ h. inl (h .0, subst (Marked marks) (sym (h .1)) m)) (λ h. inr (h .1, subst (Marked marks) (sym (h .0)) m)) (joins-ends n ends e x (d .to) (d .joins)),
+        omega (arith, d .other),
+        omega (arith, p, joins-edge n ends e x (d .to) (d .joins)),
+      )
+
+  pub first-door : {e : ℕ} → NextDoor ends marks x 0 edges e → e < edges
+  first-door {e} f = elim (decLt e edges) [
+    | yes l ↦ l
+    | no o ↦ absurd (one-door t (λ d h. h) j apart (λ d k. let q = tested d k in f .lowest d (q .1) (omega (arith, o, q .2)) (q .0)))
+  ]
+
+  pub second-door : {e d : ℕ} → NextDoor ends marks x 0 edges e → NextDoor ends marks x e edges d → d < edges
+  second-door {e} {d} f h = elim (decLt d edges) [
+    | yes l ↦ l
+    | no o ↦ absurd (two-doors t (λ c k. k) j apart (λ b c k q. only b o k ∙ sym (only c o q)))
+  ]
+    where
+      only : (c : ℕ) → (d < edges → ⊥) → Door g (Edge g) x r 0 c → c ≡ e
+      only c o k =
+          let q = tested c k in
+          elim (decLt c e) [
+            | yes l ↦ absurd (f .lowest c (q .1) l (q .0))
+            | no a ↦ elim (decLt e c) [ yes l ↦ absurd (h .lowest c l (omega (arith, o, q .2)) (q .0)) | no b ↦ omega (arith, a, b) ]
+          ]

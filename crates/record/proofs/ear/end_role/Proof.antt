@@ -1,0 +1,25 @@
+-- `end_role` meets its contract, by its tests.
+use mathlib.Core.Path.{refl}
+use native.Mathlib.Omega.{arith}
+use Rattle.record.specs.Growth.{EndRole}
+use borrow.Author.Needs.{needs}
+use Rattle.record.proofs.ear.end_role.Statement.{statement}
+use Rattle.record.proofs.ear.end_role.Tie as tie
+
+returns : tie.Need-returns
+returns c = EndRole.start (c .if1 .taken) refl
+
+mul-if2 : tie.Need-mul-if2
+mul-if2 c = search needs
+
+shared-slice-read-if2 : tie.Need-shared-slice-read-if2
+shared-slice-read-if2 c = search needs
+
+returns-2 : tie.Need-returns-2
+returns-2 c = EndRole.new (c .before .before .if1 .left) (c .if2 .taken) refl
+
+returns-3 : tie.Need-returns-3
+returns-3 c = EndRole.goal (c .before .before .if1 .left) (omega arith) refl
+
+pub end-role-spec : {M : Type 1} → statement M
+end-role-spec = tie.close (tie.spec returns mul-if2 shared-slice-read-if2 returns-2 returns-3)

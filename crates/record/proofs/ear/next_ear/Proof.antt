@@ -1,0 +1,44 @@
+-- `next_ear` meets its contract: an ear out of a link, or where every built vertex is a branch.
+use borrow.Author.Needs.{needs}
+use Rattle.record.proofs.ear.next_ear.Statement.{statement}
+use Rattle.record.proofs.ear.next_ear.Tie as tie
+
+plain-vertex-requires : tie.Need-plain-vertex-requires
+plain-vertex-requires c κs = search needs
+
+link-ear-requires : tie.Need-link-ear-requires
+link-ear-requires c κs =
+    let plain = c .before .before in
+    let s = plain .before .before .before .before .before .before in
+    let f = plain .plain-vertex .ensures .found (c .before .if1 .taken) in
+    record { ready = s .pre; below = c .before .if1 .taken; built = f .0; plain = f .1 }
+
+same-length : tie.Need-same-length
+same-length c = search needs
+
+returns : tie.Need-returns
+returns c = search needs
+
+branch-ear-requires : tie.Need-branch-ear-requires
+branch-ear-requires c κs =
+    let plain = c .before .before in
+    let s = plain .before .before .before .before .before .before in
+    record { growing = s .pre .growing; branches = plain .plain-vertex .ensures .none (c .before .if1 .left) }
+
+same-length-2 : tie.Need-same-length-2
+same-length-2 c = search needs
+
+returns-2 : tie.Need-returns-2
+returns-2 c = λ r. c .before .before .branch-ear .ensures (r .growing)
+
+pub next-ear-spec : {M : Type 1} → statement M
+next-ear-spec =
+    tie.close
+    (tie.spec
+    plain-vertex-requires
+    link-ear-requires
+    same-length
+    returns
+    branch-ear-requires
+    same-length-2
+    returns-2)

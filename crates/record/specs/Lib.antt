@@ -1,0 +1,5 @@
+pub mod Step
+pub mod Opening
+pub mod Growth
+pub mod Record
+pub mod Answered

@@ -1,0 +1,73 @@
+-- What the writing of a record asks and leaves behind.
+use mathlib.Core.Path.{_≡_}
+use mathlib.Core.List.{List, _∷_, _++_}
+use Prim.Native.Nat.{ℕ, _+_, _*_, _/_, _≤_, _<_}
+use lib.ListN.{length, getD, set}
+use Rattle.connectivity.specs.Graph.{graphOf, always}
+use Rattle.connectivity.specs.Lists.{Distinct}
+use Rattle.connectivity.specs.Walk.{Leg, allEdges}
+use Rattle.connectivity.specs.Mader.{Steps, rows, Builds}
+use Rattle.connectivity.specs.Admission.{Admitted, limits}
+use Rattle.record.specs.Step.{Marks, Sums, Written}
+
+-- the tables say what is built
+pub record Tables (n : ℕ) (ends built degrees used sums : List ℕ) : Type 0 where
+  pub marks : Marks n ends built degrees used
+  pub sums-are : Sums n ends built sums
+
+-- one built edge more at v, to w
+pub record Adding (degrees sums : List ℕ) (v w : ℕ) : Type 0 where
+  pub degrees-room : v < length degrees
+  pub sums-room : v < length sums
+  pub few : getD degrees v 0 ≤ 4000
+  pub small : getD sums v 0 + w ≤ 4000000
+
+abbrev pub Added : List ℕ → List ℕ → ℕ → ℕ → List ℕ → List ℕ → Type 0
+Added degrees sums v w degrees' sums' = (degrees' ≡ set degrees v (getD degrees v 0 + 1)) × (sums' ≡ set sums v (getD sums v 0 + w))
+
+-- one edge comes to count as built
+pub record Edging (ends : List ℕ) (e : ℕ) (degrees used sums : List ℕ) : Type 0 where
+  pub n : ℕ
+  pub admitted : Admitted limits n ends
+  pub built : List ℕ
+  pub tables : Tables n ends built degrees used sums
+  pub edge : e < length ends / 2
+  pub few : length built < 4000
+
+abbrev pub Edged : List ℕ → ℕ → List ℕ → List ℕ → List ℕ → List ℕ → List ℕ → List ℕ → Type 0
+Edged ends e degrees used sums degrees' used' sums' =
+    (b : Edging ends e degrees used sums) → Tables (b .n) ends (e ∷ b .built) degrees' used' sums'
+
+-- the edges of the rows from `first` on and below `end` do
+pub record Rowing (ends list : List ℕ) (first end : ℕ) (degrees used sums : List ℕ) : Type 0 where
+  pub n : ℕ
+  pub admitted : Admitted limits n ends
+  pub built : List ℕ
+  pub new : List ℕ
+  pub tables : Tables n ends built degrees used sums
+  pub count : first + length new ≡ end
+  pub rows : (k : ℕ) → k < length new → getD list (3 * (first + k) + 1) 0 ≡ getD new k 0
+  pub edges : (k : ℕ) → k < length new → getD new k 0 < length ends / 2
+  pub read : 3 * end ≤ length list
+  pub few : length new + length built ≤ 4000
+
+abbrev pub Rowed : List ℕ → List ℕ → ℕ → ℕ → List ℕ → List ℕ → List ℕ → List ℕ → List ℕ → List ℕ → Type 0
+Rowed ends list first end degrees used sums degrees' used' sums' =
+    (b : Rowing ends list first end degrees used sums) → Tables (b .n) ends (b .new ++ b .built) degrees' used' sums'
+
+-- a record that builds the plan stands at the front, and what stands behind stays
+pub record Recorded (n : ℕ) (ends before after : List ℕ) : Type 0 where
+  pub list : List ℕ
+  pub builds : Builds (graphOf n always ends) list
+  pub long : length list ≡ 3 * (length ends / 2)
+  pub written : Written list before after
+
+-- what has been written: the rows of Mader's steps so far, and the tables of what they build
+pub record Recording (n : ℕ) (ends before record-now degrees used sums : List ℕ) (row step : ℕ) : Type 0 where
+  pub done : List (List Leg)
+  pub steps : Steps (graphOf n always ends) done
+  pub once : Distinct (allEdges done)
+  pub tables : Tables n ends (allEdges done) degrees used sums
+  pub row-is : row ≡ length (allEdges done)
+  pub step-is : step ≡ length done
+  pub written : Written (rows done) before record-now
