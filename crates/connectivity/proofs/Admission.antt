@@ -5,14 +5,14 @@ use mathlib.Core.Bool.{Bool, true, false, cond, _&&_, _||_}
 use mathlib.Core.List.{List, [], _∷_, List·Memᴰ as In, List·Memᴰ·head as first, List·Memᴰ·tail as later}
 use Prim.Native.Nat.{ℕ, zero, suc, _+_, _*_, _/_, _%_, _≤_, _<_}
 use native.Mathlib.Omega.{arith}
-use native.Mathlib.Decide.{ℕ-discrete}
+use native.Mathlib.Decide.{ℕ-discrete, decLt}
 use lib.Dec.{T, eqb, ltb, ltb→lt, lt→ltb, eqb→eq}
 use lib.ListN.{length, getD}
 use borrow.Author.Tests.{eqb-true, eqb-false, ltb-true, ltb-false, eq-eqb, ne-eqb, lt-ltb, le-ltb}
 use Rattle.connectivity.specs.Lists.{range, keep}
 use Rattle.connectivity.specs.Graph.{Graph, Vertex, Edge, graphOf, always, isEdge, edges}
 use Rattle.connectivity.specs.Admission.{Answer, answer, passed, Limits, EndsFit, Admitted, andThen, edgeNumber, endsAnswer, admission}
-use Rattle.connectivity.proofs.Lists.{and-both, both-and, T-true, true-T, range-is}
+use Rattle.connectivity.proofs.Lists.{and-both, both-and, T-true, T-false, true-T, range-is}
 use Rattle.connectivity.proofs.Search.{is-edge}
 
 -- two answers, one after the other, are success where both are
@@ -153,6 +153,10 @@ unfolding range
 length-range i zero = refl
 length-range i (suc k) = ap suc (length-range (suc i) k)
 
+pub edge-size : (n : ℕ) (ends : List ℕ) {e : ℕ} → Edge (graphOf n always ends) e → e < length ends / 2
+unfolding graphOf
+edge-size n ends k = k .below
+
 module _ {limits : Limits} {n : ℕ} {ends : List ℕ} (a : Admitted limits n ends) where
   pub admitted-vertex : (v : ℕ) → v < n → Vertex (graphOf n always ends) v
   unfolding graphOf
@@ -169,3 +173,10 @@ module _ {limits : Limits} {n : ℕ} {ends : List ℕ} (a : Admitted limits n en
 
   pub admitted-edges : length (edges (graphOf n always ends)) ≡ length ends / 2
   admitted-edges = ap length admitted-range ∙ length-range 0 (length ends / 2)
+
+  -- the edges are the numbers below their count
+  pub admitted-all : (e : ℕ) → isEdge (graphOf n always ends) e ≡ ltb e (length ends / 2)
+  admitted-all e = elim (decLt e (length ends / 2)) [
+    | yes h ↦ T-true _ (is-edge (graphOf n always ends) e .1 (admitted-edge e h)) ∙ sym (lt-ltb e (length ends / 2) h)
+    | no h ↦ T-false _ (λ t. h (edge-size n ends (is-edge (graphOf n always ends) e .0 t))) ∙ sym (le-ltb e (length ends / 2) (omega (arith, h)))
+  ]

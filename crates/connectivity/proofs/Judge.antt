@@ -1,4 +1,5 @@
--- What it means that a verdict passes: a firm one builds the graph by Mader's steps, a weak one is a cut, and no other kind passes.
+-- What it means that a verdict passes: a firm one builds the graph by Mader's steps, a weak one is a cut, and no other kind passes;
+-- and the plan's own refusal comes first.
 use mathlib.Core.Path.{_≡_, refl, sym, ap, _∙_}
 use mathlib.Core.Logic.{_⊎_, inl, inr, _↔_}
 use mathlib.Core.Bool.{Bool, true, false, cond, _&&_}
@@ -18,7 +19,7 @@ use Rattle.connectivity.specs.Judge.{ascending, judgeFirm, judgeWeak, ju
 use Rattle.connectivity.proofs.Lists.{Decides, decides, decides-and}
 use Rattle.connectivity.proofs.Search.{is-edge}
 use Rattle.connectivity.proofs.Disconnects.{disconnects-is}
-use Rattle.connectivity.proofs.Admission.{both-passed, passed-then, passed-when, Told, cond-both, admission-number}
+use Rattle.connectivity.proofs.Admission.{both-passed, passed-then, failed-then, passed-when, Told, cond-both, admission-number}
 use Rattle.connectivity.proofs.Sound.{builds-three-edge-connected}
 use Rattle.connectivity.proofs.Build.{firm-is}
 
@@ -95,11 +96,20 @@ module _ (limits : Limits) (n : ℕ) (kept : ℕ → Bool) (ends : List ℕ) whe
   abbrev g : Graph
   g = graphOf n kept ends
 
+  -- the plan's own refusal comes first
+  pub judge-refused : (kind : ℕ) (list : List ℕ) → (Admitted limits n ends → ⊥) → judge limits n kept ends kind list ≡ admission limits n ends
+  unfolding judge
+  judge-refused kind list h = failed-then (admission limits n ends) _ (λ z. h (admission-number limits n ends .0 z))
+
+  pub judge-admitted : (kind : ℕ) (list : List ℕ) → Admitted limits n ends → judge limits n kept ends kind list ≡ judgeGraph g kind list
+  unfolding judge
+  judge-admitted kind list a = passed-then (admission limits n ends) _ (admission-number limits n ends .1 a)
+
   judge-is : (kind : ℕ) (list : List ℕ) → (judge limits n kept ends kind list ≡ passed) ↔ (Admitted limits n ends × (judgeGraph g kind list ≡ passed))
   unfolding judge
   judge-is kind list = (
     λ h. let p = both-passed _ _ h in (admission-number limits n ends .0 (p .0), p .1),
-    λ (a, p). passed-then _ _ (admission-number limits n ends .1 a) ∙ p,
+    λ (a, p). judge-admitted kind list a ∙ p,
   )
 
   pub firm-passes : (list : List ℕ) → (judge limits n kept ends 0 list ≡ passed) ↔ (Admitted limits n ends × Builds g list)

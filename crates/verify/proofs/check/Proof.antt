@@ -1,51 +1,46 @@
--- `check` meets its contract: a plan that the constructor refuses is refused by its answer, any other is judged.
+-- `check` meets its contract: each kind is judged as the definition has it.
 use mathlib.Core.Path.{_≡_, sym, ap, _∙_}
+use mathlib.Core.Bool.{Bool}
+use mathlib.Core.List.{List}
+use Prim.Native.Nat.{ℕ}
 use borrow.Author.Needs.{needs}
+use borrow.Author.Tests.{ne-eqb}
 use Rattle.connectivity.specs.Graph.{always}
-use Rattle.connectivity.specs.Admission.{limits}
+use Rattle.connectivity.specs.Admission.{Limits, limits, admission, andThen, answer}
+use Rattle.connectivity.specs.Judge.{judgeGraph, judge}
 use Rattle.graph.specs.Admission.{toldBy}
-use Rattle.graph.proofs.Lent.{constructed-refused, constructed-admitted}
-use Rattle.verify_weak.proofs.Weak.{judge-refused, judge-admitted}
 use Rattle.verify.proofs.check.Statement.{statement}
 use Rattle.verify.proofs.check.Tie as tie
 
-new-requires : tie.Need-new-requires
-new-requires c κs = search needs
+-- a known kind
+known : (limits : Limits) (n : ℕ) (kept : ℕ → Bool) (ends list : List ℕ) {kind : ℕ} (k : ℕ) → kind ≡ k → judge limits n kept ends kind list ≡ judge limits n kept ends k list
+known limits n kept ends list k p = rw p
 
-enum-known-made : tie.Need-enum-known-made
-enum-known-made c = search needs
+-- any other
+other : (limits : Limits) (n : ℕ) (kept : ℕ → Bool) (ends : List ℕ) (kind : ℕ) (list : List ℕ) → (kind ≡ 0 → ⊥) → (kind ≡ 1 → ⊥)
+    → judge limits n kept ends kind list ≡ andThen (admission limits n ends) (answer 9 0)
+unfolding judge judgeGraph
+other limits n kept ends kind list p q = rw (ne-eqb kind 0 p, ne-eqb kind 1 q)
 
-enum-known-made-2 : tie.Need-enum-known-made-2
-enum-known-made-2 c = search needs
-
-check-admitted-requires : tie.Need-check-admitted-requires
-check-admitted-requires c κs =
-    let made = c .before in
-    let new = made .before .before in
-    let p = constructed-admitted _ _ (sym (new .new .ensures) ∙ made .made2 .given .1) in
-    (p .2, p .0)
+check-firm-requires : tie.Need-check-firm-requires
+check-firm-requires c κs = search needs
 
 returns : tie.Need-returns
-returns c =
-    let made = c .before in
-    let new = made .before .before in
-    let p = constructed-refused _ _ (sym (new .new .ensures) ∙ made .made .given .1) in
-    p .1 ∙ sym (ap toldBy (judge-refused limits _ always _ _ _ (p .0)))
+returns c = c .check-firm .ensures ∙ sym (ap toldBy (known limits _ always _ _ 0 (c .before .if1 .taken)))
+
+check-weak-requires : tie.Need-check-weak-requires
+check-weak-requires c κs = search needs
 
 returns-2 : tie.Need-returns-2
-returns-2 c =
-    let made = c .before .before in
-    let new = made .before .before in
-    let p = constructed-admitted _ _ (sym (new .new .ensures) ∙ made .made2 .given .1) in
-    c .check-admitted .ensures ∙ sym (ap toldBy (judge-admitted limits _ always _ _ _ (p .0)))
+returns-2 c = c .check-weak .ensures ∙ sym (ap toldBy (known limits _ always _ _ 1 (c .before .if2 .taken)))
+
+unknown-requires : tie.Need-unknown-requires
+unknown-requires c κs = search needs
+
+returns-3 : tie.Need-returns-3
+returns-3 c = c .unknown .ensures ∙ sym (ap toldBy (other limits _ always _ _ _ (c .before .before .if1 .left) (c .before .if2 .left)))
 
 pub check-spec : {M : Type 1} → statement M
 check-spec =
     tie.close
-    (tie.spec
-    new-requires
-    enum-known-made
-    enum-known-made-2
-    check-admitted-requires
-    returns
-    returns-2)
+    (tie.spec check-firm-requires returns check-weak-requires returns-2 unknown-requires returns-3)

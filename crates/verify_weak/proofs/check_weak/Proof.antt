@@ -3,9 +3,10 @@ use mathlib.Core.Path.{_≡_, sym, ap, _∙_}
 use borrow.Author.Needs.{needs}
 use Rattle.connectivity.specs.Graph.{always}
 use Rattle.connectivity.specs.Admission.{limits}
+use Rattle.connectivity.proofs.Judge.{judge-refused}
 use Rattle.graph.specs.Admission.{toldBy}
 use Rattle.graph.proofs.Lent.{constructed-refused, constructed-admitted}
-use Rattle.verify_weak.proofs.Weak.{judge-refused, judge-weak}
+use Rattle.verify_weak.proofs.Weak.{judge-weak}
 use Rattle.verify_weak.proofs.check_weak.Statement.{statement}
 use Rattle.verify_weak.proofs.check_weak.Tie as tie
 

@@ -9,11 +9,12 @@ use borrow.Author.Needs.{needs}
 use Rattle.connectivity.specs.Graph.{graphOf, always}
 use Rattle.connectivity.specs.Admission.{Admitted, limits}
 use Rattle.connectivity.specs.Judge.{ascending}
+use Rattle.connectivity.proofs.Admission.{admitted-all}
 use Rattle.graph.specs.declared.Answer.{Answer}
 use Rattle.graph.specs.Admission.{toldBy}
 use Rattle.verify_weak.specs.Weak.{InTurn}
 use Rattle.removal.proofs.Cuts.{cut-admitted}
-use Rattle.verify_weak.proofs.Weak.{admitted-all, weak-long, weak-turn, weak-cut}
+use Rattle.verify_weak.proofs.Weak.{weak-long, weak-turn, weak-cut}
 use Rattle.verify_weak.proofs.weak_admitted.Statement.{statement}
 use Rattle.verify_weak.proofs.weak_admitted.Tie as tie
 
