@@ -3,9 +3,11 @@ use graph::Admission;
 use graph::Answer;
 use graph::Graph;
 ghost use mathlib.Core.Path.{_≡_};
+ghost use mathlib.Core.Bool.{not};
 ghost use Prim.Native.Nat.{_/_, _<_, _≤_};
 ghost use lib.ListN.{length};
 ghost use Rattle.connectivity.specs.Graph.{graphOf, always};
+ghost use Rattle.connectivity.specs.Tells.{Tells};
 ghost use Rattle.connectivity.specs.Admission.{Admitted, limits};
 ghost use Rattle.search.specs.Search.{Live, Pass, Start, Goal, Answered};
 ghost use Rattle.search.specs.Sweep as sweeps;
@@ -214,18 +216,18 @@ fn explore_admitted(
     requires { ⌜ (edges ≡ length (now ends) / 2) × Admitted limits vertices (now ends) ⌝ }
     ensures { λ r. ⌜ Answered vertices (now (ends .entry)) (now (roles .entry)) (now (dead .entry)) (now (first .entry)) (now (order .entry)) (now (first .exit)) (now (order .exit)) r ⌝ }
 {
-    let n = vertices as usize;
-    if roles.len() < n {
-        return short();
-    }
-    if dead.len() < edges as usize {
-        return short();
-    }
-    if first.len() < n {
-        return short();
-    }
-    if order.len() < n {
-        return short();
+    if is_short(
+        vertices,
+        edges,
+        roles.len(),
+        dead.len(),
+        first.len(),
+        order.len(),
+    ) {
+        return Explored::Refused(Answer {
+            number: 6,
+            place: 0,
+        });
     }
     let starts = begin(vertices, roles, first, order);
     let p = rounds(vertices, ends, edges, roles, dead, starts, first, order);
@@ -235,11 +237,29 @@ fn explore_admitted(
     Explored::Seen(p.count)
 }
 
-fn short() -> Explored
-    ensures { λ r. ⌜ r ≡ Explored.Refused (record { number = 6; place = 0 }) ⌝ }
+// Whether one of the lent slices, of which these are the lengths, is too short.
+fn is_short(
+    vertices: u16,
+    edges: u16,
+    roles: usize,
+    dead: usize,
+    first: usize,
+    order: usize,
+) -> bool
+    ensures { λ r. ⌜ Tells (not r) ((vertices ≤ roles) × ((edges ≤ dead) × ((vertices ≤ first) × (vertices ≤ order)))) ⌝ }
 {
-    Explored::Refused(Answer {
-        number: 6,
-        place: 0,
-    })
+    let n = vertices as usize;
+    if roles < n {
+        return true;
+    }
+    if dead < edges as usize {
+        return true;
+    }
+    if first < n {
+        return true;
+    }
+    if order < n {
+        return true;
+    }
+    false
 }
