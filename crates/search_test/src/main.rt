@@ -1,4 +1,12 @@
-// Runs the search and the test for cuts on some plans, and prints what document 01's terms call the outcome.
+// Runs the search and the test for cuts on the plans of a table, and prints what document 01's terms call the outcome.
+//
+// The table is the standard input, a line for each case:
+//     name; pieces; ends of the tabs; tabs that are lost;
+//     name; pieces; ends of the tabs; role of each piece; for each tab 1 where it is lost
+// The first form is for the test for cuts, the second for the search. A digit stands for itself, a letter for a larger number
+// (`worth`). A letter in place of the ends stands for those of a large plan (`large`).
+use graph::Answer;
+use libc::STDIN_FILENO;
 use libc::STDOUT_FILENO;
 use removal::Split;
 use search::Explored;
@@ -7,282 +15,267 @@ fn say(text: &[u8]) {
     io::write_all(STDOUT_FILENO, text);
 }
 
+fn show(byte: u8) {
+    let bytes = [byte];
+    say(&bytes);
+}
+
 fn number(x: u16) {
-    say(b" ");
+    show(b' ');
     io::print_decimal(STDOUT_FILENO, x as u64);
 }
 
-// Tab e joins a and b, where the table has room for it.
-fn tab(ends: &mut [u16], e: u16, a: u16, b: u16) {
-    let at = 2 * (e as usize);
-    if at + 1 < ends.len() {
-        ends[at] = a;
-        ends[at + 1] = b;
+fn refused(answer: Answer) {
+    say(b": refused");
+    number(answer.number);
+    number(answer.place);
+}
+
+// The number that a byte stands for.
+fn worth(byte: u8) -> u16 {
+    match byte {
+        b'k' => KNOT,
+        b'l' => 999,
+        b'm' => 1000,
+        b'n' => 1001,
+        b'r' => ROW,
+        _ => (byte % 48) as u16,
     }
 }
 
-// Tabs 0-1, 1-2 and so on; `pieces` on it begins again at 0.
-const CHAIN: u8 = 0;
-// Tabs from piece 0 to each other one.
-const STAR: u8 = 1;
-// Tabs that all join pieces 0 and 1.
-const BUNDLE: u8 = 2;
-// Tabs that jump about among the pieces: from i to 7 i + 3, and one further each time round.
-const SCATTER: u8 = 3;
+// A line as far as it is read: `n` numbers, and how many there were at the last three semicolons.
+struct Case {
+    named: bool,
+    first: usize,
+    second: usize,
+    third: usize,
+    n: usize,
+    wide: [u16; 32],
+    narrow: [u8; 32],
+}
 
-// Tabs of one of these shapes.
-fn fill(ends: &mut [u16], shape: u8, tabs: u16, pieces: u16) {
-    let mut i: u16 = 0;
-    while i < tabs {
-        shaped(ends, shape, i, pieces);
+impl Case {
+    fn new() -> Case {
+        Case {
+            named: false,
+            first: 0,
+            second: 0,
+            third: 0,
+            n: 0,
+            wide: [0; 32],
+            narrow: [0; 32],
+        }
+    }
+
+    // Takes up a byte. The name is shown, and else a blank stands for nothing.
+    fn take(mut self, byte: u8) -> Case {
+        if byte == b'\n' {
+            self.run();
+            show(b'\n');
+            return Case::new();
+        }
+        if byte == b';' {
+            self.named = true;
+            self.first = self.second;
+            self.second = self.third;
+            self.third = self.n;
+            return self;
+        }
+        if !self.named {
+            show(byte);
+            return self;
+        }
+        if byte == b' ' {
+            return self;
+        }
+        self.put(byte)
+    }
+
+    fn put(mut self, byte: u8) -> Case {
+        let n = self.n;
+        if n < 32 {
+            self.wide[n] = worth(byte);
+            self.narrow[n] = byte % 48;
+            self.n = n + 1;
+        }
+        self
+    }
+
+    fn run(self) {
+        let wide = self.wide;
+        let narrow = self.narrow;
+        let pieces = wide[0];
+        let ends = numbers(&wide, self.first, self.second);
+        if self.third < self.n {
+            walk(
+                pieces,
+                ends,
+                bytes(&narrow, self.second, self.third),
+                bytes(&narrow, self.third, self.n),
+            );
+        } else {
+            lose(pieces, ends, numbers(&wide, self.second, self.third));
+        }
+    }
+}
+
+// The numbers from one place to another, or all where the line has no such part.
+fn numbers(list: &[u16], from: usize, to: usize) -> &[u16] {
+    if to < from {
+        return list;
+    }
+    if list.len() < to {
+        return list;
+    }
+    &list[from..to]
+}
+
+fn bytes(list: &[u8], from: usize, to: usize) -> &[u8] {
+    if to < from {
+        return list;
+    }
+    if list.len() < to {
+        return list;
+    }
+    &list[from..to]
+}
+
+// The test for cuts.
+fn lose(pieces: u16, ends: &[u16], cut: &[u16]) {
+    if ends.len() == 1 {
+        large(pieces, ends[0], cut);
+    } else {
+        tell(pieces, ends, cut);
+    }
+}
+
+// The rule of 4,001 tabs in a row.
+const ROW: u16 = 65535;
+
+// The rule 999, but for tab 7, which joins a piece to itself.
+const KNOT: u16 = 10999;
+
+// A plan of 4,000 tabs that jump about among as many pieces as the rule says, or of a row of them.
+fn large(pieces: u16, rule: u16, cut: &[u16]) {
+    let mut ends = [0u16; 8002];
+    fill(&mut ends, rule);
+    let more = (rule / ROW * 2) as usize;
+    tell(pieces, numbers(&ends, 0, 8000 + more), cut);
+}
+
+fn fill(ends: &mut [u16], rule: u16) {
+    let mut i = 0;
+    while i < ends.len() {
+        ends[i] = end(rule, (i % 8002) as u16);
         i += 1;
     }
 }
 
-fn shaped(ends: &mut [u16], shape: u8, i: u16, pieces: u16) {
-    if shape == CHAIN {
-        tab(ends, i, i, next(i, pieces));
-    } else if shape == STAR {
-        tab(ends, i, 0, next(i, 0));
-    } else if shape == BUNDLE {
-        tab(ends, i, 0, 1);
-    } else {
-        jump(ends, i, pieces);
+// A row goes from each piece to the next, and its fourth tab back to piece 0.
+fn end(rule: u16, i: u16) -> u16 {
+    if rule == ROW {
+        if i == 7 {
+            return 0;
+        }
+        return i / 2 + i % 2;
     }
-}
-
-fn next(i: u16, wrap: u16) -> u16 {
-    if i < 65534 {
-        if i + 1 != wrap {
-            return i + 1;
+    if rule == KNOT {
+        if i / 2 == 7 {
+            return 2;
         }
     }
-    0
+    jump(i / 2, i % 2, rule % 10000)
 }
 
-fn jump(ends: &mut [u16], i: u16, pieces: u16) {
+// An end of tab i: it goes from i to 7 i + 3, and one further each time round; where that is the same piece, from 0 to 1.
+fn jump(i: u16, side: u16, pieces: u16) -> u16 {
     if pieces == 0 {
-        return;
+        return 0;
     }
     let a = i % pieces;
     let b = (i % 9000 * 7 + 3 + i / pieces % 100) % pieces;
     if a == b {
-        tab(ends, i, 0, 1);
-    } else {
-        tab(ends, i, a, b);
+        return side;
+    }
+    if side == 0 {
+        return a;
+    }
+    b
+}
+
+// Whether the plan is one body after the tabs of `cut` are lost.
+fn tell(pieces: u16, ends: &[u16], cut: &[u16]) {
+    let mut reached = [false; 1000];
+    let split = removal::disconnects(pieces, ends, cut, &mut reached);
+    match split {
+        Split::Refused(answer) => refused(answer),
+        Split::Connected => say(b": one body"),
+        Split::Disconnected => stay(&reached),
     }
 }
 
-// The first n numbers, or all where there are fewer.
-fn front(s: &[u16], n: usize) -> &[u16] {
-    if s.len() < n {
-        return s;
-    }
-    &s[0..n]
-}
-
-// How many are true.
-fn count(reached: &[bool]) -> u16 {
+// How many pieces stay with the lowest.
+fn stay(reached: &[bool; 1000]) {
     let mut n: u16 = 0;
     let mut i = 0;
-    while i < reached.len() {
+    while i < 1000 {
         if reached[i] {
-            if n < 65535 {
-                n += 1;
-            }
+            n = std::num::wrapping_add_u16(n, 1);
         }
         i += 1;
     }
-    n
+    say(b": parted, with the lowest piece stay");
+    number(n);
 }
 
-// Whether the plan is one body after the tabs of `cut` are lost, and if not, how many pieces stay with the lowest.
-fn part(name: &[u8], pieces: u16, ends: &[u16], numbers: usize, cut: &[u16], tabs: usize) {
-    say(name);
-    let mut reached = [false; 1000];
-    let split = removal::disconnects(pieces, front(ends, numbers), front(cut, tabs), &mut reached);
-    match split {
-        Split::Refused(a) => {
-            say(b": refused");
-            number(a.number);
-            number(a.place);
-        }
-        Split::Connected => {
-            say(b": one body");
-        }
-        Split::Disconnected => {
-            say(b": parted, with the lowest piece stay");
-            number(count(&reached));
-        }
+// The search, with space for eight pieces.
+fn walk(pieces: u16, ends: &[u16], roles: &[u8], dead: &[u8]) {
+    let mut first = [9u16; 8];
+    let mut order = [9u16; 8];
+    let found = search::explore(pieces, ends, roles, dead, &mut first, &mut order);
+    met(found, &first, &order);
+}
+
+fn met(found: Explored, first: &[u16; 8], order: &[u16; 8]) {
+    match found {
+        Explored::Refused(answer) => refused(answer),
+        Explored::Seen(n) => list(b": seen", first, order, n),
+        Explored::Met(n) => list(b": met a goal", first, order, n),
     }
-    say(b"\n");
 }
 
 // The seen pieces in their order, each with its mark.
-fn list(order: &[u16], first: &[u16], seen: u16) {
+fn list(outcome: &[u8], first: &[u16; 8], order: &[u16; 8], seen: u16) {
+    say(outcome);
     let mut i = 0;
-    while i < order.len() {
+    while i < 8 {
         if i < seen as usize {
-            number(order[i]);
             mark(first, order[i]);
         }
         i += 1;
     }
-    say(b"\n");
 }
 
-fn mark(first: &[u16], v: u16) {
-    let at = v as usize;
-    if first.len() <= at {
-        return;
-    }
-    let by = first[at];
+// A piece, and the tab by which it was reached; a piece that was not seen would show tab 65535.
+fn mark(first: &[u16; 8], v: u16) {
+    number(v);
+    let by = first[(v % 8) as usize];
     if by == 65535 {
         say(b" start,");
-        return;
+    } else {
+        say(b" by tab");
+        number(std::num::wrapping_sub_u16(by, 1));
+        show(b',');
     }
-    if by == 0 {
-        say(b" unseen,");
-        return;
-    }
-    say(b" by tab");
-    number(by - 1);
-    say(b",");
-}
-
-// A search over a ring of 6 pieces, in a plan with the given number of pieces.
-fn walk(name: &[u8], pieces: u16, roles: &[u8], dead: &[u8]) {
-    say(name);
-    let mut ends = [0u16; 12];
-    fill(&mut ends, CHAIN, 6, 6);
-    let mut first = [9u16; 8];
-    let mut order = [9u16; 8];
-    let found = search::explore(pieces, &ends, roles, dead, &mut first, &mut order);
-    match found {
-        Explored::Refused(a) => {
-            say(b": refused");
-            number(a.number);
-            number(a.place);
-            say(b"\n");
-        }
-        Explored::Seen(n) => {
-            say(b": seen");
-            list(&order, &first, n);
-        }
-        Explored::Met(n) => {
-            say(b": met a goal");
-            list(&order, &first, n);
-        }
-    }
-}
-
-fn rings() {
-    let mut ends = [0u16; 10];
-    let cuts = [0u16, 2, 9];
-    fill(&mut ends, CHAIN, 5, 5);
-    part(b"a ring of 5", 5, &ends, 10, &cuts, 0);
-    part(b"without tab 0", 5, &ends, 10, &cuts, 1);
-    part(b"without tabs 0 and 2", 5, &ends, 10, &cuts, 2);
-    part(
-        b"without tabs 0, 2 and 9, which is none",
-        5,
-        &ends,
-        10,
-        &cuts,
-        3,
-    );
-}
-
-fn paths() {
-    let mut ends = [0u16; 10];
-    let cuts = [0u16, 2, 9];
-    fill(&mut ends, CHAIN, 5, 5);
-    part(b"a path of 5", 5, &ends, 8, &cuts, 0);
-    part(b"without tab 0", 5, &ends, 8, &cuts, 1);
-    part(b"two bodies", 7, &ends, 8, &cuts, 0);
-    part(b"no tab", 3, &ends, 0, &cuts, 0);
-}
-
-fn stars_and_bundles() {
-    let mut ends = [0u16; 12];
-    let cuts = [0u16, 2, 9];
-    fill(&mut ends, STAR, 6, 0);
-    part(b"a star of 7", 7, &ends, 12, &cuts, 0);
-    part(b"without tabs 0 and 2", 7, &ends, 12, &cuts, 2);
-    fill(&mut ends, BUNDLE, 4, 0);
-    part(b"four tabs between two pieces", 2, &ends, 8, &cuts, 0);
-    part(b"without tabs 0 and 2", 2, &ends, 8, &cuts, 2);
-    part(b"three tabs between two of three", 3, &ends, 6, &cuts, 0);
-}
-
-fn damaged_plans() {
-    let mut ends = [0u16; 8002];
-    let cuts = [0u16, 2, 9];
-    fill(&mut ends, CHAIN, 4001, 4);
-    part(b"an odd number of ends", 5, &ends, 7, &cuts, 0);
-    part(b"1 piece", 1, &ends, 0, &cuts, 0);
-    part(b"an end that is no piece", 3, &ends, 8, &cuts, 0);
-    part(b"1,001 pieces", 1001, &ends, 8, &cuts, 0);
-    part(b"4,001 tabs", 1000, &ends, 8002, &cuts, 0);
-}
-
-fn large_plans() {
-    let mut ends = [0u16; 8000];
-    let cuts = [0u16, 2, 9];
-    fill(&mut ends, SCATTER, 4000, 1000);
-    part(b"1,000 pieces and 4,000 tabs", 1000, &ends, 8000, &cuts, 0);
-    fill(&mut ends, SCATTER, 4000, 999);
-    part(b"one piece left out", 1000, &ends, 8000, &cuts, 0);
-    tab(&mut ends, 7, 2, 2);
-    part(
-        b"tab 7 joins a piece to itself",
-        1000,
-        &ends,
-        8000,
-        &cuts,
-        0,
-    );
-}
-
-fn searches() {
-    let live = [0u8; 6];
-    walk(b"a ring of 6, from piece 0", 6, &[1, 0, 0, 0, 0, 0], &live);
-    walk(b"from pieces 1 and 4", 6, &[0, 1, 0, 0, 1, 0], &live);
-    walk(b"from no piece", 6, &[0, 0, 0, 0, 0, 0], &live);
-    walk(b"not through 1 and 4", 6, &[1, 2, 0, 0, 2, 0], &live);
-    walk(
-        b"without tabs 0 and 3",
-        6,
-        &[1, 0, 0, 0, 0, 0],
-        &[1, 0, 0, 1, 0, 0],
-    );
-}
-
-fn more_searches() {
-    let live = [0u8; 6];
-    walk(b"to piece 3", 6, &[1, 0, 0, 3, 0, 0], &live);
-    walk(b"to piece 3, cut off", 6, &[1, 2, 0, 3, 2, 0], &live);
-    walk(b"one role too few", 6, &[1, 0, 0, 0, 0], &live);
-    walk(
-        b"one mark too few",
-        6,
-        &[1, 0, 0, 0, 0, 0],
-        &[0, 0, 0, 0, 0],
-    );
-    walk(
-        b"nine pieces and space for eight",
-        9,
-        &[1, 0, 0, 0, 0, 0, 0, 0, 0],
-        &live,
-    );
 }
 
 fn main() {
-    rings();
-    paths();
-    stars_and_bundles();
-    damaged_plans();
-    large_plans();
-    searches();
-    more_searches();
+    let mut text = io::buffer();
+    let n = io::read_full(STDIN_FILENO, &mut text);
+    let mut case = Case::new();
+    let mut i = 0;
+    while i < n {
+        case = case.take(text[i]);
+        i += 1;
+    }
 }

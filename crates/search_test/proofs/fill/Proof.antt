@@ -1,23 +1,31 @@
--- `fill` is safe and ends. The loop's invariant: the counter is in its range, and the table keeps its length.
+-- `fill` is safe and ends. The loop's invariant: the place is in its range, and the table keeps its length.
 use Prim.Native.Nat.{_-_, _≤_}
-use mathlib.Core.Path.{_≡_, refl, _∙_}
-use native.Mathlib.Omega.{arith}
+use mathlib.Core.Path.{_≡_}
 use lib.ListN.{length}
 use borrow.Author.Needs.{needs}
 use Rattle.search_test.proofs.fill.Statement.{statement}
 use Rattle.search_test.proofs.fill.Tie as tie
 
 abbrev Inv-loop : tie.InvT-loop
-Inv-loop ends₀ shape tabs pieces i₀ ends i = (i ≤ tabs) × (length ends ≡ length ends₀)
+Inv-loop ends₀ rule i₀ ends i = (i ≤ length ends₀) × (length ends ≡ length ends₀)
 
 abbrev μ-loop : tie.MeasureT-loop
-μ-loop ends₀ shape tabs pieces i₀ ends i = tabs - i
+μ-loop ends₀ rule i₀ ends i = length ends₀ - i
 
 loop-holds : tie.Need-loop-holds Inv-loop μ-loop
 loop-holds c = search needs
 
-shaped-requires : tie.Need-shaped-requires Inv-loop μ-loop
-shaped-requires c κs = search needs
+cast-end : tie.Need-cast-end Inv-loop μ-loop
+cast-end c = search needs
+
+end-requires : tie.Need-end-requires Inv-loop μ-loop
+end-requires c κs = search needs
+
+mul-ends : tie.Need-mul-ends Inv-loop μ-loop
+mul-ends c = search needs
+
+slice-write-ends : tie.Need-slice-write-ends Inv-loop μ-loop
+slice-write-ends c = search needs
 
 add-i : tie.Need-add-i Inv-loop μ-loop
 add-i c = search needs
@@ -41,7 +49,10 @@ fill-spec =
     Inv-loop
     μ-loop
     loop-holds
-    shaped-requires
+    cast-end
+    end-requires
+    mul-ends
+    slice-write-ends
     add-i
     loop-less
     loop-again
