@@ -1,152 +1,132 @@
-// A verdict about a plan that is changed at random.
+// The record of a plan, changed at random.
 use crate::random::below;
-use crate::random::next;
+use crate::random::draw;
+use crate::random::later;
 
-// A verdict about a plan: `length` of the numbers are its list.
-pub struct Change {
-    pub seed: u32,
-    pub vertices: u16,
-    pub kind: u16,
-    pub numbers: [u16; 48],
-    pub length: usize,
+// Ways of changing it, of 10. The first three change one number.
+const NUMBERS: u16 = 3;
+
+const MORE_VERTICES: u16 = 8;
+
+const ILL_FORMED: u16 = 9;
+
+// How many random numbers are drawn: the way, the row, and one or two more.
+pub(crate) fn draws_of(how: u16) -> u16 {
+    if how < NUMBERS { 4 } else { 3 }
 }
 
-impl Change {
-    fn drawn(mut self) -> Change {
-        self.seed = next(self.seed);
-        self
+// The record of a plan with `edges` edges, with one change in a row or from a row on.
+pub(crate) fn changed(record: &mut [u16; 48], ends: &[u16; 48], edges: u16, how: u16, seed: u32) {
+    let x = draw(seed, 2, edges);
+    let third = later(seed, 3);
+    match how {
+        0 | 1 | 2 => number(record, x, below(third, 3), draw(third, 1, 15)),
+        3 | 4 => rows_exchanged(record, x, below(third, 14), edges),
+        5 | 6 => other_end(record, ends, x),
+        7 => steps_moved(record, x, below(third, 2)),
+        _ => {}
     }
+}
 
-    // One change to the record of a plan with `edges` edges.
-    pub(crate) fn changed(self, ends: &[u16; 28], edges: u16) -> Change {
-        let c = self.drawn();
-        let how = below(c.seed, 10);
-        let d = c.drawn();
-        let x = below(d.seed, edges);
-        let f = d.drawn();
-        match how {
-            0 | 1 | 2 => f.drawn().number(x, below(f.seed, 3)),
-            3 | 4 => f.rows_exchanged(x),
-            5 | 6 => f.other_end(x, ends),
-            7 => f.steps_moved(x),
-            8 => f.one_vertex_more(),
-            _ => f.ill_formed(),
+// Another number, of 0 to 15, at one of the three places of row x.
+fn number(record: &mut [u16; 48], x: u16, part: u16, value: u16) {
+    let i = 3 * (x as usize) + (part as usize);
+    if i < 48 {
+        if record[i] != value {
+            record[i] = value;
+        } else if value < 15 {
+            record[i] = value + 1;
         }
     }
+}
 
-    // Another number, of 0 to 15, at one of the three places of row x.
-    fn number(mut self, x: u16, part: u16) -> Change {
-        let i = 3 * (x as usize) + (part as usize);
-        let value = below(self.seed, 15);
-        if i < 48 {
-            if self.numbers[i] == value {
-                self.numbers[i] = value + 1;
-            } else {
-                self.numbers[i] = value;
-            }
-        }
-        self
-    }
-
-    // Row x and a random one exchange their edges and vertices.
-    fn rows_exchanged(mut self, x: u16) -> Change {
+// Rows x and y exchange their edges and vertices, if there is a row y.
+fn rows_exchanged(record: &mut [u16; 48], x: u16, y: u16, edges: u16) {
+    if y < edges {
         let i = 3 * (x as usize);
-        let j = 3 * (below(self.seed, 14) as usize);
-        if i < 45 {
-            if j < self.length {
-                if j < 45 {
-                    let e = self.numbers[i + 1];
-                    let v = self.numbers[i + 2];
-                    self.numbers[i + 1] = self.numbers[j + 1];
-                    self.numbers[i + 2] = self.numbers[j + 2];
-                    self.numbers[j + 1] = e;
-                    self.numbers[j + 2] = v;
-                }
-            }
-        }
-        self
-    }
-
-    // Row x is walked from its other end.
-    fn other_end(mut self, x: u16, ends: &[u16; 28]) -> Change {
-        let k = 3 * (x as usize);
-        if k < 45 {
-            let i = first_end(self.numbers[k + 1]);
-            if i < 27 {
-                if self.numbers[k + 2] == ends[i] {
-                    self.numbers[k + 2] = ends[i + 1];
-                } else {
-                    self.numbers[k + 2] = ends[i];
-                }
-            }
-        }
-        self
-    }
-
-    // From row x on each step is one more, or one less.
-    fn steps_moved(self, x: u16) -> Change {
-        let up = below(self.seed, 2) == 0;
-        let mut c = self;
-        let mut r: usize = x as usize;
-        while r < 14 {
-            c = c.step_moved(3 * r, up);
-            r += 1;
-        }
-        c
-    }
-
-    fn step_moved(mut self, i: usize, up: bool) -> Change {
-        if i < 48 {
-            let step = self.numbers[i];
-            if up {
-                if step < 65535 {
-                    self.numbers[i] = step + 1;
-                }
-            } else if 0 < step {
-                self.numbers[i] = step - 1;
-            }
-        }
-        self
-    }
-
-    fn one_vertex_more(mut self) -> Change {
-        let vertices = self.vertices;
-        if vertices < 9 {
-            self.vertices = vertices + 1;
-        }
-        self
-    }
-
-    // One number less, or another kind.
-    fn ill_formed(mut self) -> Change {
-        let length = self.length;
-        if below(self.seed, 2) == 0 {
-            self.kind = 2;
-            return self;
-        }
-        if 0 < length {
-            self.length = length - 1;
-        }
-        self
-    }
-
-    // A weak list of up to three random numbers, of which the largest is no edge.
-    pub(crate) fn weak_list(self, edges: u16) -> Change {
-        let bound = if edges < 65535 { edges + 1 } else { edges };
-        let a = self.drawn();
-        let b = a.drawn();
-        let c = b.drawn();
-        let mut d = c.drawn();
-        d.kind = 1;
-        d.numbers[0] = below(a.seed, bound);
-        d.numbers[1] = below(b.seed, bound);
-        d.numbers[2] = below(c.seed, bound);
-        d.length = below(d.seed, 4) as usize;
-        d
+        let j = 3 * (y as usize);
+        swap(record, i + 1, j + 1);
+        swap(record, i + 2, j + 2);
     }
 }
 
-// Where the ends of an edge begin.
-fn first_end(e: u16) -> usize {
-    2 * (e as usize)
+fn swap(list: &mut [u16; 48], i: usize, j: usize) {
+    if i < 48 {
+        if j < 48 {
+            let x = list[i];
+            list[i] = list[j];
+            list[j] = x;
+        }
+    }
+}
+
+// Row x is walked from its other end.
+fn other_end(record: &mut [u16; 48], ends: &[u16; 48], x: u16) {
+    let i = 3 * (x as usize) + 1;
+    if i < 47 {
+        record[i + 1] = end_not(ends, record[i], record[i + 1]);
+    }
+}
+
+// The first end of an edge that is not v.
+fn end_not(ends: &[u16; 48], e: u16, v: u16) -> u16 {
+    let i = 2 * (e as usize);
+    if i < 47 {
+        if ends[i] == v {
+            return ends[i + 1];
+        }
+        return ends[i];
+    }
+    v
+}
+
+// From row x on each step is one more, or one less.
+fn steps_moved(record: &mut [u16; 48], x: u16, coin: u16) {
+    let mut i: usize = 3 * (x as usize);
+    while i < 48 {
+        record[i] = moved(record[i], coin);
+        i += 3;
+    }
+}
+
+fn moved(step: u16, coin: u16) -> u16 {
+    if coin == 0 {
+        if step < 65535 {
+            return step + 1;
+        }
+        return step;
+    }
+    if 0 < step { step - 1 } else { step }
+}
+
+// One vertex more.
+pub(crate) fn vertices(vertices: u16, how: u16) -> u16 {
+    if how == MORE_VERTICES {
+        if vertices < 9 {
+            return vertices + 1;
+        }
+    }
+    vertices
+}
+
+// Another kind.
+pub(crate) fn kind(how: u16, seed: u32) -> u16 {
+    if how == ILL_FORMED {
+        if below(seed, 2) == 0 {
+            return 2;
+        }
+    }
+    0
+}
+
+// One number less.
+pub(crate) fn length(length: usize, how: u16, seed: u32) -> usize {
+    if how == ILL_FORMED {
+        if below(seed, 2) != 0 {
+            if 0 < length {
+                return length - 1;
+            }
+        }
+    }
+    length
 }

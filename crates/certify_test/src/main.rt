@@ -2,39 +2,90 @@
 // fingerprints of all answers, and each difference.
 use certify::Finding;
 use certify::Outcome;
-use change::Change;
 use libc::STDOUT_FILENO;
 use plan::Plan;
-use second::Said;
+use random::draw;
+use random::later;
 
 mod random; // random.rt: random numbers
 mod plan; // plan.rt: random plans
-mod change; // change.rt: random changes to verdicts
+mod change; // change.rt: random changes to records
 mod second; // second.rt: the second implementation
 
 // How many plans there are of each shape, and changes to each record.
-const PLANS: u16 = 1250;
+const PLANS: u32 = 1250;
 
 const CHANGES: u16 = 6;
 
 // What stands in the lent rows before a call.
 const UNTOUCHED: u16 = 54321;
 
-fn say(text: &[u8]) {
-    io::write_all(STDOUT_FILENO, text);
+// A run over the plans of all shapes, as far as it has come, is a list of numbers. For one shape: from 0 on the plans that are firm, weak
+// with 0, 1 and 2 edges, and refused; the fingerprints of the verdicts, and of the records and the answers of the check.
+const VERDICTS: usize = 5;
+
+const RECORDS: usize = 6;
+
+// The shape, and the plan of the shape.
+const SHAPE: usize = 7;
+
+const PLAN: usize = 8;
+
+const SEED: usize = 9;
+
+// For all shapes: how often the check gave each of 18 answers, and the differences.
+const ANSWERS: usize = 10;
+
+const DIFFERENCES: usize = 28;
+
+// What differs.
+const VERDICT: u32 = 0;
+
+const TOUCHED: u32 = 1;
+
+const REJECTED: u32 = 2;
+
+const ANSWER: u32 = 3;
+
+// Writes one of the parts of a text, which '|' separates. Each '#' in it stands for the next of the numbers.
+fn say(text: &[u8], part: u32, numbers: &[u32; 32], first: usize) {
+    let mut seen: u32 = 0;
+    let mut n = first;
+    let mut i = 0;
+    while i < text.len() {
+        let b = text[i];
+        if seen == part {
+            n = glyph(b, numbers, n);
+        }
+        seen = passed(b, seen);
+        i += 1;
+    }
+}
+
+// Writes a byte, or a number; where the next number stands.
+fn glyph(b: u8, numbers: &[u32; 32], n: usize) -> usize {
+    if b == b'#' {
+        if n < 32 {
+            number(numbers[n]);
+            return n + 1;
+        }
+    }
+    if b != b'|' {
+        io::write_all(STDOUT_FILENO, &[b]);
+    }
+    n
 }
 
 fn number(x: u32) {
-    say(b" ");
     io::print_decimal(STDOUT_FILENO, x as u64);
 }
 
-// The first n numbers, or all where there are fewer.
-fn front(list: &[u16], n: usize) -> &[u16] {
-    if list.len() < n {
-        return list;
+// How many parts are passed.
+fn passed(b: u8, seen: u32) -> u32 {
+    if b == b'|' {
+        return more(seen);
     }
-    &list[0..n]
+    seen
 }
 
 fn more(x: u32) -> u32 {
@@ -42,6 +93,35 @@ fn more(x: u32) -> u32 {
         return x + 1;
     }
     x
+}
+
+fn counted(run: &mut [u32; 32], i: usize) {
+    if i < 32 {
+        run[i] = more(run[i]);
+    }
+}
+
+// A difference; the first ten are told.
+fn differs(run: &mut [u32; 32], what: u32) {
+    if run[DIFFERENCES] < 10 {
+        say(b"shape #, plan #: ", 0, run, SHAPE);
+        say(
+            b"the verdict\n|rows that are no record are touched\n|the verdict does not pass\n|the answer of the check\n",
+            what,
+            run,
+            0,
+        );
+    }
+    counted(run, DIFFERENCES);
+}
+
+// The first n numbers, or all where there are fewer.
+fn front(list: &[u16; 48], n: usize) -> &[u16] {
+    let all: &[u16] = list;
+    if all.len() < n {
+        return all;
+    }
+    &all[0..n]
 }
 
 // A fingerprint with one number more.
@@ -60,9 +140,9 @@ fn hashed_list(hash: u32, list: &[u16]) -> u32 {
 }
 
 // Whether the numbers from place `start` on are untouched.
-fn kept(rows: &[u16], start: usize) -> bool {
+fn kept(rows: &[u16; 48], start: usize) -> bool {
     let mut i = start;
-    while i < rows.len() {
+    while i < 48 {
         if rows[i] != UNTOUCHED {
             return false;
         }
@@ -72,344 +152,257 @@ fn kept(rows: &[u16], start: usize) -> bool {
 }
 
 // The writer's verdict on a plan, in the second implementation's terms.
-fn written(plan: Plan, rows: &mut [u16]) -> Said {
-    let ends = plan.ends;
+fn written(plan: Plan, ends: &[u16], rows: &mut [u16]) -> [u16; 6] {
     let space = plan.space;
     if rows.len() < space {
-        return second::refused(0, 0);
+        return [second::REFUSED, 0, 0, 0, 0, 0];
     }
-    told(certify::verdict(plan.vertices, front(&ends, plan.length), &mut rows[..space]))
+    told(certify::verdict(plan.vertices, ends, &mut rows[..space]))
 }
 
-fn told(finding: Finding) -> Said {
+fn told(finding: Finding) -> [u16; 6] {
     let outcome = finding.outcome;
     let cut = finding.cut;
     match outcome {
-        Outcome::Refused(answer) => Said {
-            kind: second::REFUSED,
-            number: answer.number,
-            place: answer.place,
-            count: cut.count,
-            first: cut.first,
-            second: cut.second,
-        },
-        Outcome::Weak => second::weak(cut.count, cut.first, cut.second),
-        Outcome::Firm => Said {
-            kind: second::FIRM,
-            number: 0,
-            place: 0,
-            count: cut.count,
-            first: cut.first,
-            second: cut.second,
-        },
+        Outcome::Refused(answer) => [
+            second::REFUSED,
+            answer.number,
+            answer.place,
+            cut.count,
+            cut.first,
+            cut.second,
+        ],
+        Outcome::Weak => [second::WEAK, 0, 0, cut.count, cut.first, cut.second],
+        Outcome::Firm => [second::FIRM, 0, 0, cut.count, cut.first, cut.second],
     }
 }
 
-fn same(a: Said, b: Said) -> bool {
-    if a.kind != b.kind {
-        return false;
+fn same(a: [u16; 6], b: [u16; 6]) -> bool {
+    let mut i: usize = 0;
+    while i < 6 {
+        if a[i] != b[i] {
+            return false;
+        }
+        i += 1;
     }
-    if a.number != b.number {
-        return false;
-    }
-    if a.place != b.place {
-        return false;
-    }
-    if a.count != b.count {
-        return false;
-    }
-    if a.first != b.first {
-        return false;
-    }
-    a.second == b.second
+    true
 }
 
-// A run over the plans of all shapes, as far as it has come.
-struct Run {
-    seed: u32,
-    shape: u8,
-    plan: u16,
-    // For this shape: the plans that are firm, weak with 0, 1 and 2 edges, and refused; the fingerprints of the verdicts, and of the
-    // records and the answers of the check.
-    counts: [u32; 5],
-    verdicts: u32,
-    records: u32,
-    // For all shapes: how often the check gave each answer, and the differences.
-    answers: [u32; 18],
-    differences: u32,
+// Counts a verdict.
+fn noted(run: &mut [u32; 32], verdict: [u16; 6]) {
+    run[VERDICTS] = hashed_list(run[VERDICTS], &verdict);
+    counted(run, column(verdict[0], verdict[3]));
 }
 
-impl Run {
-    fn new() -> Run {
-        Run {
-            seed: 20011,
-            shape: 0,
-            plan: 0,
-            counts: [0; 5],
-            verdicts: 0,
-            records: 0,
-            answers: [0; 18],
-            differences: 0,
-        }
-    }
-
-    // The same, before the plans of another shape.
-    fn begun(mut self, shape: u8) -> Run {
-        self.shape = shape;
-        self.counts = [0; 5];
-        self.verdicts = 0;
-        self.records = 0;
-        self
-    }
-
-    // A difference; the first ten are told.
-    fn differs(mut self, what: &[u8]) -> Run {
-        let differences = self.differences;
-        if differences < 10 {
-            say(b"shape");
-            number(self.shape as u32);
-            say(b", plan");
-            number(self.plan as u32);
-            say(b": ");
-            say(what);
-            say(b"\n");
-        }
-        self.differences = more(differences);
-        self
-    }
-
-    fn counted(mut self, i: usize) -> Run {
-        if i < 5 {
-            self.counts[i] = more(self.counts[i]);
-        }
-        self
-    }
-
-    // One plan: both verdicts, what the writer's claims, and changed verdicts for the check.
-    fn one(self) -> Run {
-        let plan = Plan::of_shape(self.seed, self.shape);
-        let mut rows = [UNTOUCHED; 48];
-        let verdict = written(plan, &mut rows);
-        let ends = plan.ends;
-        let other = second::verdict(plan.vertices, front(&ends, plan.length), plan.space);
-        let mut run = self.noted(verdict);
-        run.seed = plan.seed;
-        if !same(verdict, other) {
-            run = run.differs(b"the verdict");
-        }
-        run = run.followed(plan, verdict, rows);
-        if run.shape == plan::GROWN {
-            let grown = plan.rows;
-            run = run.tried(plan, grown);
-        }
-        run.weak_lists(plan)
-    }
-
-    // Counts a verdict.
-    fn noted(mut self, v: Said) -> Run {
-        let mut h = hashed(self.verdicts, v.kind);
-        h = hashed(h, v.number);
-        h = hashed(h, v.place);
-        h = hashed(h, v.count);
-        h = hashed(h, v.first);
-        self.verdicts = hashed(h, v.second);
-        let kind = v.kind;
-        if kind == second::FIRM {
-            return self.counted(0);
-        }
-        if kind == second::REFUSED {
-            return self.counted(4);
-        }
-        self.counted(1 + (v.count as usize))
-    }
-
-    // The record or the cut passes the check, and the rows that are no record are untouched.
-    fn followed(self, plan: Plan, v: Said, rows: [u16; 48]) -> Run {
-        let kind = v.kind;
-        if kind == second::FIRM {
-            return self.firm(plan, rows);
-        }
-        let mut run = self;
-        if !kept(&rows, 0) {
-            run = run.differs(b"rows are touched");
-        }
-        if kind == second::WEAK {
-            let cut = [v.first, v.second];
-            run = run.passes(plan, 1, front(&cut, v.count as usize));
-        }
-        run
-    }
-
-    fn firm(self, plan: Plan, rows: [u16; 48]) -> Run {
-        let length = 3 * (plan.edges as usize);
-        let mut run = self;
-        if !kept(&rows, length) {
-            run = run.differs(b"numbers behind the record are touched");
-        }
-        run = run.passes(plan, 0, front(&rows, length));
-        run.records = hashed_list(run.records, front(&rows, length));
-        run.tried(plan, rows)
-    }
-
-    // The check answers 0 and 0.
-    fn passes(self, plan: Plan, kind: u16, list: &[u16]) -> Run {
-        let ends = plan.ends;
-        let answer = verify::check(plan.vertices, front(&ends, plan.length), kind, list);
-        if answer.number == 0 {
-            if answer.place == 0 {
-                return self;
-            }
-        }
-        self.differs(b"the verdict does not pass")
-    }
-
-    // A record as it is, and some times with one change.
-    fn tried(self, plan: Plan, rows: [u16; 48]) -> Run {
-        let record = Change {
-            seed: self.seed,
-            vertices: plan.vertices,
-            kind: 0,
-            numbers: rows,
-            length: 3 * (plan.edges as usize),
-        };
-        let mut run = self.checked(plan, record);
-        let mut i: u16 = 0;
-        while i < CHANGES {
-            run = run.tried_changed(plan, record);
-            i += 1;
-        }
-        run
-    }
-
-    fn tried_changed(self, plan: Plan, record: Change) -> Run {
-        let ends = plan.ends;
-        let mut next = record;
-        next.seed = self.seed;
-        self.checked(plan, next.changed(&ends, plan.edges))
-    }
-
-    // Two weak lists at random.
-    fn weak_lists(self, plan: Plan) -> Run {
-        let list = Change {
-            seed: self.seed,
-            vertices: plan.vertices,
-            kind: 1,
-            numbers: [0; 48],
-            length: 0,
-        };
-        let first = list.weak_list(plan.edges);
-        let second = first.weak_list(plan.edges);
-        self.checked(plan, first).checked(plan, second)
-    }
-
-    // The answers of both checks to a verdict.
-    fn checked(mut self, plan: Plan, verdict: Change) -> Run {
-        let ends = plan.ends;
-        let numbers = verdict.numbers;
-        self.seed = verdict.seed;
-        self.compared(
-            verdict.vertices,
-            front(&ends, plan.length),
-            verdict.kind,
-            front(&numbers, verdict.length),
-        )
-    }
-
-    fn compared(self, vertices: u16, ends: &[u16], kind: u16, list: &[u16]) -> Run {
-        let a = verify::check(vertices, ends, kind, list);
-        let b = second::check(vertices, ends, kind, list);
-        let run = self.answered(a.number, a.place);
-        if a.number == b.number {
-            if a.place == b.place {
-                return run;
-            }
-        }
-        run.differs(b"the answer of the check")
-    }
-
-    // Counts an answer of the check.
-    fn answered(mut self, number: u16, place: u16) -> Run {
-        self.records = hashed(hashed(self.records, number), place);
-        let i = number as usize;
-        if i < 18 {
-            self.answers[i] = more(self.answers[i]);
-        }
-        self
-    }
-
-    // All plans of one shape.
-    fn shaped(self, shape: u8) -> Run {
-        let mut run = self.begun(shape);
-        let mut i: u16 = 0;
-        while i < PLANS {
-            run.plan = i;
-            run = run.one();
-            i += 1;
-        }
-        run.shown();
-        run
-    }
-
-    // The line of a shape.
-    fn shown(self) {
-        name(self.shape);
-        say(b": firm");
-        number(self.counts[0]);
-        say(b", weak with 0, 1, 2 tabs");
-        number(self.counts[1]);
-        number(self.counts[2]);
-        number(self.counts[3]);
-        say(b", refused");
-        number(self.counts[4]);
-        say(b"; fingerprints of the verdicts");
-        number(self.verdicts);
-        say(b", of the records and answers");
-        number(self.records);
-        say(b"\n");
-    }
-
-    // The answers of the check.
-    fn listed(self) {
-        say(b"answers of the check to records, changed records and random weak lists\n");
-        let mut i: usize = 0;
-        while i < 18 {
-            self.answer_shown(i);
-            i += 1;
-        }
-        say(b"differences");
-        number(self.differences);
-        say(b"\n");
-    }
-
-    fn answer_shown(self, i: usize) {
-        if i < 18 {
-            number(i as u32);
-            say(b":");
-            number(self.answers[i]);
-            say(b"\n");
-        }
+// Where a verdict of a kind is counted.
+fn column(kind: u16, count: u16) -> usize {
+    match kind {
+        second::FIRM => 0,
+        second::REFUSED => 4,
+        _ => 1 + (count as usize),
     }
 }
 
-fn name(shape: u8) {
-    match shape {
-        plan::DENSE => say(b"few pieces, many tabs"),
-        plan::RING => say(b"rings with doubled sides"),
-        plan::JOINED => say(b"bodies joined at one piece"),
-        plan::PARALLEL => say(b"parallel tabs"),
-        plan::PARTED => say(b"already parted"),
-        plan::GROWN => say(b"grown by ears"),
-        plan::MIXED => say(b"any"),
-        _ => say(b"damaged"),
+// The check answers 0 and 0.
+fn passes(run: &mut [u32; 32], vertices: u16, ends: &[u16], kind: u16, list: &[u16]) {
+    let answer = verify::check(vertices, ends, kind, list);
+    if second::told(answer.number, answer.place) != 0 {
+        differs(run, REJECTED);
     }
+}
+
+// The answers of both checks to a verdict.
+fn compared(run: &mut [u32; 32], vertices: u16, ends: &[u16], kind: u16, list: &[u16]) {
+    let answer = verify::check(vertices, ends, kind, list);
+    answered(run, answer.number, answer.place);
+    if second::told(answer.number, answer.place) != second::check(vertices, ends, kind, list) {
+        differs(run, ANSWER);
+    }
+}
+
+// Counts an answer of the check.
+fn answered(run: &mut [u32; 32], number: u16, place: u16) {
+    run[RECORDS] = hashed(hashed(run[RECORDS], number), place);
+    if number < 18 {
+        counted(run, ANSWERS + (number as usize));
+    }
+}
+
+// One plan: both verdicts, what the writer's claims, and changed verdicts for the check.
+fn one(run: &mut [u32; 32], shape: u8) {
+    let mut ends = [0; 48];
+    let mut grown = [0; 48];
+    let plan = plan::of_shape(run[SEED], shape, &mut ends, &mut grown);
+    run[SEED] = plan.seed;
+    judged(run, plan, &ends);
+    if shape == plan::GROWN {
+        tried(run, plan, &ends, &grown);
+    }
+    weak_list(run, plan, &ends);
+    weak_list(run, plan, &ends);
+}
+
+// Both verdicts on a plan.
+fn judged(run: &mut [u32; 32], plan: Plan, ends: &[u16; 48]) {
+    let mut rows = [UNTOUCHED; 48];
+    let verdict = written(plan, front(ends, plan.length), &mut rows);
+    noted(run, verdict);
+    if !same(
+        verdict,
+        second::verdict(plan.vertices, front(ends, plan.length), plan.space),
+    ) {
+        differs(run, VERDICT);
+    }
+    if verdict[0] == second::FIRM {
+        return firm(run, plan, ends, &rows);
+    }
+    if !kept(&rows, 0) {
+        differs(run, TOUCHED);
+    }
+    if verdict[0] == second::WEAK {
+        weak(run, plan, ends, &verdict);
+    }
+}
+
+// The record passes the check, and the numbers behind it are untouched.
+fn firm(run: &mut [u32; 32], plan: Plan, ends: &[u16; 48], rows: &[u16; 48]) {
+    let length = 3 * (plan.edges as usize);
+    if !kept(rows, length) {
+        differs(run, TOUCHED);
+    }
+    passes(
+        run,
+        plan.vertices,
+        front(ends, plan.length),
+        0,
+        front(rows, length),
+    );
+    run[RECORDS] = hashed_list(run[RECORDS], front(rows, length));
+    tried(run, plan, ends, rows);
+}
+
+// The cut passes the check.
+fn weak(run: &mut [u32; 32], plan: Plan, ends: &[u16; 48], verdict: &[u16; 6]) {
+    let count = verdict[3];
+    let all: &[u16] = verdict;
+    if count < 3 {
+        let end = 4 + (count as usize);
+        passes(
+            run,
+            plan.vertices,
+            front(ends, plan.length),
+            1,
+            &all[4..end],
+        );
+    }
+}
+
+// A record as it is, and some times with one change.
+fn tried(run: &mut [u32; 32], plan: Plan, ends: &[u16; 48], rows: &[u16; 48]) {
+    compared(
+        run,
+        plan.vertices,
+        front(ends, plan.length),
+        0,
+        front(rows, 3 * (plan.edges as usize)),
+    );
+    let mut i: u16 = 0;
+    while i < CHANGES {
+        tried_changed(run, plan, ends, rows);
+        i += 1;
+    }
+}
+
+fn tried_changed(run: &mut [u32; 32], plan: Plan, ends: &[u16; 48], rows: &[u16; 48]) {
+    let seed = run[SEED];
+    let how = draw(seed, 1, 10);
+    let third = later(seed, 3);
+    let mut list = *rows;
+    change::changed(&mut list, ends, plan.edges, how, seed);
+    run[SEED] = later(seed, change::draws_of(how));
+    compared(
+        run,
+        change::vertices(plan.vertices, how),
+        front(ends, plan.length),
+        change::kind(how, third),
+        front(&list, change::length(3 * (plan.edges as usize), how, third)),
+    );
+}
+
+// A weak list of up to three random numbers, of which the largest is no edge.
+fn weak_list(run: &mut [u32; 32], plan: Plan, ends: &[u16; 48]) {
+    let seed = run[SEED];
+    let bound = if plan.edges < 65535 {
+        plan.edges + 1
+    } else {
+        plan.edges
+    };
+    let list = [
+        draw(seed, 1, bound),
+        draw(seed, 2, bound),
+        draw(seed, 3, bound),
+        0,
+    ];
+    let length = draw(seed, 4, 4) as usize;
+    run[SEED] = later(seed, 4);
+    compared(
+        run,
+        plan.vertices,
+        front(ends, plan.length),
+        1,
+        &list[0..length],
+    );
+}
+
+// All plans of one shape, and their line.
+fn shaped(run: &mut [u32; 32], shape: u8) {
+    cleared(run);
+    run[SHAPE] = shape as u32;
+    let mut i: u32 = 0;
+    while i < PLANS {
+        run[PLAN] = i;
+        one(run, shape);
+        i += 1;
+    }
+    shown(run, shape);
+}
+
+fn cleared(run: &mut [u32; 32]) {
+    let mut i: usize = 0;
+    while i < SHAPE {
+        run[i] = 0;
+        i += 1;
+    }
+}
+
+// The line of a shape.
+fn shown(run: &[u32; 32], shape: u8) {
+    say(
+        b"few pieces, many tabs|rings with doubled sides|bodies joined at one piece|parallel tabs|already parted|grown by ears|any|damaged",
+        shape as u32,
+        run,
+        0,
+    );
+    say(
+        b": firm #, weak with 0, 1, 2 tabs # # #, refused #; fingerprints of the verdicts #, of the records and answers #\n",
+        0,
+        run,
+        0,
+    );
 }
 
 fn main() {
-    let mut run = Run::new();
+    let mut run = [0; 32];
+    run[SEED] = 20011;
     let mut shape: u8 = 0;
     while shape < plan::SHAPES {
-        run = run.shaped(shape);
+        shaped(&mut run, shape);
         shape += 1;
     }
-    run.listed();
+    say(
+        b"answers of the check to records, changed records and random weak lists\n 0: #\n 1: #\n 2: #\n 3: #\n 4: #\n 5: #\n 6: #\n 7: #\n 8: #\n 9: #\n 10: #\n 11: #\n 12: #\n 13: #\n 14: #\n 15: #\n 16: #\n 17: #\ndifferences #\n",
+        0,
+        &run,
+        ANSWERS,
+    );
 }

@@ -1,20 +1,8 @@
 // A second, simple implementation of the verdict and of the check, read from document 01 alone: it tries every set of edges, and counts
-// everything anew at each step. It is meant for graphs of at most 16 vertices and 16 edges.
+// everything anew at each step. It is meant for graphs of at most 16 vertices and 16 edges: a set of them is a number with a bit for each.
 
 // No edge, no vertex.
 pub const NONE: u16 = 65535;
-
-pub struct Answer {
-    pub number: u16,
-    pub place: u16,
-}
-
-fn told(number: u16, place: u16) -> Answer {
-    Answer {
-        number: number,
-        place: place,
-    }
-}
 
 pub const FIRM: u16 = 0;
 
@@ -22,47 +10,19 @@ pub const WEAK: u16 = 1;
 
 pub const REFUSED: u16 = 2;
 
-// A verdict: its kind, a refusal's number and place, a weak one's count and edges.
-pub struct Said {
-    pub kind: u16,
-    pub number: u16,
-    pub place: u16,
-    pub count: u16,
-    pub first: u16,
-    pub second: u16,
-}
+// All edges.
+const ALL: u32 = 4294967295;
 
-pub(crate) fn refused(number: u16, place: u16) -> Said {
-    Said {
-        kind: REFUSED,
-        number: number,
-        place: place,
-        count: 0,
-        first: 0,
-        second: 0,
-    }
-}
+// The parts of a row.
+const STEP: usize = 0;
 
-pub(crate) fn weak(count: u16, first: u16, second: u16) -> Said {
-    Said {
-        kind: WEAK,
-        number: 0,
-        place: 0,
-        count: count,
-        first: first,
-        second: second,
-    }
-}
+const EDGE: usize = 1;
 
-pub(crate) fn firm() -> Said {
-    Said {
-        kind: FIRM,
-        number: 0,
-        place: 0,
-        count: 0,
-        first: 0,
-        second: 0,
-    }
+const FROM: usize = 2;
+
+// An answer, as one number.
+pub(crate) fn told(number: u16, place: u16) -> u32 {
+    (number as u32) * 65536 + (place as u32)
 }
 
 // What stands at a place; NONE behind the end.
@@ -73,19 +33,17 @@ fn at(list: &[u16], i: usize) -> u16 {
     NONE
 }
 
-fn left(ends: &[u16], e: u16) -> u16 {
-    at(ends, 2 * (e as usize))
-}
-
-fn right(ends: &[u16], e: u16) -> u16 {
-    at(ends, 2 * (e as usize) + 1)
-}
-
-fn is_end(ends: &[u16], e: u16, v: u16) -> bool {
-    if left(ends, e) == v {
-        return true;
+// The set of one vertex or one edge.
+fn one(x: u16) -> u32 {
+    if x < 16 {
+        return 1 << (x as u32);
     }
-    right(ends, e) == v
+    0
+}
+
+// The two ends of an edge.
+fn both(ends: &[u16], e: u16) -> u32 {
+    one(at(ends, 2 * (e as usize))) | one(at(ends, 2 * (e as usize) + 1))
 }
 
 fn edges_of(ends: &[u16]) -> u16 {
@@ -97,7 +55,7 @@ fn edges_of(ends: &[u16]) -> u16 {
 }
 
 // The plan's own refusal, 1 to 5, or 0.
-fn refusal(vertices: u16, ends: &[u16]) -> Answer {
+fn refusal(vertices: u16, ends: &[u16]) -> u32 {
     if ends.len() % 2 == 1 {
         return told(1, 0);
     }
@@ -114,20 +72,22 @@ fn refusal(vertices: u16, ends: &[u16]) -> Answer {
 }
 
 // 4 or 5 at the first edge that has it, or 0.
-fn misfit(vertices: u16, ends: &[u16]) -> Answer {
+fn misfit(vertices: u16, ends: &[u16]) -> u32 {
     let edges = edges_of(ends);
     let mut e: u16 = 0;
     while e < edges {
-        let number = edge_number(vertices, left(ends, e), right(ends, e));
+        let number = edge_number(vertices, ends, e);
         if number != 0 {
             return told(number, e);
         }
         e += 1;
     }
-    told(0, 0)
+    0
 }
 
-fn edge_number(vertices: u16, a: u16, b: u16) -> u16 {
+fn edge_number(vertices: u16, ends: &[u16], e: u16) -> u16 {
+    let a = at(ends, 2 * (e as usize));
+    let b = at(ends, 2 * (e as usize) + 1);
     if vertices <= a {
         return 4;
     }
@@ -137,142 +97,59 @@ fn edge_number(vertices: u16, a: u16, b: u16) -> u16 {
     if a == b { 5 } else { 0 }
 }
 
-// Marks, for vertices or for edges.
-struct Marks {
-    on: [bool; 16],
-    grown: bool,
-}
-
-impl Marks {
-    fn none() -> Marks {
-        Marks {
-            on: [false; 16],
-            grown: false,
-        }
-    }
-
-    fn all() -> Marks {
-        Marks {
-            on: [true; 16],
-            grown: false,
-        }
-    }
-
-    fn has(self, x: u16) -> bool {
-        let i = x as usize;
-        if i < 16 {
-            return self.on[i];
-        }
-        false
-    }
-
-    fn with(mut self, x: u16) -> Marks {
-        let i = x as usize;
-        if i < 16 {
-            self.on[i] = true;
-            self.grown = true;
-        }
-        self
-    }
-
-    fn without(mut self, x: u16) -> Marks {
-        let i = x as usize;
-        if i < 16 {
-            self.on[i] = false;
-        }
-        self
-    }
-
-    // Both ends of an edge are marked if one is.
-    fn over(self, a: u16, b: u16) -> Marks {
-        if self.has(a) {
-            if self.has(b) {
-                return self;
-            }
-            return self.with(b);
-        }
-        if self.has(b) {
-            return self.with(a);
-        }
-        self
-    }
-
-    // The marks, with nothing said to have grown.
-    fn rested(mut self) -> Marks {
-        self.grown = false;
-        self
-    }
-}
-
-// One pass over the edges that are marked in `live`.
-fn pass(ends: &[u16], live: Marks, marks: Marks) -> Marks {
-    let edges = edges_of(ends);
-    let mut next = marks.rested();
-    let mut e: u16 = 0;
-    while e < edges {
-        if live.has(e) {
-            next = next.over(left(ends, e), right(ends, e));
-        }
-        e += 1;
-    }
-    next
-}
-
-// What is reached from a vertex over these edges: passes until nothing changes, which 16 vertices have after 16.
-fn reached(ends: &[u16], live: Marks, start: u16) -> Marks {
-    let mut marks = Marks::none().with(start);
+// The vertices that are reached from some over these edges, past no barred vertex: passes until nothing changes, which 16 vertices have
+// after 16.
+fn reached(ends: &[u16], live: u32, barred: u32, start: u32) -> u32 {
+    let mut set = start;
     let mut turn: u16 = 0;
     while turn < 16 {
-        marks = pass(ends, live, marks);
-        let grown = marks.grown;
-        if !grown {
-            return marks;
+        let more = pass(ends, live, barred, set);
+        if more == set {
+            return set;
         }
+        set = more;
         turn += 1;
     }
-    marks
+    set
 }
 
-// Whether the graph without the edges a and b is not connected. NONE loses no edge.
-fn parts(vertices: u16, ends: &[u16], a: u16, b: u16) -> bool {
-    let live = Marks::all().without(a).without(b);
-    lacks(reached(ends, live, 0), vertices)
-}
-
-// Whether one of the vertices is not marked.
-fn lacks(marks: Marks, vertices: u16) -> bool {
-    let mut v: u16 = 0;
-    while v < vertices {
-        if !marks.has(v) {
-            return true;
-        }
-        v += 1;
-    }
-    false
-}
-
-// The lowest edge that parts the graph alone, or NONE.
-fn alone(vertices: u16, ends: &[u16]) -> u16 {
+// One pass over the edges.
+fn pass(ends: &[u16], live: u32, barred: u32, start: u32) -> u32 {
     let edges = edges_of(ends);
+    let mut set = start;
     let mut e: u16 = 0;
     while e < edges {
-        if parts(vertices, ends, e, e) {
-            return e;
+        if live & one(e) != 0 {
+            set = crossed(both(ends, e), barred, set);
         }
         e += 1;
     }
-    NONE
+    set
 }
 
-// The lowest edge above a that parts the graph together with a, or NONE.
-fn partner(vertices: u16, ends: &[u16], a: u16) -> u16 {
+// Both ends of an edge are reached if one is.
+fn crossed(both: u32, barred: u32, set: u32) -> u32 {
+    if both & barred != 0 {
+        return set;
+    }
+    if both & set == 0 {
+        return set;
+    }
+    both | set
+}
+
+// Whether the graph without some edges is not connected.
+fn parts(vertices: u16, ends: &[u16], gone: u32) -> bool {
+    u32::count_ones(reached(ends, !gone, 0, one(0))) < (vertices as u32)
+}
+
+// The lowest edge, from e on, that parts the graph together with those that are gone, or NONE.
+fn lowest(vertices: u16, ends: &[u16], gone: u32, e: u16) -> u16 {
     let edges = edges_of(ends);
-    let mut b: u16 = a;
+    let mut b: u16 = e;
     while b < edges {
-        if a < b {
-            if parts(vertices, ends, a, b) {
-                return b;
-            }
+        if parts(vertices, ends, gone | one(b)) {
+            return b;
         }
         b += 1;
     }
@@ -280,44 +157,43 @@ fn partner(vertices: u16, ends: &[u16], a: u16) -> u16 {
 }
 
 // Weak with the lowest pair that parts the graph, or firm.
-fn pair(vertices: u16, ends: &[u16]) -> Said {
+fn pair(vertices: u16, ends: &[u16]) -> [u16; 6] {
     let edges = edges_of(ends);
     let mut a: u16 = 0;
     while a < edges {
-        let b = partner(vertices, ends, a);
+        let b = lowest(vertices, ends, one(a), a + 1);
         if b != NONE {
-            return weak(2, a, b);
+            return [WEAK, 0, 0, 2, a, b];
         }
         a += 1;
     }
-    firm()
+    [FIRM, 0, 0, 0, 0, 0]
 }
 
-// The verdict on a plan, where `space` numbers are lent for the record.
-pub(crate) fn verdict(vertices: u16, ends: &[u16], space: usize) -> Said {
+// The verdict on a plan, where `space` numbers are lent for the record: its kind, a refusal's number and place, a weak one's count and
+// edges.
+pub(crate) fn verdict(vertices: u16, ends: &[u16], space: usize) -> [u16; 6] {
     let own = refusal(vertices, ends);
-    let number = own.number;
-    if number != 0 {
-        return refused(number, own.place);
+    if own != 0 {
+        return [REFUSED, (own / 65536) as u16, (own % 65536) as u16, 0, 0, 0];
     }
     if space < 3 * (edges_of(ends) as usize) {
-        return refused(6, 0);
+        return [REFUSED, 6, 0, 0, 0, 0];
     }
-    if parts(vertices, ends, NONE, NONE) {
-        return weak(0, 0, 0);
+    if parts(vertices, ends, 0) {
+        return [WEAK, 0, 0, 0, 0, 0];
     }
-    let e = alone(vertices, ends);
+    let e = lowest(vertices, ends, 0, 0);
     if e != NONE {
-        return weak(1, e, 0);
+        return [WEAK, 0, 0, 1, e, 0];
     }
     pair(vertices, ends)
 }
 
 // The answer to a verdict.
-pub(crate) fn check(vertices: u16, ends: &[u16], kind: u16, list: &[u16]) -> Answer {
+pub(crate) fn check(vertices: u16, ends: &[u16], kind: u16, list: &[u16]) -> u32 {
     let own = refusal(vertices, ends);
-    let number = own.number;
-    if number != 0 {
+    if own != 0 {
         return own;
     }
     if kind == FIRM {
@@ -329,32 +205,40 @@ pub(crate) fn check(vertices: u16, ends: &[u16], kind: u16, list: &[u16]) -> Ans
     told(9, 0)
 }
 
-fn check_weak(vertices: u16, ends: &[u16], list: &[u16]) -> Answer {
+fn check_weak(vertices: u16, ends: &[u16], list: &[u16]) -> u32 {
     if 2 < list.len() {
         return told(9, 0);
     }
-    let a = at(list, 0);
-    let b = at(list, 1);
-    if 0 < list.len() {
-        if edges_of(ends) <= a {
-            return told(11, 0);
-        }
+    let place = disorder(list, edges_of(ends));
+    if place < 2 {
+        return told(11, place);
     }
-    if 1 < list.len() {
-        if edges_of(ends) <= b {
-            return told(11, 1);
-        }
-        if b <= a {
-            return told(11, 1);
-        }
-    }
-    if parts(vertices, ends, a, b) {
-        return told(0, 0);
+    if parts(vertices, ends, one(at(list, 0)) | one(at(list, 1))) {
+        return 0;
     }
     told(17, 0)
 }
 
-fn check_firm(vertices: u16, ends: &[u16], list: &[u16]) -> Answer {
+// The first place of a list of up to two edges that has none, or not one above the one before; or 2.
+fn disorder(list: &[u16], edges: u16) -> u16 {
+    let a = at(list, 0);
+    let b = at(list, 1);
+    if list.len() < 1 {
+        return 2;
+    }
+    if edges <= a {
+        return 0;
+    }
+    if list.len() < 2 {
+        return 2;
+    }
+    if edges <= b {
+        return 1;
+    }
+    if b <= a { 1 } else { 2 }
+}
+
+fn check_firm(vertices: u16, ends: &[u16], list: &[u16]) -> u32 {
     let edges = edges_of(ends);
     if list.len() != 3 * (edges as usize) {
         return told(9, 0);
@@ -368,30 +252,28 @@ fn check_firm(vertices: u16, ends: &[u16], list: &[u16]) -> Answer {
         r += 1;
     }
     if closes(vertices, ends, list) {
-        return told(0, 0);
+        return 0;
     }
     told(16, 0)
 }
 
-fn step(list: &[u16], r: u16) -> u16 {
-    at(list, 3 * (r as usize))
-}
-
-fn edge(list: &[u16], r: u16) -> u16 {
-    at(list, 3 * (r as usize) + 1)
-}
-
-fn from(list: &[u16], r: u16) -> u16 {
-    at(list, 3 * (r as usize) + 2)
-}
-
-// Where a row leads.
-fn far(ends: &[u16], list: &[u16], r: u16) -> u16 {
-    let e = edge(list, r);
-    if left(ends, e) == from(list, r) {
-        return right(ends, e);
+// One part of a row.
+fn cell(list: &[u16], r: u16, part: usize) -> u16 {
+    if part < 3 {
+        return at(list, 3 * (r as usize) + part);
     }
-    left(ends, e)
+    NONE
+}
+
+// The set of what stands in a part of the rows from `low` to before `high`.
+fn column(list: &[u16], part: usize, low: u16, high: u16) -> u32 {
+    let mut set: u32 = 0;
+    let mut r: u16 = low;
+    while r < high {
+        set = set | one(cell(list, r, part));
+        r += 1;
+    }
+    set
 }
 
 // Whether a row is not the first of its step: its vertex is an inner one.
@@ -399,7 +281,12 @@ fn inner(list: &[u16], r: u16) -> bool {
     if r == 0 {
         return false;
     }
-    step(list, r) == step(list, r - 1)
+    cell(list, r, STEP) == cell(list, r - 1, STEP)
+}
+
+// Where a row leads.
+fn far(ends: &[u16], list: &[u16], r: u16) -> u32 {
+    both(ends, cell(list, r, EDGE)) & !one(cell(list, r, FROM))
 }
 
 // 10 to 15 for row r, or 0; `next` is the row behind it.
@@ -407,10 +294,11 @@ fn row_number(ends: &[u16], list: &[u16], r: u16, next: u16) -> u16 {
     if !counts(list, r) {
         return 10;
     }
-    if edges_of(ends) <= edge(list, r) {
+    let e = cell(list, r, EDGE);
+    if edges_of(ends) <= e {
         return 11;
     }
-    if used(list, r) {
+    if column(list, EDGE, 0, r) & one(e) != 0 {
         return 11;
     }
     if !walks(ends, list, r) {
@@ -424,39 +312,26 @@ fn row_number(ends: &[u16], list: &[u16], r: u16, next: u16) -> u16 {
 
 // Steps count 0, 1, 2 and so on.
 fn counts(list: &[u16], r: u16) -> bool {
-    let s = step(list, r);
+    let s = cell(list, r, STEP);
     if r == 0 {
         return s == 0;
     }
-    if s == step(list, r - 1) {
+    let before = cell(list, r - 1, STEP);
+    if s == before {
         return true;
     }
-    if s == 0 {
-        return false;
-    }
-    s - 1 == step(list, r - 1)
-}
-
-// Whether the edge of row r stands in an earlier row.
-fn used(list: &[u16], r: u16) -> bool {
-    let mut q: u16 = 0;
-    while q < r {
-        if edge(list, q) == edge(list, r) {
-            return true;
-        }
-        q += 1;
-    }
-    false
+    (s as u32) == (before as u32) + 1
 }
 
 // The vertex is an end of the edge, and where the row before led if that is of the same step.
 fn walks(ends: &[u16], list: &[u16], r: u16) -> bool {
-    if !is_end(ends, edge(list, r), from(list, r)) {
+    let from = one(cell(list, r, FROM));
+    if both(ends, cell(list, r, EDGE)) & from == 0 {
         return false;
     }
     if inner(list, r) {
         if 0 < r {
-            return far(ends, list, r - 1) == from(list, r);
+            return far(ends, list, r - 1) == from;
         }
     }
     true
@@ -474,185 +349,105 @@ fn first_row(list: &[u16], r: u16) -> u16 {
     q
 }
 
+// The start and the end of the step that ends with row r.
+fn tips_of(ends: &[u16], list: &[u16], r: u16) -> u32 {
+    one(cell(list, first_row(list, r), FROM)) | far(ends, list, r)
+}
+
 // 13, or 14 and 15, or 0 for the step that ends with row r.
 fn step_number(ends: &[u16], list: &[u16], r: u16, next: u16) -> u16 {
     let b = first_row(list, r);
-    let start = from(list, b);
-    let stop = far(ends, list, r);
-    if step(list, r) < 3 {
-        if is_path(ends, list, b, next, start, stop) {
-            return 0;
+    let fits = inner_fit(ends, list, b, next, tips_of(ends, list, r));
+    if cell(list, r, STEP) < 3 {
+        if fits {
+            return path_number(ends, list, b, tips_of(ends, list, r));
         }
         return 13;
     }
-    if !is_ear(ends, list, b, next, start, stop) {
+    if fits {
+        let start = one(cell(list, b, FROM));
+        return ear_number(ends, column(list, EDGE, 0, b), start, far(ends, list, r));
+    }
+    14
+}
+
+// The inner vertices are no ends of the step, new and all different.
+fn inner_fit(ends: &[u16], list: &[u16], b: u16, next: u16, tips: u32) -> bool {
+    if next <= b {
+        return false;
+    }
+    let inner = column(list, FROM, b + 1, next);
+    if inner & (tips | of_degree(ends, column(list, EDGE, 0, b), 1)) != 0 {
+        return false;
+    }
+    u32::count_ones(inner) == ((next - b - 1) as u32)
+}
+
+// A path between two vertices, the same as those of the step before.
+fn path_number(ends: &[u16], list: &[u16], b: u16, tips: u32) -> u16 {
+    if u32::count_ones(tips) != 2 {
+        return 13;
+    }
+    if b == 0 {
+        return 0;
+    }
+    if tips_of(ends, list, b - 1) == tips {
+        0
+    } else {
+        13
+    }
+}
+
+// A walk between built vertices, back to its start only at a branch. If neither end is a branch, they lie inside different links: no
+// built edges lead from one to the other past no branch.
+fn ear_number(ends: &[u16], built: u32, start: u32, stop: u32) -> u16 {
+    let branches = of_degree(ends, built, 3);
+    let tips = start | stop;
+    if tips & !of_degree(ends, built, 1) != 0 {
         return 14;
     }
-    if one_link(ends, list, b, start, stop) {
+    if tips & branches != 0 {
+        return 0;
+    }
+    if start == stop {
+        return 14;
+    }
+    if reached(ends, built, branches, start) & stop != 0 {
         return 15;
     }
     0
 }
 
-// A path between the same two vertices as the step before.
-fn is_path(ends: &[u16], list: &[u16], b: u16, next: u16, start: u16, stop: u16) -> bool {
-    if start == stop {
-        return false;
-    }
-    if 0 < b {
-        let u = from(list, first_row(list, b - 1));
-        let w = far(ends, list, b - 1);
-        if !same_pair(start, stop, u, w) {
-            return false;
+// The vertices at which n or more of these edges end.
+fn of_degree(ends: &[u16], live: u32, n: u32) -> u32 {
+    let mut set: u32 = 0;
+    let mut v: u16 = 0;
+    while v < 16 {
+        if n <= u32::count_ones(live & edges_at(ends, one(v))) {
+            set = set | one(v);
         }
+        v += 1;
     }
-    inner_fit(ends, list, b, next, start, stop)
+    set
 }
 
-fn same_pair(a: u16, b: u16, u: u16, w: u16) -> bool {
-    if a == u {
-        return b == w;
-    }
-    if a == w {
-        return b == u;
-    }
-    false
-}
-
-// A walk between built vertices over new ones, back to its start only at a branch.
-fn is_ear(ends: &[u16], list: &[u16], b: u16, next: u16, start: u16, stop: u16) -> bool {
-    if degree(ends, list, b, start) == 0 {
-        return false;
-    }
-    if degree(ends, list, b, stop) == 0 {
-        return false;
-    }
-    if start == stop {
-        if degree(ends, list, b, start) < 3 {
-            return false;
+fn edges_at(ends: &[u16], v: u32) -> u32 {
+    let edges = edges_of(ends);
+    let mut set: u32 = 0;
+    let mut e: u16 = 0;
+    while e < edges {
+        if both(ends, e) & v != 0 {
+            set = set | one(e);
         }
+        e += 1;
     }
-    inner_fit(ends, list, b, next, start, stop)
-}
-
-// Whether all inner vertices of the rows from b to before `next` keep the rule.
-fn inner_fit(ends: &[u16], list: &[u16], b: u16, next: u16, start: u16, stop: u16) -> bool {
-    let mut r: u16 = b;
-    while r < next {
-        if inner(list, r) {
-            if !inner_fits(ends, list, b, next, r, start, stop) {
-                return false;
-            }
-        }
-        r += 1;
-    }
-    true
-}
-
-// In the first three steps it is no end of them and in no other place; later it is new and not twice in the step.
-fn inner_fits(
-    ends: &[u16],
-    list: &[u16],
-    b: u16,
-    next: u16,
-    r: u16,
-    start: u16,
-    stop: u16,
-) -> bool {
-    let v = from(list, r);
-    if step(list, r) < 3 {
-        if v == start {
-            return false;
-        }
-        if v == stop {
-            return false;
-        }
-        return !again(list, 0, next, r);
-    }
-    if degree(ends, list, b, v) != 0 {
-        return false;
-    }
-    !again(list, b, next, r)
-}
-
-// Whether the vertex of row r is an inner one of another row from `low` to before `next`.
-fn again(list: &[u16], low: u16, next: u16, r: u16) -> bool {
-    let mut q: u16 = low;
-    while q < next {
-        if q != r {
-            if inner(list, q) {
-                if from(list, q) == from(list, r) {
-                    return true;
-                }
-            }
-        }
-        q += 1;
-    }
-    false
-}
-
-// How many edges of the rows before b end at a vertex; 3 for more.
-fn degree(ends: &[u16], list: &[u16], b: u16, v: u16) -> u16 {
-    let mut n: u16 = 0;
-    let mut q: u16 = 0;
-    while q < b {
-        if is_end(ends, edge(list, q), v) {
-            if n < 3 {
-                n += 1;
-            }
-        }
-        q += 1;
-    }
-    n
-}
-
-// Whether two vertices lie inside one link: neither is a branch, and built edges lead from one to the other past no branch.
-fn one_link(ends: &[u16], list: &[u16], b: u16, start: u16, stop: u16) -> bool {
-    if 2 < degree(ends, list, b, start) {
-        return false;
-    }
-    if 2 < degree(ends, list, b, stop) {
-        return false;
-    }
-    reached(ends, inside_links(ends, list, b), start).has(stop)
-}
-
-// The edges of the rows before b neither of whose ends is a branch.
-fn inside_links(ends: &[u16], list: &[u16], b: u16) -> Marks {
-    let mut live = Marks::none();
-    let mut q: u16 = 0;
-    while q < b {
-        live = inside_link(ends, list, b, edge(list, q), live);
-        q += 1;
-    }
-    live
-}
-
-fn inside_link(ends: &[u16], list: &[u16], b: u16, e: u16, live: Marks) -> Marks {
-    if 2 < degree(ends, list, b, left(ends, e)) {
-        return live;
-    }
-    if 2 < degree(ends, list, b, right(ends, e)) {
-        return live;
-    }
-    live.with(e)
+    set
 }
 
 // Three steps or more, and three edges or more at each vertex.
 fn closes(vertices: u16, ends: &[u16], list: &[u16]) -> bool {
-    let edges = edges_of(ends);
-    if edges == 0 {
+    if column(list, STEP, 0, edges_of(ends)) & one(2) == 0 {
         return false;
     }
-    if step(list, edges - 1) < 2 {
-        return false;
-    }
-    let mut v: u16 = 0;
-    while v < vertices {
-        if degree(ends, list, edges, v) < 3 {
-            return false;
-        }
-        v += 1;
-    }
-    true
+    u32::count_ones(of_degree(ends, ALL, 3)) == (vertices as u32)
 }

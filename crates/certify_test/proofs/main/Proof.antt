@@ -5,13 +5,13 @@ use Rattle.certify_test.proofs.main.Statement.{statement}
 use Rattle.certify_test.proofs.main.Tie as tie
 
 abbrev Inv-loop : tie.InvT-loop
-Inv-loop run₀ shape₀ run shape = shape ≤ 8
+Inv-loop run₀ shape₀ t3 run shape = shape ≤ 8
 
 abbrev μ-loop : tie.MeasureT-loop
-μ-loop run₀ shape₀ run shape = 8 - shape
+μ-loop run₀ shape₀ t3 run shape = 8 - shape
 
-new-requires : tie.Need-new-requires Inv-loop μ-loop
-new-requires c κs = search needs
+array-write-run : tie.Need-array-write-run Inv-loop μ-loop
+array-write-run c = search needs
 
 loop-holds : tie.Need-loop-holds Inv-loop μ-loop
 loop-holds c = search needs
@@ -28,8 +28,11 @@ loop-less c = search needs
 loop-again : tie.Need-loop-again Inv-loop μ-loop
 loop-again c = search needs
 
-listed-requires : tie.Need-listed-requires Inv-loop μ-loop
-listed-requires c κs = search needs
+slice-aggregate-say : tie.Need-slice-aggregate-say Inv-loop μ-loop
+slice-aggregate-say c = search needs
+
+say-requires : tie.Need-say-requires Inv-loop μ-loop
+say-requires c κs = search needs
 
 returns : tie.Need-returns Inv-loop μ-loop
 returns c = search needs
@@ -40,11 +43,12 @@ main-spec =
     (tie.spec
     Inv-loop
     μ-loop
-    new-requires
+    array-write-run
     loop-holds
     shaped-requires
     add-shape
     loop-less
     loop-again
-    listed-requires
+    slice-aggregate-say
+    say-requires
     returns)

@@ -5,17 +5,8 @@ use borrow.Author.Needs.{needs}
 use Rattle.certify_test.proofs.written.Statement.{statement}
 use Rattle.certify_test.proofs.written.Tie as tie
 
-refused-requires : tie.Need-refused-requires
-refused-requires c κs = search needs
-
 returns : tie.Need-returns
 returns c = search needs
-
-slice-aggregate-front : tie.Need-slice-aggregate-front
-slice-aggregate-front c = search needs
-
-front-requires : tie.Need-front-requires
-front-requires c κs = search needs
 
 slice-relend-prefix-verdict : tie.Need-slice-relend-prefix-verdict
 slice-relend-prefix-verdict c = search needs
@@ -39,10 +30,7 @@ pub written-spec : {M : Type 1} → statement M
 written-spec =
     tie.close
     (tie.spec
-    refused-requires
     returns
-    slice-aggregate-front
-    front-requires
     slice-relend-prefix-verdict
     slice-aggregate-verdict
     verdict-requires

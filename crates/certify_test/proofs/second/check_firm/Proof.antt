@@ -52,14 +52,11 @@ loop-again c = search needs
 closes-requires : tie.Need-closes-requires Inv-loop μ-loop
 closes-requires c κs = search needs
 
-told-requires-3 : tie.Need-told-requires-3 Inv-loop μ-loop
-told-requires-3 c κs = search needs
-
 returns-3 : tie.Need-returns-3 Inv-loop μ-loop
 returns-3 c = search needs
 
-told-requires-4 : tie.Need-told-requires-4 Inv-loop μ-loop
-told-requires-4 c κs = search needs
+told-requires-3 : tie.Need-told-requires-3 Inv-loop μ-loop
+told-requires-3 c κs = search needs
 
 returns-4 : tie.Need-returns-4 Inv-loop μ-loop
 returns-4 c = search needs
@@ -84,7 +81,6 @@ check-firm-spec =
     loop-less
     loop-again
     closes-requires
-    told-requires-3
     returns-3
-    told-requires-4
+    told-requires-3
     returns-4)

@@ -16,12 +16,6 @@ edges-of-requires c κs = search needs
 loop-holds : tie.Need-loop-holds Inv-loop μ-loop
 loop-holds c = search needs
 
-left-requires : tie.Need-left-requires Inv-loop μ-loop
-left-requires c κs = search needs
-
-right-requires : tie.Need-right-requires Inv-loop μ-loop
-right-requires c κs = search needs
-
 edge-number-requires : tie.Need-edge-number-requires Inv-loop μ-loop
 edge-number-requires c κs = search needs
 
@@ -40,9 +34,6 @@ loop-less c = search needs
 loop-again : tie.Need-loop-again Inv-loop μ-loop
 loop-again c = search needs
 
-told-requires-2 : tie.Need-told-requires-2 Inv-loop μ-loop
-told-requires-2 c κs = search needs
-
 returns-2 : tie.Need-returns-2 Inv-loop μ-loop
 returns-2 c = search needs
 
@@ -54,13 +45,10 @@ misfit-spec =
     μ-loop
     edges-of-requires
     loop-holds
-    left-requires
-    right-requires
     edge-number-requires
     told-requires
     returns
     add-e
     loop-less
     loop-again
-    told-requires-2
     returns-2)

@@ -16,11 +16,14 @@ edges-of-requires c κs = search needs
 loop-holds : tie.Need-loop-holds Inv-loop μ-loop
 loop-holds c = search needs
 
-partner-requires : tie.Need-partner-requires Inv-loop μ-loop
-partner-requires c κs = search needs
+one-requires : tie.Need-one-requires Inv-loop μ-loop
+one-requires c κs = search needs
 
-weak-requires : tie.Need-weak-requires Inv-loop μ-loop
-weak-requires c κs = search needs
+add-lowest : tie.Need-add-lowest Inv-loop μ-loop
+add-lowest c = search needs
+
+lowest-requires : tie.Need-lowest-requires Inv-loop μ-loop
+lowest-requires c κs = search needs
 
 returns : tie.Need-returns Inv-loop μ-loop
 returns c = search needs
@@ -34,9 +37,6 @@ loop-less c = search needs
 loop-again : tie.Need-loop-again Inv-loop μ-loop
 loop-again c = search needs
 
-firm-requires : tie.Need-firm-requires Inv-loop μ-loop
-firm-requires c κs = search needs
-
 returns-2 : tie.Need-returns-2 Inv-loop μ-loop
 returns-2 c = search needs
 
@@ -48,11 +48,11 @@ pair-spec =
     μ-loop
     edges-of-requires
     loop-holds
-    partner-requires
-    weak-requires
+    one-requires
+    add-lowest
+    lowest-requires
     returns
     add-a
     loop-less
     loop-again
-    firm-requires
     returns-2)

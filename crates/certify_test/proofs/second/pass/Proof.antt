@@ -5,31 +5,25 @@ use Rattle.certify_test.proofs.second.pass.Statement.{statement}
 use Rattle.certify_test.proofs.second.pass.Tie as tie
 
 abbrev Inv-loop : tie.InvT-loop
-Inv-loop ends live edges next₀ e₀ next e = e ≤ edges
+Inv-loop ends live barred start edges set₀ e₀ set e = e ≤ edges
 
 abbrev μ-loop : tie.MeasureT-loop
-μ-loop ends live edges next₀ e₀ next e = edges - e
+μ-loop ends live barred start edges set₀ e₀ set e = edges - e
 
 edges-of-requires : tie.Need-edges-of-requires Inv-loop μ-loop
 edges-of-requires c κs = search needs
 
-rested-requires : tie.Need-rested-requires Inv-loop μ-loop
-rested-requires c κs = search needs
-
 loop-holds : tie.Need-loop-holds Inv-loop μ-loop
 loop-holds c = search needs
 
-has-requires : tie.Need-has-requires Inv-loop μ-loop
-has-requires c κs = search needs
+one-requires : tie.Need-one-requires Inv-loop μ-loop
+one-requires c κs = search needs
 
-left-requires : tie.Need-left-requires Inv-loop μ-loop
-left-requires c κs = search needs
+both-requires : tie.Need-both-requires Inv-loop μ-loop
+both-requires c κs = search needs
 
-right-requires : tie.Need-right-requires Inv-loop μ-loop
-right-requires c κs = search needs
-
-over-requires : tie.Need-over-requires Inv-loop μ-loop
-over-requires c κs = search needs
+crossed-requires : tie.Need-crossed-requires Inv-loop μ-loop
+crossed-requires c κs = search needs
 
 add-e : tie.Need-add-e Inv-loop μ-loop
 add-e c = search needs
@@ -50,12 +44,10 @@ pass-spec =
     Inv-loop
     μ-loop
     edges-of-requires
-    rested-requires
     loop-holds
-    has-requires
-    left-requires
-    right-requires
-    over-requires
+    one-requires
+    both-requires
+    crossed-requires
     add-e
     loop-less
     loop-again

@@ -5,16 +5,10 @@ use Rattle.certify_test.proofs.second.reached.Statement.{statement}
 use Rattle.certify_test.proofs.second.reached.Tie as tie
 
 abbrev Inv-loop : tie.InvT-loop
-Inv-loop ends live start marks₀ turn₀ marks turn = turn ≤ 16
+Inv-loop ends live barred start set₀ turn₀ set turn = turn ≤ 16
 
 abbrev μ-loop : tie.MeasureT-loop
-μ-loop ends live start marks₀ turn₀ marks turn = 16 - turn
-
-none-requires : tie.Need-none-requires Inv-loop μ-loop
-none-requires c κs = search needs
-
-with-requires : tie.Need-with-requires Inv-loop μ-loop
-with-requires c κs = search needs
+μ-loop ends live barred start set₀ turn₀ set turn = 16 - turn
 
 loop-holds : tie.Need-loop-holds Inv-loop μ-loop
 loop-holds c = search needs
@@ -43,8 +37,6 @@ reached-spec =
     (tie.spec
     Inv-loop
     μ-loop
-    none-requires
-    with-requires
     loop-holds
     pass-requires
     returns
