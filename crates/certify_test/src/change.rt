@@ -3,20 +3,59 @@ use crate::random::below;
 use crate::random::draw;
 use crate::random::later;
 
-// Ways of changing it, of 10. The first three change one number.
-const NUMBERS: u16 = 3;
-
-const MORE_VERTICES: u16 = 8;
-
-const ILL_FORMED: u16 = 9;
+// There are ten ways of changing it; this is none.
+pub const NONE: u16 = 10;
 
 // How many random numbers are drawn: the way, the row, and one or two more.
 pub(crate) fn draws_of(how: u16) -> u16 {
-    if how < NUMBERS { 4 } else { 3 }
+    if how < 3 {
+        return 4;
+    }
+    if how < NONE { 3 } else { 0 }
+}
+
+// What else a verdict has: the number of vertices, its kind, and how many numbers are its list.
+pub struct Sizes {
+    pub vertices: u16,
+    pub kind: u16,
+    pub length: usize,
+}
+
+// Those of a plan's record, or one vertex more, another kind, or one number less.
+pub(crate) fn resized(vertices: u16, edges: u16, how: u16, seed: u32) -> Sizes {
+    let mut sizes = Sizes {
+        vertices: vertices,
+        kind: 0,
+        length: 3 * (edges as usize),
+    };
+    if how == 8 {
+        if vertices < 9 {
+            sizes.vertices = vertices + 1;
+        }
+    }
+    if how == 9 {
+        if below(seed, 2) == 0 {
+            sizes.kind = 2;
+        } else if 0 < edges {
+            sizes.length = 3 * (edges as usize) - 1;
+        }
+    }
+    sizes
+}
+
+// Three random numbers, of which the largest is no edge.
+pub(crate) fn weak_list(edges: u16, seed: u32) -> [u16; 4] {
+    let bound = if edges < 65535 { edges + 1 } else { edges };
+    [
+        draw(seed, 1, bound),
+        draw(seed, 2, bound),
+        draw(seed, 3, bound),
+        0,
+    ]
 }
 
 // The record of a plan with `edges` edges, with one change in a row or from a row on.
-pub(crate) fn changed(record: &mut [u16; 48], ends: &[u16; 48], edges: u16, how: u16, seed: u32) {
+pub(crate) fn changed(record: &mut [u16; 48], ends: &[u16], edges: u16, how: u16, seed: u32) {
     let x = draw(seed, 2, edges);
     let third = later(seed, 3);
     match how {
@@ -61,7 +100,7 @@ fn swap(list: &mut [u16; 48], i: usize, j: usize) {
 }
 
 // Row x is walked from its other end.
-fn other_end(record: &mut [u16; 48], ends: &[u16; 48], x: u16) {
+fn other_end(record: &mut [u16; 48], ends: &[u16], x: u16) {
     let i = 3 * (x as usize) + 1;
     if i < 47 {
         record[i + 1] = end_not(ends, record[i], record[i + 1]);
@@ -69,9 +108,9 @@ fn other_end(record: &mut [u16; 48], ends: &[u16; 48], x: u16) {
 }
 
 // The first end of an edge that is not v.
-fn end_not(ends: &[u16; 48], e: u16, v: u16) -> u16 {
+fn end_not(ends: &[u16], e: u16, v: u16) -> u16 {
     let i = 2 * (e as usize);
-    if i < 47 {
+    if i + 1 < ends.len() {
         if ends[i] == v {
             return ends[i + 1];
         }
@@ -97,36 +136,4 @@ fn moved(step: u16, coin: u16) -> u16 {
         return step;
     }
     if 0 < step { step - 1 } else { step }
-}
-
-// One vertex more.
-pub(crate) fn vertices(vertices: u16, how: u16) -> u16 {
-    if how == MORE_VERTICES {
-        if vertices < 9 {
-            return vertices + 1;
-        }
-    }
-    vertices
-}
-
-// Another kind.
-pub(crate) fn kind(how: u16, seed: u32) -> u16 {
-    if how == ILL_FORMED {
-        if below(seed, 2) == 0 {
-            return 2;
-        }
-    }
-    0
-}
-
-// One number less.
-pub(crate) fn length(length: usize, how: u16, seed: u32) -> usize {
-    if how == ILL_FORMED {
-        if below(seed, 2) != 0 {
-            if 0 < length {
-                return length - 1;
-            }
-        }
-    }
-    length
 }

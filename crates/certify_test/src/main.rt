@@ -38,14 +38,16 @@ const ANSWERS: usize = 10;
 
 const DIFFERENCES: usize = 28;
 
-// What differs.
-const VERDICT: u32 = 0;
+// What differs, if anything.
+const NOTHING: u32 = 0;
 
-const TOUCHED: u32 = 1;
+const VERDICT: u32 = 1;
 
-const REJECTED: u32 = 2;
+const TOUCHED: u32 = 2;
 
-const ANSWER: u32 = 3;
+const REJECTED: u32 = 3;
+
+const ANSWER: u32 = 4;
 
 // Writes one of the parts of a text, which '|' separates. Each '#' in it stands for the next of the numbers.
 fn say(text: &[u8], part: u32, numbers: &[u32; 32], first: usize) {
@@ -101,12 +103,15 @@ fn counted(run: &mut [u32; 32], i: usize) {
     }
 }
 
-// A difference; the first ten are told.
+// A difference, if there is one; the first ten are told.
 fn differs(run: &mut [u32; 32], what: u32) {
+    if what == NOTHING {
+        return;
+    }
     if run[DIFFERENCES] < 10 {
-        say(b"shape #, plan #: ", 0, run, SHAPE);
+        say(b"shape #, plan #", 0, run, SHAPE);
         say(
-            b"the verdict\n|rows that are no record are touched\n|the verdict does not pass\n|the answer of the check\n",
+            b"|: the verdict\n|: rows that are no record are touched\n|: the verdict does not pass\n|: the answer of the check\n",
             what,
             run,
             0,
@@ -203,14 +208,6 @@ fn column(kind: u16, count: u16) -> usize {
     }
 }
 
-// The check answers 0 and 0.
-fn passes(run: &mut [u32; 32], vertices: u16, ends: &[u16], kind: u16, list: &[u16]) {
-    let answer = verify::check(vertices, ends, kind, list);
-    if second::told(answer.number, answer.place) != 0 {
-        differs(run, REJECTED);
-    }
-}
-
 // The answers of both checks to a verdict.
 fn compared(run: &mut [u32; 32], vertices: u16, ends: &[u16], kind: u16, list: &[u16]) {
     let answer = verify::check(vertices, ends, kind, list);
@@ -228,130 +225,110 @@ fn answered(run: &mut [u32; 32], number: u16, place: u16) {
     }
 }
 
-// One plan: both verdicts, what the writer's claims, and changed verdicts for the check.
+// One plan.
 fn one(run: &mut [u32; 32], shape: u8) {
     let mut ends = [0; 48];
     let mut grown = [0; 48];
     let plan = plan::of_shape(run[SEED], shape, &mut ends, &mut grown);
     run[SEED] = plan.seed;
-    judged(run, plan, &ends);
+    tested(run, shape, plan, front(&ends, plan.length), &grown);
+}
+
+// Both verdicts on a plan, what the writer's claims, and changed verdicts for the check.
+fn tested(run: &mut [u32; 32], shape: u8, plan: Plan, ends: &[u16], grown: &[u16; 48]) {
+    judged(run, plan, ends);
     if shape == plan::GROWN {
-        tried(run, plan, &ends, &grown);
+        tried(run, plan, ends, grown);
     }
-    weak_list(run, plan, &ends);
-    weak_list(run, plan, &ends);
+    tried_weak(run, plan, ends);
+    tried_weak(run, plan, ends);
 }
 
-// Both verdicts on a plan.
-fn judged(run: &mut [u32; 32], plan: Plan, ends: &[u16; 48]) {
+fn judged(run: &mut [u32; 32], plan: Plan, ends: &[u16]) {
     let mut rows = [UNTOUCHED; 48];
-    let verdict = written(plan, front(ends, plan.length), &mut rows);
+    let verdict = written(plan, ends, &mut rows);
     noted(run, verdict);
-    if !same(
-        verdict,
-        second::verdict(plan.vertices, front(ends, plan.length), plan.space),
-    ) {
-        differs(run, VERDICT);
-    }
+    differs(run, fault(plan, ends, verdict, &rows));
     if verdict[0] == second::FIRM {
-        return firm(run, plan, ends, &rows);
-    }
-    if !kept(&rows, 0) {
-        differs(run, TOUCHED);
-    }
-    if verdict[0] == second::WEAK {
-        weak(run, plan, ends, &verdict);
+        run[RECORDS] = hashed_list(run[RECORDS], front(&rows, 3 * (plan.edges as usize)));
+        tried(run, plan, ends, &rows);
     }
 }
 
-// The record passes the check, and the numbers behind it are untouched.
-fn firm(run: &mut [u32; 32], plan: Plan, ends: &[u16; 48], rows: &[u16; 48]) {
-    let length = 3 * (plan.edges as usize);
+// Whether the verdict is another, rows that are no record are touched, or the check does not pass it.
+fn fault(plan: Plan, ends: &[u16], verdict: [u16; 6], rows: &[u16; 48]) -> u32 {
+    if !same(verdict, second::verdict(plan.vertices, ends, plan.space)) {
+        return VERDICT;
+    }
+    let length = if verdict[0] == second::FIRM {
+        3 * (plan.edges as usize)
+    } else {
+        0
+    };
     if !kept(rows, length) {
-        differs(run, TOUCHED);
+        return TOUCHED;
     }
-    passes(
-        run,
-        plan.vertices,
-        front(ends, plan.length),
-        0,
-        front(rows, length),
-    );
-    run[RECORDS] = hashed_list(run[RECORDS], front(rows, length));
-    tried(run, plan, ends, rows);
+    if passes(plan.vertices, ends, &verdict, front(rows, length)) {
+        return NOTHING;
+    }
+    REJECTED
 }
 
-// The cut passes the check.
-fn weak(run: &mut [u32; 32], plan: Plan, ends: &[u16; 48], verdict: &[u16; 6]) {
+// The check answers 0 and 0 to the record or the cut.
+fn passes(vertices: u16, ends: &[u16], verdict: &[u16; 6], record: &[u16]) -> bool {
+    let kind = verdict[0];
     let count = verdict[3];
-    let all: &[u16] = verdict;
-    if count < 3 {
-        let end = 4 + (count as usize);
-        passes(
-            run,
-            plan.vertices,
-            front(ends, plan.length),
-            1,
-            &all[4..end],
-        );
+    if kind == second::FIRM {
+        return accepted(vertices, ends, kind, record);
     }
+    let all: &[u16] = verdict;
+    if kind == second::WEAK {
+        if count < 3 {
+            let end = 4 + (count as usize);
+            return accepted(vertices, ends, kind, &all[4..end]);
+        }
+    }
+    kind == second::REFUSED
+}
+
+fn accepted(vertices: u16, ends: &[u16], kind: u16, list: &[u16]) -> bool {
+    let answer = verify::check(vertices, ends, kind, list);
+    second::told(answer.number, answer.place) == 0
 }
 
 // A record as it is, and some times with one change.
-fn tried(run: &mut [u32; 32], plan: Plan, ends: &[u16; 48], rows: &[u16; 48]) {
-    compared(
-        run,
-        plan.vertices,
-        front(ends, plan.length),
-        0,
-        front(rows, 3 * (plan.edges as usize)),
-    );
+fn tried(run: &mut [u32; 32], plan: Plan, ends: &[u16], rows: &[u16; 48]) {
+    let mut how = change::NONE;
     let mut i: u16 = 0;
-    while i < CHANGES {
-        tried_changed(run, plan, ends, rows);
+    while i <= CHANGES {
+        tried_changed(run, plan, ends, rows, how);
+        how = draw(run[SEED], 1, 10);
         i += 1;
     }
 }
 
-fn tried_changed(run: &mut [u32; 32], plan: Plan, ends: &[u16; 48], rows: &[u16; 48]) {
+fn tried_changed(run: &mut [u32; 32], plan: Plan, ends: &[u16], rows: &[u16; 48], how: u16) {
     let seed = run[SEED];
-    let how = draw(seed, 1, 10);
-    let third = later(seed, 3);
     let mut list = *rows;
     change::changed(&mut list, ends, plan.edges, how, seed);
     run[SEED] = later(seed, change::draws_of(how));
+    let sizes = change::resized(plan.vertices, plan.edges, how, later(seed, 3));
     compared(
         run,
-        change::vertices(plan.vertices, how),
-        front(ends, plan.length),
-        change::kind(how, third),
-        front(&list, change::length(3 * (plan.edges as usize), how, third)),
+        sizes.vertices,
+        ends,
+        sizes.kind,
+        front(&list, sizes.length),
     );
 }
 
 // A weak list of up to three random numbers, of which the largest is no edge.
-fn weak_list(run: &mut [u32; 32], plan: Plan, ends: &[u16; 48]) {
+fn tried_weak(run: &mut [u32; 32], plan: Plan, ends: &[u16]) {
     let seed = run[SEED];
-    let bound = if plan.edges < 65535 {
-        plan.edges + 1
-    } else {
-        plan.edges
-    };
-    let list = [
-        draw(seed, 1, bound),
-        draw(seed, 2, bound),
-        draw(seed, 3, bound),
-        0,
-    ];
+    let list = change::weak_list(plan.edges, seed);
     let length = draw(seed, 4, 4) as usize;
     run[SEED] = later(seed, 4);
-    compared(
-        run,
-        plan.vertices,
-        front(ends, plan.length),
-        1,
-        &list[0..length],
-    );
+    compared(run, plan.vertices, ends, second::WEAK, &list[0..length]);
 }
 
 // All plans of one shape, and their line.

@@ -103,29 +103,32 @@ const COUNTED: [u16; 48] = [
 // A random plan of a shape: its edges are made, then vertices and edges are numbered anew. `rows` are those of its walks.
 pub(crate) fn of_shape(seed: u32, shape: u8, ends: &mut [u16; 48], rows: &mut [u16; 48]) -> Plan {
     let mut made = [0; 48];
-    let turned = begun(&mut made, shape, seed);
-    let vertices = made[VERTICES];
-    let edges = made[EDGES];
-    renamed(&mut made, vertices, turned);
-    let named = later(turned, vertices);
-    let mut places = COUNTED;
-    let moved = shuffled(&mut places, edges, named);
-    placed(&made, &places, ends);
-    listed(&made, &places, rows);
-    let plan = handed(vertices, edges, next(moved));
+    let named = begun(&mut made, shape, seed);
+    let plan = settled(&made, named, ends, rows);
     if shape == DAMAGED {
         return damaged(plan, ends);
     }
     plan
 }
 
-// The edges of a shape, numbered as they are made. The seed comes back as it is then.
+// The edges of a shape, with their vertices numbered anew. The seed comes back as it is then.
 fn begun(made: &mut [u16; 48], shape: u8, seed: u32) -> u32 {
     let vertices = vertices_of(shape, next(seed));
     made[VERTICES] = vertices;
     let border = border_of(shape, vertices, later(seed, 2));
     let third = later(seed, 3);
-    filled(made, shape, border, turns_of(shape, vertices, third), third)
+    let turned = filled(made, shape, border, turns_of(shape, vertices, third), third);
+    let grown = made[VERTICES];
+    renamed(made, grown, turned)
+}
+
+// The edges at their new places, and the rows of the walks.
+fn settled(made: &[u16; 48], seed: u32, ends: &mut [u16; 48], rows: &mut [u16; 48]) -> Plan {
+    let mut places = COUNTED;
+    let moved = shuffled(&mut places, made[EDGES], seed);
+    placed(made, &places, ends);
+    listed(made, &places, rows);
+    handed(made[VERTICES], made[EDGES], next(moved))
 }
 
 fn vertices_of(shape: u8, seed: u32) -> u16 {
@@ -202,36 +205,37 @@ fn around(i: u16, vertices: u16) -> u16 {
 // One edge between two random vertices, or some, if they differ and the shape allows it.
 fn pair(made: &mut [u16; 48], shape: u8, border: u16, vertices: u16, seed: u32) {
     let a = draw(seed, 1, vertices);
-    let b = draw(seed, 2, vertices);
+    let b = allowed(shape, a, draw(seed, 2, vertices), border);
+    let count = if shape == PARALLEL {
+        1 + draw(seed, 3, 4)
+    } else {
+        1
+    };
+    bundle(made, a, b, count);
+}
+
+// b, or what the shape has an edge from a lead to instead: the border where that stands between a and b; a itself, for no edge, where
+// one of a and b is above the border and the other is not.
+fn allowed(shape: u8, a: u16, b: u16, border: u16) -> u16 {
     match shape {
-        PARALLEL => bundle(made, a, b, 1 + draw(seed, 3, 4)),
-        JOINED => walk(made, a, this_side(a, b, border), 0),
-        PARTED => walk(made, a, same_side(a, b, border), 0),
-        _ => walk(made, a, b, 0),
+        JOINED => between(a, b, border),
+        PARTED => if (a <= border) == (b <= border) { b } else { a },
+        _ => b,
     }
 }
 
-// b, or the border where that stands between a and b.
-fn this_side(a: u16, b: u16, border: u16) -> u16 {
-    if a < border {
-        if border < b {
-            return border;
-        }
-    }
-    if b < border {
-        if border < a {
-            return border;
-        }
-    }
-    b
-}
-
-// b, or a where one of them is above the border and the other is not.
-fn same_side(a: u16, b: u16, border: u16) -> u16 {
-    if (a <= border) == (b <= border) {
+fn between(a: u16, b: u16, border: u16) -> u16 {
+    if a == border {
         return b;
     }
-    a
+    if b == border {
+        return b;
+    }
+    if (a < border) == (b < border) {
+        b
+    } else {
+        border
+    }
 }
 
 // Some edges from a to b.
@@ -262,23 +266,19 @@ fn ear(made: &mut [u16; 48], i: u16, vertices: u16, seed: u32) {
 
 // A walk from a to b over some new vertices, where there is room and it is no single edge from a vertex to itself.
 fn walk(made: &mut [u16; 48], a: u16, b: u16, inner: u16) {
-    let edges = made[EDGES];
-    let vertices = made[VERTICES];
+    if fits(made[VERTICES], made[EDGES], a, b, inner) {
+        over(made, a, b, inner);
+    }
+}
+
+fn fits(vertices: u16, edges: u16, a: u16, b: u16, inner: u16) -> bool {
     if inner == 0 {
-        if a != b {
-            onto(made, a, b);
-        }
-        return;
+        return a != b;
     }
-    if edges < MAX_EDGES {
-        if inner < MAX_EDGES - edges {
-            if vertices < 8 {
-                if inner < 8 - vertices {
-                    over(made, a, b, inner);
-                }
-            }
-        }
+    if 7 < (vertices as usize) + (inner as usize) {
+        return false;
     }
+    (edges as usize) + (inner as usize) < 14
 }
 
 fn over(made: &mut [u16; 48], a: u16, b: u16, inner: u16) {
@@ -322,8 +322,8 @@ fn edge(made: &mut [u16; 48], a: u16, b: u16) {
     }
 }
 
-// Each vertex changes its number with a random one.
-fn renamed(made: &mut [u16; 48], vertices: u16, seed: u32) {
+// Each vertex changes its number with a random one. The seed comes back as it is then.
+fn renamed(made: &mut [u16; 48], vertices: u16, seed: u32) -> u32 {
     let mut s = seed;
     let mut v: u16 = 0;
     while v < vertices {
@@ -331,6 +331,7 @@ fn renamed(made: &mut [u16; 48], vertices: u16, seed: u32) {
         exchanged(made, v, below(s, vertices));
         v += 1;
     }
+    s
 }
 
 // The numbers a and b are exchanged in the first part of a list.
@@ -358,28 +359,22 @@ fn shuffled(places: &mut [u16; 48], edges: u16, seed: u32) -> u32 {
     let mut s = seed;
     let mut e: u16 = 0;
     while e < edges {
-        moved(places, e, draw(s, 1, edges));
+        moved(places, e, draw(s, 1, edges), draw(s, 2, 2));
         s = later(s, 2);
-        flipped(places, e, below(s, 2));
         e += 1;
     }
     s
 }
 
-// Edges d and e change their places.
-fn moved(places: &mut [u16; 48], d: u16, e: u16) {
+// Edges d and e change their places, and then d its ends, where the coin is 0.
+fn moved(places: &mut [u16; 48], d: u16, e: u16, coin: u16) {
     if d < MAX_EDGES {
         if e < MAX_EDGES {
             exchanged(places, 2 * d, 2 * e);
             exchanged(places, 2 * d + 1, 2 * e + 1);
-        }
-    }
-}
-
-fn flipped(places: &mut [u16; 48], e: u16, coin: u16) {
-    if coin == 0 {
-        if e < MAX_EDGES {
-            exchanged(places, 2 * e, 2 * e + 1);
+            if coin == 0 {
+                exchanged(places, 2 * d, 2 * d + 1);
+            }
         }
     }
 }
@@ -436,19 +431,19 @@ fn handed(vertices: u16, edges: u16, seed: u32) -> Plan {
 // One damage, or two.
 fn damaged(plan: Plan, ends: &mut [u16; 48]) -> Plan {
     let how = draw(plan.seed, 1, 7);
-    let mut damaged = plan;
-    damaged.seed = later(plan.seed, 2);
-    match how {
-        3 => put(ends, below(damaged.seed, 28), plan.vertices),
-        4 => end_twice(ends, below(damaged.seed, MAX_EDGES)),
-        5 => {
-            put(ends, below(damaged.seed, 28), plan.vertices);
-            damaged.seed = next(damaged.seed);
-            end_twice(ends, below(damaged.seed, MAX_EDGES));
-        }
-        _ => {}
+    let second = later(plan.seed, 2);
+    if how == 3 {
+        put(ends, below(second, 28), plan.vertices);
     }
-    resized(damaged, how)
+    if how == 4 {
+        end_twice(ends, below(second, MAX_EDGES));
+    }
+    if how == 5 {
+        put(ends, below(second, 28), plan.vertices);
+        end_twice(ends, draw(second, 1, MAX_EDGES));
+        return resized(plan, how, next(second));
+    }
+    resized(plan, how, second)
 }
 
 fn end_twice(ends: &mut [u16; 48], e: u16) {
@@ -459,7 +454,8 @@ fn end_twice(ends: &mut [u16; 48], e: u16) {
 }
 
 // One end less, another number of vertices, or too little space.
-fn resized(mut plan: Plan, how: u16) -> Plan {
+fn resized(mut plan: Plan, how: u16, seed: u32) -> Plan {
+    plan.seed = seed;
     let length = plan.length;
     let space = 3 * (plan.edges as usize);
     match how {
@@ -467,7 +463,7 @@ fn resized(mut plan: Plan, how: u16) -> Plan {
             plan.length = length - 1;
         },
         1 => {
-            plan.vertices = below(plan.seed, 2);
+            plan.vertices = below(seed, 2);
         }
         2 => {
             plan.vertices = 1001;

@@ -276,12 +276,17 @@ fn column(list: &[u16], part: usize, low: u16, high: u16) -> u32 {
     set
 }
 
+// How many steps the rows before row r have.
+fn begun(list: &[u16], r: u16) -> u32 {
+    if r == 0 {
+        return 0;
+    }
+    (cell(list, r - 1, STEP) as u32) + 1
+}
+
 // Whether a row is not the first of its step: its vertex is an inner one.
 fn inner(list: &[u16], r: u16) -> bool {
-    if r == 0 {
-        return false;
-    }
-    cell(list, r, STEP) == cell(list, r - 1, STEP)
+    (cell(list, r, STEP) as u32) + 1 == begun(list, r)
 }
 
 // Where a row leads.
@@ -312,15 +317,10 @@ fn row_number(ends: &[u16], list: &[u16], r: u16, next: u16) -> u16 {
 
 // Steps count 0, 1, 2 and so on.
 fn counts(list: &[u16], r: u16) -> bool {
-    let s = cell(list, r, STEP);
-    if r == 0 {
-        return s == 0;
-    }
-    let before = cell(list, r - 1, STEP);
-    if s == before {
+    if inner(list, r) {
         return true;
     }
-    (s as u32) == (before as u32) + 1
+    (cell(list, r, STEP) as u32) == begun(list, r)
 }
 
 // The vertex is an end of the edge, and where the row before led if that is of the same step.

@@ -5,31 +5,22 @@ use Rattle.certify_test.proofs.tried.Statement.{statement}
 use Rattle.certify_test.proofs.tried.Tie as tie
 
 abbrev Inv-loop : tie.InvT-loop
-Inv-loop run₀ plan ends rows i₀ run i = i ≤ 6
+Inv-loop run₀ plan ends rows how₀ i₀ run how i = i ≤ 7
 
 abbrev μ-loop : tie.MeasureT-loop
-μ-loop run₀ plan ends rows i₀ run i = 6 - i
-
-front-requires : tie.Need-front-requires Inv-loop μ-loop
-front-requires c κs = search needs
-
-cast-front : tie.Need-cast-front Inv-loop μ-loop
-cast-front c = search needs
-
-mul-front : tie.Need-mul-front Inv-loop μ-loop
-mul-front c = search needs
-
-front-requires-2 : tie.Need-front-requires-2 Inv-loop μ-loop
-front-requires-2 c κs = search needs
-
-compared-requires : tie.Need-compared-requires Inv-loop μ-loop
-compared-requires c κs = search needs
+μ-loop run₀ plan ends rows how₀ i₀ run how i = 7 - i
 
 loop-holds : tie.Need-loop-holds Inv-loop μ-loop
 loop-holds c = search needs
 
 tried-changed-requires : tie.Need-tried-changed-requires Inv-loop μ-loop
 tried-changed-requires c κs = search needs
+
+element-copy-out-draw : tie.Need-element-copy-out-draw Inv-loop μ-loop
+element-copy-out-draw c = search needs
+
+draw-requires : tie.Need-draw-requires Inv-loop μ-loop
+draw-requires c κs = search needs
 
 add-i : tie.Need-add-i Inv-loop μ-loop
 add-i c = search needs
@@ -49,13 +40,10 @@ tried-spec =
     (tie.spec
     Inv-loop
     μ-loop
-    front-requires
-    cast-front
-    mul-front
-    front-requires-2
-    compared-requires
     loop-holds
     tried-changed-requires
+    element-copy-out-draw
+    draw-requires
     add-i
     loop-less
     loop-again
