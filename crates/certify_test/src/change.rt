@@ -1,4 +1,5 @@
 // The record of a plan, changed at random.
+use crate::plan::get;
 use crate::random::below;
 use crate::random::draw;
 use crate::random::later;
@@ -55,56 +56,68 @@ pub(crate) fn weak_list(edges: u16, seed: u32) -> [u16; 4] {
 }
 
 // The record of a plan with `edges` edges, with one change in a row or from a row on.
-pub(crate) fn changed(record: &mut [u16; 48], ends: &[u16], edges: u16, how: u16, seed: u32) {
+pub(crate) fn changed(
+    record: &[u16; 48],
+    ends: &[u16],
+    edges: u16,
+    how: u16,
+    seed: u32,
+    list: &mut [u16; 48],
+) {
+    let mut i: usize = 0;
+    while i < 48 {
+        list[i] = entry(record, ends, edges, how, seed, i);
+        i += 1;
+    }
+}
+
+// What stands at place i then.
+fn entry(record: &[u16; 48], ends: &[u16], edges: u16, how: u16, seed: u32, i: usize) -> u16 {
     let x = draw(seed, 2, edges);
     let third = later(seed, 3);
     match how {
-        0 | 1 | 2 => number(record, x, below(third, 3), draw(third, 1, 15)),
-        3 | 4 => rows_exchanged(record, x, below(third, 14), edges),
-        5 | 6 => other_end(record, ends, x),
-        7 => steps_moved(record, x, below(third, 2)),
-        _ => {}
+        0 | 1 | 2 => number(get(record, i), i, x, below(third, 3), draw(third, 1, 15)),
+        3 | 4 => get(record, exchanged(i, x, below(third, 14), edges)),
+        5 | 6 => other_end(record, ends, i, x),
+        7 => step(get(record, i), i, x, below(third, 2)),
+        _ => get(record, i),
     }
 }
 
 // Another number, of 0 to 15, at one of the three places of row x.
-fn number(record: &mut [u16; 48], x: u16, part: u16, value: u16) {
-    let i = 3 * (x as usize) + (part as usize);
-    if i < 48 {
-        if record[i] != value {
-            record[i] = value;
-        } else if value < 15 {
-            record[i] = value + 1;
-        }
+fn number(old: u16, i: usize, x: u16, part: u16, value: u16) -> u16 {
+    if i != 3 * (x as usize) + (part as usize) {
+        return old;
     }
+    if old != value {
+        return value;
+    }
+    if value < 15 { value + 1 } else { 0 }
 }
 
-// Rows x and y exchange their edges and vertices, if there is a row y.
-fn rows_exchanged(record: &mut [u16; 48], x: u16, y: u16, edges: u16) {
-    if y < edges {
-        let i = 3 * (x as usize);
-        let j = 3 * (y as usize);
-        swap(record, i + 1, j + 1);
-        swap(record, i + 2, j + 2);
+// Rows x and y exchange their edges and vertices, if there is a row y: where the number at place i comes from.
+fn exchanged(i: usize, x: u16, y: u16, edges: u16) -> usize {
+    if edges <= y {
+        return i;
     }
-}
-
-fn swap(list: &mut [u16; 48], i: usize, j: usize) {
-    if i < 48 {
-        if j < 48 {
-            let x = list[i];
-            list[i] = list[j];
-            list[j] = x;
-        }
+    if i % 3 == 0 {
+        return i;
     }
+    if i / 3 == (x as usize) {
+        return 3 * (y as usize) + i % 3;
+    }
+    if i / 3 == (y as usize) {
+        return 3 * (x as usize) + i % 3;
+    }
+    i
 }
 
 // Row x is walked from its other end.
-fn other_end(record: &mut [u16; 48], ends: &[u16], x: u16) {
-    let i = 3 * (x as usize) + 1;
-    if i < 47 {
-        record[i + 1] = end_not(ends, record[i], record[i + 1]);
+fn other_end(record: &[u16; 48], ends: &[u16], i: usize, x: u16) -> u16 {
+    if i == 3 * (x as usize) + 2 {
+        return end_not(ends, get(record, i - 1), get(record, i));
     }
+    get(record, i)
 }
 
 // The first end of an edge that is not v.
@@ -120,20 +133,15 @@ fn end_not(ends: &[u16], e: u16, v: u16) -> u16 {
 }
 
 // From row x on each step is one more, or one less.
-fn steps_moved(record: &mut [u16; 48], x: u16, coin: u16) {
-    let mut i: usize = 3 * (x as usize);
-    while i < 48 {
-        record[i] = moved(record[i], coin);
-        i += 3;
+fn step(old: u16, i: usize, x: u16, coin: u16) -> u16 {
+    if i % 3 != 0 {
+        return old;
     }
-}
-
-fn moved(step: u16, coin: u16) -> u16 {
+    if i < 3 * (x as usize) {
+        return old;
+    }
     if coin == 0 {
-        if step < 65535 {
-            return step + 1;
-        }
-        return step;
+        return if old < 65535 { old + 1 } else { old };
     }
-    if 0 < step { step - 1 } else { step }
+    if 0 < old { old - 1 } else { old }
 }

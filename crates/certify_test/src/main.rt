@@ -109,12 +109,11 @@ fn differs(run: &mut [u32; 32], what: u32) {
         return;
     }
     if run[DIFFERENCES] < 10 {
-        say(b"shape #, plan #", 0, run, SHAPE);
         say(
-            b"|: the verdict\n|: rows that are no record are touched\n|: the verdict does not pass\n|: the answer of the check\n",
+            b"|shape #, plan #: the verdict\n|shape #, plan #: rows that are no record are touched\n|shape #, plan #: the verdict does not pass\n|shape #, plan #: the answer of the check\n",
             what,
             run,
-            0,
+            SHAPE,
         );
     }
     counted(run, DIFFERENCES);
@@ -250,9 +249,14 @@ fn judged(run: &mut [u32; 32], plan: Plan, ends: &[u16]) {
     noted(run, verdict);
     differs(run, fault(plan, ends, verdict, &rows));
     if verdict[0] == second::FIRM {
-        run[RECORDS] = hashed_list(run[RECORDS], front(&rows, 3 * (plan.edges as usize)));
-        tried(run, plan, ends, &rows);
+        firm(run, plan, ends, &rows);
     }
+}
+
+// A record of the writer.
+fn firm(run: &mut [u32; 32], plan: Plan, ends: &[u16], rows: &[u16; 48]) {
+    run[RECORDS] = hashed_list(run[RECORDS], front(rows, 3 * (plan.edges as usize)));
+    tried(run, plan, ends, rows);
 }
 
 // Whether the verdict is another, rows that are no record are touched, or the check does not pass it.
@@ -309,8 +313,8 @@ fn tried(run: &mut [u32; 32], plan: Plan, ends: &[u16], rows: &[u16; 48]) {
 
 fn tried_changed(run: &mut [u32; 32], plan: Plan, ends: &[u16], rows: &[u16; 48], how: u16) {
     let seed = run[SEED];
-    let mut list = *rows;
-    change::changed(&mut list, ends, plan.edges, how, seed);
+    let mut list = [0; 48];
+    change::changed(rows, ends, plan.edges, how, seed, &mut list);
     run[SEED] = later(seed, change::draws_of(how));
     let sizes = change::resized(plan.vertices, plan.edges, how, later(seed, 3));
     compared(

@@ -314,10 +314,10 @@ fn onto(made: &mut [u16; 48], a: u16, b: u16) {
 fn edge(made: &mut [u16; 48], a: u16, b: u16) {
     let e = made[EDGES];
     if e < MAX_EDGES {
-        let i = 2 * (e as usize);
-        made[i] = a;
-        made[i + 1] = b;
-        made[STEPS + (e as usize)] = made[STEP];
+        let step = made[STEP];
+        put(made, 2 * (e as usize), a);
+        put(made, 2 * (e as usize) + 1, b);
+        put(made, STEPS + (e as usize), step);
         made[EDGES] = e + 1;
     }
 }
@@ -383,16 +383,26 @@ fn moved(places: &mut [u16; 48], d: u16, e: u16, coin: u16) {
 fn placed(made: &[u16; 48], places: &[u16; 48], ends: &mut [u16; 48]) {
     let mut i: usize = 0;
     while i < STEPS {
-        put(ends, places[i], made[i]);
+        put(ends, wide(places[i]), made[i]);
         i += 1;
     }
 }
 
-fn put(list: &mut [u16; 48], place: u16, x: u16) {
-    let i = place as usize;
+fn wide(place: u16) -> usize {
+    place as usize
+}
+
+fn put(list: &mut [u16; 48], i: usize, x: u16) {
     if i < 48 {
         list[i] = x;
     }
+}
+
+pub(crate) fn get(list: &[u16; 48], i: usize) -> u16 {
+    if i < 48 {
+        return list[i];
+    }
+    0
 }
 
 // The rows of the walks.
@@ -407,14 +417,14 @@ fn listed(made: &[u16; 48], places: &[u16; 48], rows: &mut [u16; 48]) {
 // One number of a row: its step, its edge, or the vertex that it starts from.
 fn entry(made: &[u16; 48], places: &[u16; 48], i: usize) -> u16 {
     let r = i / 3;
-    if r < 14 {
-        match i % 3 {
-            0 => return made[STEPS + r],
-            1 => return places[2 * r] / 2,
-            _ => return made[2 * r],
-        }
+    if 13 < r {
+        return 0;
     }
-    0
+    match i % 3 {
+        0 => get(made, STEPS + r),
+        1 => get(places, 2 * r) / 2,
+        _ => get(made, 2 * r),
+    }
 }
 
 // Whole, with up to four numbers more than the record needs.
@@ -433,13 +443,13 @@ fn damaged(plan: Plan, ends: &mut [u16; 48]) -> Plan {
     let how = draw(plan.seed, 1, 7);
     let second = later(plan.seed, 2);
     if how == 3 {
-        put(ends, below(second, 28), plan.vertices);
+        put(ends, wide(below(second, 28)), plan.vertices);
     }
     if how == 4 {
         end_twice(ends, below(second, MAX_EDGES));
     }
     if how == 5 {
-        put(ends, below(second, 28), plan.vertices);
+        put(ends, wide(below(second, 28)), plan.vertices);
         end_twice(ends, draw(second, 1, MAX_EDGES));
         return resized(plan, how, next(second));
     }
@@ -448,9 +458,8 @@ fn damaged(plan: Plan, ends: &mut [u16; 48]) -> Plan {
 
 fn end_twice(ends: &mut [u16; 48], e: u16) {
     let i = 2 * (e as usize);
-    if i < 47 {
-        ends[i + 1] = ends[i];
-    }
+    let a = get(ends, i);
+    put(ends, i + 1, a);
 }
 
 // One end less, another number of vertices, or too little space.

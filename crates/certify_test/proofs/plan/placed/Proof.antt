@@ -13,17 +13,20 @@ abbrev μ-loop : tie.MeasureT-loop
 loop-holds : tie.Need-loop-holds Inv-loop μ-loop
 loop-holds c = search needs
 
+mul-wide : tie.Need-mul-wide Inv-loop μ-loop
+mul-wide c = search needs
+
+element-copy-out-wide : tie.Need-element-copy-out-wide Inv-loop μ-loop
+element-copy-out-wide c = search needs
+
+wide-requires : tie.Need-wide-requires Inv-loop μ-loop
+wide-requires c κs = search needs
+
 mul-put : tie.Need-mul-put Inv-loop μ-loop
 mul-put c = search needs
 
 element-copy-out-put : tie.Need-element-copy-out-put Inv-loop μ-loop
 element-copy-out-put c = search needs
-
-mul-put-2 : tie.Need-mul-put-2 Inv-loop μ-loop
-mul-put-2 c = search needs
-
-element-copy-out-put-2 : tie.Need-element-copy-out-put-2 Inv-loop μ-loop
-element-copy-out-put-2 c = search needs
 
 put-requires : tie.Need-put-requires Inv-loop μ-loop
 put-requires c κs = search needs
@@ -47,10 +50,11 @@ placed-spec =
     Inv-loop
     μ-loop
     loop-holds
+    mul-wide
+    element-copy-out-wide
+    wide-requires
     mul-put
     element-copy-out-put
-    mul-put-2
-    element-copy-out-put-2
     put-requires
     add-i
     loop-less
