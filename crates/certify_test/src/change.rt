@@ -3,6 +3,7 @@ use crate::plan::get;
 use crate::random::below;
 use crate::random::draw;
 use crate::random::later;
+use crate::second::at;
 
 // There are ten ways of changing it; this is none.
 pub const NONE: u16 = 10;
@@ -123,13 +124,11 @@ fn other_end(record: &[u16; 48], ends: &[u16], i: usize, x: u16) -> u16 {
 // The first end of an edge that is not v.
 fn end_not(ends: &[u16], e: u16, v: u16) -> u16 {
     let i = 2 * (e as usize);
-    if i + 1 < ends.len() {
-        if ends[i] == v {
-            return ends[i + 1];
-        }
-        return ends[i];
+    let first = at(ends, i);
+    if first == v {
+        return at(ends, i + 1);
     }
-    v
+    first
 }
 
 // From row x on each step is one more, or one less.

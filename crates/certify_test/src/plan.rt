@@ -313,11 +313,12 @@ fn onto(made: &mut [u16; 48], a: u16, b: u16) {
 // One more edge from a to b, where there is room.
 fn edge(made: &mut [u16; 48], a: u16, b: u16) {
     let e = made[EDGES];
+    let step = made[STEP];
     if e < MAX_EDGES {
-        let step = made[STEP];
-        put(made, 2 * (e as usize), a);
-        put(made, 2 * (e as usize) + 1, b);
-        put(made, STEPS + (e as usize), step);
+        let i = e as usize;
+        put(made, i + i, a);
+        put(made, i + i + 1, b);
+        put(made, STEPS + i, step);
         made[EDGES] = e + 1;
     }
 }
@@ -442,18 +443,24 @@ fn handed(vertices: u16, edges: u16, seed: u32) -> Plan {
 fn damaged(plan: Plan, ends: &mut [u16; 48]) -> Plan {
     let how = draw(plan.seed, 1, 7);
     let second = later(plan.seed, 2);
-    if how == 3 {
-        put(ends, wide(below(second, 28)), plan.vertices);
-    }
-    if how == 4 {
-        end_twice(ends, below(second, MAX_EDGES));
-    }
+    spoiled(ends, how, plan.vertices, second);
     if how == 5 {
-        put(ends, wide(below(second, 28)), plan.vertices);
-        end_twice(ends, draw(second, 1, MAX_EDGES));
         return resized(plan, how, next(second));
     }
     resized(plan, how, second)
+}
+
+// An end is too large, or an edge has the same vertex twice.
+fn spoiled(ends: &mut [u16; 48], how: u16, vertices: u16, seed: u32) {
+    match how {
+        3 => put(ends, wide(below(seed, 28)), vertices),
+        4 => end_twice(ends, below(seed, MAX_EDGES)),
+        5 => {
+            put(ends, wide(below(seed, 28)), vertices);
+            end_twice(ends, draw(seed, 1, MAX_EDGES));
+        }
+        _ => {}
+    }
 }
 
 fn end_twice(ends: &mut [u16; 48], e: u16) {

@@ -26,7 +26,7 @@ pub(crate) fn told(number: u16, place: u16) -> u32 {
 }
 
 // What stands at a place; NONE behind the end.
-fn at(list: &[u16], i: usize) -> u16 {
+pub(crate) fn at(list: &[u16], i: usize) -> u16 {
     if i < list.len() {
         return list[i];
     }
