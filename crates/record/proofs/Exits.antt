@@ -1,26 +1,31 @@
 -- What the search for a goal leaves: a way up from the goal to a start. And where such a way leads.
 use mathlib.Core.Path.{_≡_, refl, sym, ap, _∙_, subst}
-use mathlib.Core.List.{List, List·Memᴰ as In, List·Memᴰ·head as first, List·Memᴰ·tail as later, List·Memᴰ·not-nil as not-in}
-use mathlib.Core.Bool.{cond}
-use Prim.Native.Nat.{ℕ, _+_, _-_, _*_, _/_, _≤_, _<_}
-use lib.Dec.{eqb}
+use mathlib.Core.List.{List, List·Memᴰ as In, List·Memᴰ·head as first, List·Memᴰ·tail as later, List·Memᴰ·not-nil as not-in, List·Memᴰ·cases-cons as in-cons}
+use mathlib.Core.Logic.{_⊎_, inl, inr}
+use Prim.Native.Nat.{ℕ, _-_, _*_, _≤_, _<_}
 use native.Mathlib.Omega.{arith}
+use native.Mathlib.Decide.{ℕ-discrete}
 use lib.ListN.{length, getD}
+use denote.Enum.Declared.{tagOf}
 use Rattle.connectivity.specs.Graph.{Graph, Joins, graphOf, always}
-use Rattle.connectivity.specs.Walk.{Leg, Walk, far, froms, inner, edgesOf}
+use Rattle.connectivity.specs.Reach.{Through, stay, leave}
+use Rattle.connectivity.specs.Walk.{Leg, Walk, froms, inner, edgesOf}
 use Rattle.connectivity.specs.Admission.{Answer, Admitted, limits}
-use Rattle.connectivity.proofs.Reach.{joins-sym}
-use Rattle.connectivity.proofs.Legs.{far-is}
-use Rattle.graph.specs.Admission.{lent}
-use Rattle.search.specs.Search.{Live, Pass, Start, Goal, Reached, Tree, Found, Whole, Stopped, enough}
+use Rattle.connectivity.proofs.Reach.{joins-sym, joins-vertex}
+use Rattle.search.specs.Search.{Live, Pass, Start, Goal, Marked, Reached, Tree, Found, Whole, Stopped, Answered}
+use Rattle.search.specs.declared.Explored.{Explored}
+use Rattle.search.specs.declared.Explored.the-variants.{Refused, Seen, Met}
+use Rattle.search.proofs.Explored as explored
 use Rattle.search.proofs.Climb as climbs
 use Rattle.search.proofs.Climb.{Climb, top, up}
 use Rattle.search.proofs.Outcomes.{enough-room}
-use Rattle.search.proofs.Leads.{joins-edge, joins-below}
+use Rattle.search.proofs.Leads.{vertex-below, joins-edge}
 use Rattle.search.proofs.Tally.{tally-le}
 use Rattle.record.specs.Step as paths
-use Rattle.record.specs.Step.{Path}
-use Rattle.record.specs.Growth.{Exiting, Exited, Rooting}
+use Rattle.record.specs.Step.{Path, Climbing}
+use Rattle.record.specs.Opening.{Toward}
+use Rattle.record.specs.Growth as ear
+use Rattle.record.specs.Growth.{Filled, EarRole, Outside, Crosses, Exiting, Exited}
 
 -- A climb.
 
@@ -69,12 +74,42 @@ module _ {g : Graph} {live pass start : ℕ → Type 0} {n : ℕ} {marks order :
 few-edges : {n : ℕ} {ends : List ℕ} → Admitted limits n ends → (e u v : ℕ) → Joins (graphOf n always ends) e u v → e < 65534
 few-edges {n} {ends} a e u v j = omega (arith, a .edges, joins-edge n ends e u v j)
 
-module _ {n : ℕ} {ends : List ℕ} (a : Admitted limits n ends) (roles dead : List ℕ) {marks₀ order₀ marks order : List ℕ} {count : ℕ}
-    (f : Found (graphOf n always ends) (Live dead) (Pass roles) (Start roles) n marks₀ order₀ marks order count) where
-  pub count-most : count ≤ n
-  count-most = omega (arith, f .counted, tally-le marks n)
+-- a way by other rules for the edges and the vertices
+pub through-edges : {g : Graph} {live more pass wide : ℕ → Type 0} → ((e u v : ℕ) → Joins g e u v → live e → more e)
+    → ((e u v : ℕ) → Joins g e u v → pass u → wide u) → {u v : ℕ} → Through g live pass u v → Through g more wide u v
+through-edges f h stay = stay
+through-edges f h (leave {u} {v} e l p j r) = leave e (f e u v j l) (h e u v j p) j (through-edges f h r)
 
-  pub exited : Stopped (Goal roles) order count → Exited n ends roles dead marks (getD order (count - 1) 0)
+-- what the roles say
+module _ {n : ℕ} {degrees marks roles : List ℕ} (r : Filled (EarRole degrees marks) n roles) (v : ℕ) (l : v < n) where
+  start-of : Marked marks v → Start roles v
+  start-of m = elim (r .at v l) [ ear.start h q ↦ q | ear.new h d q ↦ absurd (h m) | ear.goal h d q ↦ absurd (h m) ]
+
+  of-start : Start roles v → Marked marks v
+  of-start s = elim (r .at v l) [ ear.start h q ↦ h | ear.new h d q ↦ absurd (omega (arith, s, q)) | ear.goal h d q ↦ absurd (omega (arith, s, q)) ]
+
+  pass-of : Crosses degrees marks v → Pass roles v
+  pass-of x = elim (r .at v l) [
+    | ear.start h q ↦ omega (arith, q)
+    | ear.new h d q ↦ omega (arith, q)
+    | ear.goal h d q ↦ absurd (elim x [ inl m ↦ h m | inr z ↦ omega (arith, z, d) ])
+  ]
+
+  of-zero : getD roles v 0 ≡ 0 → (Marked marks v → ⊥) × (getD degrees v 0 ≡ 0)
+  of-zero s = elim (r .at v l) [ ear.start h q ↦ absurd (omega (arith, s, q)) | ear.new h d q ↦ (h, d) | ear.goal h d q ↦ absurd (omega (arith, s, q)) ]
+
+  goal-of : Outside degrees marks v → Goal roles v
+  goal-of o = elim (r .at v l) [ ear.start h q ↦ absurd (o .0 h) | ear.new h d q ↦ absurd (omega (arith, d, o .1)) | ear.goal h d q ↦ omega (arith, q) ]
+
+  of-goal : Goal roles v → Outside degrees marks v
+  of-goal s = elim (r .at v l) [ ear.start h q ↦ absurd (omega (arith, s, q)) | ear.new h d q ↦ absurd (omega (arith, s, q)) | ear.goal h d q ↦ (h, d) ]
+
+module _ {n : ℕ} {ends degrees marks roles : List ℕ} (a : Admitted limits n ends) (dead : List ℕ) (r : Filled (EarRole degrees marks) n roles)
+    {first₀ order₀ first order : List ℕ} {count : ℕ} (f : Found (graphOf n always ends) (Live dead) (Pass roles) (Start roles) n first₀ order₀ first order count) where
+  pub count-most : count ≤ n
+  count-most = omega (arith, f .counted, tally-le first n)
+
+  pub exited : Stopped (Goal roles) order count → Exited n ends degrees marks dead first (getD order (count - 1) 0)
   exited s =
       let t = f .tree in
       let k : count - 1 < count = omega (arith, s .some) in
@@ -83,30 +118,40 @@ module _ {n : ℕ} {ends : List ℕ} (a : Admitted limits n ends) (roles dead : 
       let begins = climbs.climb-start t (c .2) in
       record {
         below = t .valid (count - 1) k;
-        goal = s .met;
+        goal = of-goal r _ (t .valid (count - 1) k) (s .met);
         from = getD order (c .1) 0;
         from-below = t .valid (c .1) low;
-        from-start = begins;
+        from-start = of-start r _ (t .valid (c .1) low) begins;
         top = t .roots (getD order (c .1) 0) (t .valid (c .1) low) begins;
         legs = c .0;
         path = climb-path t (c .2) k;
         walk = climb-walk t (c .2) (λ h. omega (arith, s .met, h));
         once = climbs.climb-once t (c .2) k;
-        through = λ v i. let p = climb-inner t (few-edges a) (c .2) k v i in (p .0, omega (arith, p .1, p .2));
+        through = λ v i. let p = climb-inner t (few-edges a) (c .2) k v i in let z = of-zero r v (p .0) (omega (arith, p .1, p .2)) in (p .0, z .0, z .1);
         live = λ e i. climb-live t (c .2) i;
         short = omega (arith, climb-short t (c .2), count-most);
       }
 
   -- it sees a goal
-  pub not-whole : {room : ℕ} → Exiting n ends roles dead room
-      → Whole (graphOf n always ends) (Live dead) (Pass roles) (Start roles) (Goal roles) n marks order count → ⊥
-  not-whole e w = e .some (λ v l h s. let k = f .tree .listed v l (w .whole v l s) in w .plain (k .0) (k .1) (subst (Goal roles) (sym (k .2)) h))
+  not-whole : {room : ℕ} → Exiting n ends degrees marks dead room
+      → Whole (graphOf n always ends) (Live dead) (Pass roles) (Start roles) (Goal roles) n first order count → ⊥
+  not-whole e w = e .some (λ v l h s.
+      let x = f .tree .listed v l (w .whole v l (record {
+        root = s .root;
+        below = s .below;
+        is-start = start-of r (s .root) (s .below) (s .is-start);
+        way = through-edges (λ y u z j q. q) (λ y u z j q. pass-of r u (vertex-below n ends u (joins-vertex j)) q) (s .way);
+      })) in
+      w .plain (x .0) (x .1) (subst (Goal roles) (sym (x .2)) (goal-of r v l h)))
 
--- and is not refused
-pub not-refused : {n : ℕ} {ends : List ℕ} (roles dead marks order : List ℕ) → Admitted limits n ends → n ≤ length roles → length ends / 2 ≤ length dead
-    → n ≤ length marks → n ≤ length order
-    → ((lent n ends (enough n ends roles dead marks order)) .number ≡ 0 → ⊥) → ⊥
-not-refused {n} {ends} roles dead marks order a r d m o h = h (ap (λ (x : Answer). x .number) (enough-room n ends roles dead marks order a (r, (d, (m, o)))))
+-- and so does not end in any other way
+module _ {n room : ℕ} {ends degrees marks roles dead : List ℕ} (e : Exiting n ends degrees marks dead room) (r : Filled (EarRole degrees marks) n roles) where
+  pub must-meet : (first₀ order₀ first order : List ℕ) → n ≤ length roles → n ≤ length first₀ → n ≤ length order₀ → (found : Explored)
+      → Answered n ends roles dead first₀ order₀ first order found → (tagOf explored.the-type found ≡ 0) ⊎ (tagOf explored.the-type found ≡ 1) → ⊥
+  must-meet first₀ order₀ now order l f o (Refused answer) h k =
+      h .0 .0 (ap (λ (x : Answer). x .number) (enough-room n ends roles dead first₀ order₀ (e .admitted) (l, (e .dead-room, (f, o)))))
+  must-meet first₀ order₀ now order l f o (Seen count) h k = not-whole (e .admitted) dead r (h .1) e (h .2)
+  must-meet first₀ order₀ now order l f o (Met count) h k = elim k [ inl p ↦ omega (arith, p) | inr p ↦ omega (arith, p) ]
 
 -- A way up.
 
@@ -117,60 +162,40 @@ module _ {n : ℕ} {ends marks : List ℕ} where
   path-apart a (paths.up m j p) h (first q) = omega (arith, rw q at h, few-edges a _ _ _ j)
   path-apart a (paths.up m j p) h (later i) = path-apart a p h i
 
--- what is left of a way up to `stop`
-pub record UpFrom (n : ℕ) (ends marks : List ℕ) (stop at most : ℕ) : Type 0 where
-  pub below : at < n
-  pub legs : List Leg
-  pub path : Path (graphOf n always ends) marks at legs stop
-  pub short : length legs ≤ most
+-- the way up from the vertex that was found, to the first marked vertex on it
+pub unmarked : {g : Graph} {found : List ℕ} {v w u : ℕ} {legs : List Leg} (marks : List ℕ) → Path g found v legs w → (Marked marks v → ⊥)
+    → ((x : ℕ) → In x (inner legs) → Marked marks x → ⊥) → In u (froms legs) → getD marks u 0 ≡ 0
+unmarked marks paths.there h f i = absurd (not-in i)
+unmarked {u = u} marks (paths.up m j p) h f i = elim (ℕ-discrete (getD marks u 0) 0) [
+  | yes q ↦ q
+  | no d ↦ absurd (elim (in-cons i) [ inl q ↦ h (subst (Marked marks) q d) | inr k ↦ f u k d ])
+]
 
-pub up-start : {n : ℕ} {ends marks : List ℕ} {v : ℕ} (c : Rooting n ends marks v) → UpFrom n ends marks (c .stop) v n
-up-start c = record { below = c .below; legs = c .legs; path = c .path; short = c .short }
+module _ {n room : ℕ} {ends degrees marks dead first : List ℕ} {t : ℕ} (e : Exiting n ends degrees marks dead room) (x : Exited n ends degrees marks dead first t)
+    (long : n ≤ length first) where
+  abbrev pub exit-toward : Toward ends first marks t
+  exit-toward = record {
+    n = n;
+    admitted = e .admitted;
+    long = long;
+    room = e .marks-room;
+    to = x .from;
+    below = x .from-below;
+    legs = x .legs;
+    path = x .path;
+    plain = λ u i. unmarked marks (x .path) (x .goal .0) (λ v k. x .through v k .1) i;
+    met = x .from-start;
+    short = omega (arith, x .short, e .admitted .vertices);
+  }
 
--- one edge up
-pub record Above (n : ℕ) (ends marks : List ℕ) (stop at most : ℕ) : Type 0 where
-  pub marked : 1 ≤ getD marks at 0
-  pub edge : getD marks at 0 - 1 < length ends / 2
-  pub rest : UpFrom n ends marks stop (far (graphOf n always ends) (getD marks at 0 - 1) at) (most - 1)
-
-module _ {n : ℕ} {ends marks : List ℕ} {stop : ℕ} (a : Admitted limits n ends) where
-  -- where nothing is left, this is the stop
-  pub up-over : {at most : ℕ} → UpFrom n ends marks stop at most → most ≤ 0 → at ≡ stop
-  up-over {at} u h = go (u .path) (omega (arith, u .short))
-    where
-      go : {v w : ℕ} {legs : List Leg} → Path (graphOf n always ends) marks v legs w → length legs ≤ 0 → v ≡ w
-      go paths.there h = refl
-      go (paths.up m j p) h = absurd (omega arith)
-
-  -- and where the mark is that of a start
-  pub up-top : {at most : ℕ} → UpFrom n ends marks stop at most → getD marks at 0 ≡ 65535 → at ≡ stop
-  up-top u h = go (u .path) h
-    where
-      go : {v w : ℕ} {legs : List Leg} → Path (graphOf n always ends) marks v legs w → getD marks v 0 ≡ 65535 → v ≡ w
-      go paths.there h = refl
-      go (paths.up m j p) h = absurd (omega (arith, few-edges a _ _ _ j))
-
-  -- else there is an edge up
-  pub up-next : {at most : ℕ} → UpFrom n ends marks stop at most → getD marks stop 0 ≡ 65535 → (getD marks at 0 ≡ 65535 → ⊥) → Above n ends marks stop at most
-  up-next {at} {most} u h k = go (u .path) h k (u .short)
-    where
-      go : {v w : ℕ} {legs : List Leg} → Path (graphOf n always ends) marks v legs w → getD marks w 0 ≡ 65535 → (getD marks v 0 ≡ 65535 → ⊥)
-          → length legs ≤ most → Above n ends marks w v most
-      go paths.there h k l = absurd (k h)
-      go (paths.up {legs = legs} m j p) h k l = record {
-        marked = m;
-        edge = joins-edge n ends _ _ _ j;
-        rest = rw (far-is j) (record { below = joins-below n ends _ _ _ j; legs = legs; path = p; short = omega arith });
-      }
-
--- the far end as it is read off the table
-far-read : (n : ℕ) (ends : List ℕ) (e v : ℕ)
-    → cond (eqb (getD ends (2 * e) 0) v) (getD ends (2 * e + 1) 0) (getD ends (2 * e) 0) ≡ far (graphOf n always ends) e v
-unfolding far graphOf
-far-read n ends e v = refl
-
-pub up-on : {n : ℕ} {ends marks : List ℕ} {stop at most x : ℕ} → Above n ends marks stop at most
-    → x ≡ cond (eqb (getD ends (2 * (getD marks at 0 - 1)) 0) at) (getD ends (2 * (getD marks at 0 - 1) + 1) 0) (getD ends (2 * (getD marks at 0 - 1)) 0)
-    → UpFrom n ends marks stop x (most - 1)
-up-on {n} {ends} {marks} {stop} {at} {most} a p =
-    subst (λ (y : ℕ). UpFrom n ends marks stop y (most - 1)) (sym (p ∙ far-read n ends (getD marks at 0 - 1) at)) (a .rest)
+  abbrev pub exit-climbing : (space : ℕ) {s : ℕ} → s ≡ x .from → 3 * length (x .legs) ≤ space → Climbing ends first t s space
+  exit-climbing space q f = record {
+    n = n;
+    admitted = e .admitted;
+    long = long;
+    legs = x .legs;
+    path = rw q (x .path);
+    apart = rw q (path-apart (e .admitted) (x .path) (x .top));
+    fits = f;
+    short = omega (arith, x .short, e .admitted .vertices);
+  }

@@ -1,15 +1,17 @@
 -- A list that is filled from the front, and marks that are stored.
 use mathlib.Core.Path.{_≡_, refl, sym, _∙_, subst}
+use mathlib.Core.Logic.{_⊎_, inl, inr}
 use mathlib.Core.Bool.{Bool, true, false}
 use mathlib.Core.List.{List}
 use Prim.Native.Nat.{ℕ, _+_, _≤_, _<_}
 use native.Mathlib.Omega.{arith}
-use native.Mathlib.Decide.{decLt}
+use native.Mathlib.Decide.{decLt, ℕ-discrete}
 use lib.Dec.{eqb, ltb}
 use lib.ListN.{length, getD, set, length-set}
 use lib.Seq.{getD-set-same, getD-set-other}
 use borrow.Author.Count.{below-more}
 use borrow.Author.Tests.{eqb-true, eqb-false, ltb-true, ltb-false}
+use Rattle.search.specs.Search.{Marked}
 use Rattle.record.specs.Growth.{Filled}
 use Rattle.connectivity.specs.Tells.{Tells}
 
@@ -34,6 +36,20 @@ filling-step {R} {list₀} {list} {k} {x} f l r = record {
 
 pub filling-end : {R : ℕ → ℕ → Type 0} {list₀ list : List ℕ} {k n : ℕ} → Filling R list₀ list k → n ≤ k → Filled R n list
 filling-end f l = record { at = λ i h. f .filled .at i (omega arith) }
+
+-- one mark more
+module _ (marks : List ℕ) {i : ℕ} (l : i < length marks) where
+  pub mark-same : Marked (set marks i 1) i
+  mark-same q = omega (arith, q, getD-set-same marks i 1 0 l)
+
+  pub mark-stays : (v : ℕ) → Marked marks v → Marked (set marks i 1) v
+  mark-stays v m = elim (ℕ-discrete v i) [
+    | yes p ↦ subst (Marked (set marks i 1)) (sym p) mark-same
+    | no d ↦ λ q. m (sym (getD-set-other marks i v 1 0 d) ∙ q)
+  ]
+
+  pub mark-cases : (v : ℕ) → Marked (set marks i 1) v → (v ≡ i) ⊎ Marked marks v
+  mark-cases v m = elim (ℕ-discrete v i) [ yes p ↦ inl p | no d ↦ inr (λ q. m (getD-set-other marks i v 1 0 d ∙ q)) ]
 
 -- a test of two numbers, and a fact that goes with it
 pub tells-less : {P : Type 0} (a b : ℕ) → (a < b → P) → (P → a < b) → Tells (ltb a b) P

@@ -1,5 +1,6 @@
 pub mod Written
 pub mod Paths
+pub mod Places
 pub mod Rising
 pub mod Marking
 pub mod Doors

@@ -2,7 +2,7 @@
 use mathlib.Core.Path.{_≡_, sym, ap, _∙_, subst}
 use mathlib.Core.Logic.{_⊎_, inl, inr, ⊎-elim}
 use mathlib.Core.List.{List, [], _∷_, List·Memᴰ as In, List·Memᴰ·head as first, List·Memᴰ·tail as later, List·Memᴰ·not-nil as not-in, List·Memᴰ·cases-cons as in-cons}
-use Prim.Native.Nat.{ℕ, _-_, _*_, _+_, _≤_, _<_}
+use Prim.Native.Nat.{ℕ, _-_, _*_, _/_, _+_, _≤_, _<_}
 use native.Mathlib.Omega.{arith}
 use native.Mathlib.Decide.{ℕ-discrete}
 use lib.ListN.{length, getD, set, length-set}
@@ -23,7 +23,8 @@ use Rattle.record.specs.Growth.{Linked, Marking, Open, Onward, Following
 use Rattle.record.proofs.NeighbourSum.{some-at, Other, other, toward-is, toward-joins}
 use Rattle.record.proofs.Paths.{far-end}
 use Rattle.record.proofs.FromLink.{is-plain}
-use Rattle.record.proofs.FromEdge.{edge-below}
+use Rattle.record.proofs.Places.{edge-below, place-of, place-at}
+use Rattle.record.proofs.Filling.{mark-same, mark-stays, mark-cases}
 
 -- an end of a bare edge is no branch
 bare-from : {g : Graph} {built : List ℕ} {e u v : ℕ} → Joins g e u v → Bare g built e → Branch g built u → ⊥
@@ -54,18 +55,6 @@ abbrev pub unset : List ℕ → ℕ
 unset marks = length marks - tally marks (length marks)
 
 module _ (marks : List ℕ) {i : ℕ} (l : i < length marks) where
-  mark-same : Marked (set marks i 1) i
-  mark-same q = omega (arith, q, getD-set-same marks i 1 0 l)
-
-  mark-stays : (v : ℕ) → Marked marks v → Marked (set marks i 1) v
-  mark-stays v m = elim (ℕ-discrete v i) [
-    | yes p ↦ subst (Marked (set marks i 1)) (sym p) mark-same
-    | no d ↦ λ q. m (sym (getD-set-other marks i v 1 0 d) ∙ q)
-  ]
-
-  mark-cases : (v : ℕ) → Marked (set marks i 1) v → (v ≡ i) ⊎ Marked marks v
-  mark-cases v m = elim (ℕ-discrete v i) [ yes p ↦ inl p | no d ↦ inr (λ q. m (getD-set-other marks i v 1 0 d ∙ q)) ]
-
   -- fewer are left
   pub mark-less : getD marks i 0 ≡ 0 → unset (set marks i 1) < unset marks
   mark-less z = rw (length-set marks i 1) (omega (arith, tally-set marks (length marks) i 1 l (omega arith) z (λ q. omega (arith, q)), tally-le (set marks i 1) (length marks)))
@@ -159,20 +148,25 @@ module _ {ends degrees used sums : List ℕ} {p : ℕ} (c : Linked ends degrees 
   pub neighbouring : Neighbouring ends used p
   neighbouring = record {
     few = c .admitted .edges;
+    even = omega (arith, c .admitted .even);
     used-room = omega (arith, c .marks .used-long, c .admitted .edges);
     some = λ f. let (e, i, h) = some-at g built p (c .start) in
-        f e (edge-below (c .n) ends e (c .edges e i)) (record { marked = λ q. omega (arith, q, c .marks .used-built e i); at = table-at (c .n) ends e p h });
+        let (k, l, q, at) = place-of ends e p (edge-below (c .n) ends e (c .edges e i)) (table-at (c .n) ends e p h) in
+        f k l (record { at = at; marked = λ z. let y = ap (λ (x : ℕ). getD used x 0) q in omega (arith, z, y, c .marks .used-built e i) });
   }
 
   -- the edge to the neighbour that is found
   module _ {a : ℕ} (k : Neighbour ends used p a) where
-    pub found-built : In (k .edge) built
-    found-built = elim (in-dec (k .edge) built) [ yes i ↦ i | no h ↦ absurd (k .built-at .marked (c .marks .used-other (k .edge) h)) ]
+    abbrev pub edge : ℕ
+    edge = k .place / 2
 
-    pub found-joins : Joins g (k .edge) a p
+    pub found-built : In edge built
+    found-built = elim (in-dec edge built) [ yes i ↦ i | no h ↦ absurd (k .built-at .marked (c .marks .used-other edge h)) ]
+
+    pub found-joins : Joins g edge a p
     found-joins =
-        let j = toward-joins (c .edges (k .edge) found-built) (at-table (c .n) ends (k .edge) p (k .built-at .at)) in
-        joins-sym (rw (k .far, far-end (c .n) ends (k .edge) p (toward g (k .edge) p) j) j)
+        let j = toward-joins (c .edges edge found-built) (at-table (c .n) ends edge p (place-at ends (k .place) p (k .built-at .at))) in
+        joins-sym (rw (k .far, far-end (c .n) ends edge p (toward g edge p) j) j)
 
   module _ {a d : ℕ} (i : In d built) (j : Joins g d a p) where
     pub first-way : (marks : List ℕ) → p < length marks → ((v : ℕ) → getD marks v 0 ≡ 0) → Onward g built p p a ((getD sums p 0 - a) ∷ []) (set marks p 1)

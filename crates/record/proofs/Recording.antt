@@ -23,7 +23,7 @@ use Rattle.record.specs.Step.{Written, Sturdy, Opened, Marks, neighbourS
 use Rattle.record.specs.Record.{Tables, Rowing, Rowed, Recording, Recorded}
 use Rattle.record.proofs.Written.{rows-length, written-part, written-length, part-long}
 use Rattle.record.proofs.Rooms.{legs-edges}
-use Rattle.record.proofs.FromEdge.{edge-below}
+use Rattle.record.proofs.Places.{edge-below}
 use Rattle.record.proofs.NeighbourSum.{sum-append}
 
 -- The edges of rows, in the order of the rows.
@@ -140,7 +140,7 @@ module _ {n : ℕ} {ends before after : List ℕ} {r : ℕ} (s : Sturdy n ends (
   opened-steps : Steps (graphOf n always ends) (o .walks)
   opened-steps = theta (o .theta)
 
-  pub opened-rows : {degrees used sums : List ℕ} → Tables n ends [] degrees used sums → Rowing ends after 0 r degrees used sums
+  opened-rows : {degrees used sums : List ℕ} → Tables n ends [] degrees used sums → Rowing ends after 0 r degrees used sums
   opened-rows t = record {
     n = n;
     admitted = s .admitted;
@@ -167,17 +167,17 @@ module _ {n : ℕ} {ends before after : List ℕ} {r : ℕ} (s : Sturdy n ends (
   }
 
   -- what is written is at the front of the list as it now is
-  pub recording-start : {degrees₀ used₀ sums₀ degrees used sums : List ℕ} → Tables n ends [] degrees₀ used₀ sums₀
-      → Rowed ends after 0 r degrees₀ used₀ sums₀ degrees used sums → Recording n ends after after degrees used sums r 3
+  pub recording-start : {degrees used sums : List ℕ} → Tables n ends [] degrees used sums → Recording n ends after after degrees used sums 0 r 3
   unfolding opened-rows
-  recording-start t w = record {
+  recording-start t = record {
     done = o .walks;
     steps = opened-steps;
     once = o .once;
-    tables = tables-order (s .admitted) opened-steps (o .once) (w (opened-rows t));
     row-is = o .count;
     step-is = sym (o .theta .three);
     written = o .written ∙ ap (λ (l : List ℕ). rows (o .walks) ++ l) (sym behind);
+    rowing = opened-rows t;
+    tables = tables-order (s .admitted) opened-steps (o .once);
   }
     where
       behind : drop (length (rows (o .walks))) after ≡ drop (length (rows (o .walks))) before
@@ -218,8 +218,8 @@ steps-most : {g : Graph} {done : List (List Leg)} → Steps g done → length do
 steps-most (theta {walks = walks} t) = walks-most walks (λ legs i. elim (t .between legs i) [ inl k ↦ walk-some k | inr k ↦ walk-some k ])
 steps-most (ear {walks = walks} {legs = legs} p k) = omega (arith, steps-most p, walk-some (k .walk), legs-edges legs, length-append (edgesOf legs) (allEdges walks))
 
-module _ {n : ℕ} {ends before now degrees used sums : List ℕ} {row step : ℕ} (s : Sturdy n ends (length before))
-    (c : Recording n ends before now degrees used sums row step) where
+module _ {n : ℕ} {ends before now degrees used sums : List ℕ} {first-row row step : ℕ} (s : Sturdy n ends (length before))
+    (c : Recording n ends before now degrees used sums first-row row step) where
   pub recording-most : row ≤ length ends / 2
   recording-most = omega (arith, c .row-is, done-most (s .admitted) (c .steps) (c .once))
 
@@ -232,25 +232,27 @@ module _ {n : ℕ} {ends before now degrees used sums : List ℕ} {row step : �
   pub recording-steps : step ≤ row
   recording-steps = omega (arith, c .row-is, c .step-is, steps-most (c .steps))
 
-  pub recording-grows : row < length ends / 2 → Ready n ends degrees used sums (length (take (length now - 3 * row) (drop (3 * row) now)))
-  recording-grows h = record {
-    growing = record {
-      admitted = s .admitted;
-      three = s .three;
-      done = c .done;
-      steps = c .steps;
-      once = c .once;
-      marks = c .tables .marks;
-      left = omega (arith, h, c .row-is);
-      fits = omega (arith, part-long now (3 * row), recording-long, s .fits, c .row-is);
-    };
-    sums-are = c .tables .sums-are;
-  }
+  -- the rows so far are built, and an edge is left
+  module _ (h : row < length ends / 2) {degrees' used' sums' : List ℕ} (w : Rowed ends now first-row row degrees used sums degrees' used' sums') where
+    pub recording-grows : Ready n ends degrees' used' sums' (length (take (length now - 3 * row) (drop (3 * row) now)))
+    recording-grows = let t = c .tables (w (c .rowing)) in record {
+      growing = record {
+        admitted = s .admitted;
+        three = s .three;
+        done = c .done;
+        steps = c .steps;
+        once = c .once;
+        marks = t .marks;
+        left = omega (arith, h, c .row-is);
+        fits = omega (arith, part-long now (3 * row), recording-long, s .fits, c .row-is);
+      };
+      sums-are = t .sums-are;
+    }
 
-  pub ear-grown : {count : ℕ} {part : List ℕ} → row < length ends / 2 → GrownFrom n ends degrees used sums step (take (length now - 3 * row) (drop (3 * row) now)) part count
-      → Grown n ends (allEdges (c .done)) step (take (length now - 3 * row) (drop (3 * row) now)) part count
-  unfolding recording-grows
-  ear-grown h w = w (recording-grows h)
+    ear-grown : {count : ℕ} {part : List ℕ} → GrownFrom n ends degrees' used' sums' step (take (length now - 3 * row) (drop (3 * row) now)) part count
+        → Grown n ends (allEdges (c .done)) step (take (length now - 3 * row) (drop (3 * row) now)) part count
+    unfolding recording-grows
+    ear-grown e = e recording-grows
 
   module _ {count : ℕ} {part : List ℕ} (e : Grown n ends (allEdges (c .done)) step (take (length now - 3 * row) (drop (3 * row) now)) part count) where
     abbrev after : List ℕ
@@ -263,13 +265,13 @@ module _ {n : ℕ} {ends before now degrees used sums : List ℕ} {row step : �
     written-then = written-part (rows (c .done)) (stepRows (length (c .done)) (e .legs)) before now part (3 * row) (c .written) rows-long
         (subst (λ (k : ℕ). Written (stepRows k (e .legs)) (take (length now - 3 * row) (drop (3 * row) now)) part) (c .step-is) (e .written))
 
-    pub ear-rows : Rowing ends after row (row + count) degrees used sums
-    ear-rows = record {
+    ear-rows : {degrees' used' sums' : List ℕ} → Tables n ends (allEdges (c .done)) degrees' used' sums' → Rowing ends after row (row + count) degrees' used' sums'
+    ear-rows t = record {
       n = n;
       admitted = s .admitted;
       built = allEdges (c .done);
       new = edgesOf (e .legs);
-      tables = c .tables;
+      tables = t;
       count = omega (arith, e .count, legs-edges (e .legs));
       rows = λ k h.
           let p : 3 * (row + k) + 1 ≡ length (rows (c .done)) + (3 * k + 1) = omega (arith, rows-long) in
@@ -283,24 +285,32 @@ module _ {n : ℕ} {ends before now degrees used sums : List ℕ} {row step : �
       few = omega (arith, done-most (s .admitted) steps-then (e .once), length-append (edgesOf (e .legs)) (allEdges (c .done)), s .admitted .edges);
     }
 
-    pub recording-next : {degrees' used' sums' : List ℕ} → Rowed ends after row (row + count) degrees used sums degrees' used' sums'
-        → Recording n ends before after degrees' used' sums' (row + count) (step + 1)
+    recording-next : {degrees' used' sums' : List ℕ} → Tables n ends (allEdges (c .done)) degrees' used' sums'
+        → Recording n ends before after degrees' used' sums' row (row + count) (step + 1)
     unfolding ear-rows
-    recording-next w = record {
+    recording-next t = record {
       done = e .legs ∷ c .done;
       steps = steps-then;
       once = e .once;
-      tables = w ear-rows;
       row-is = omega (arith, e .count, legs-edges (e .legs), c .row-is, length-append (edgesOf (e .legs)) (allEdges (c .done)));
       step-is = omega (arith, c .step-is);
       written = written-then;
+      rowing = ear-rows t;
+      tables = λ z. z;
     }
 
-    pub ear-most : row + count ≤ length ends / 2
+    ear-most : row + count ≤ length ends / 2
     ear-most = omega (arith, e .count, legs-edges (e .legs), c .row-is, length-append (edgesOf (e .legs)) (allEdges (c .done)), done-most (s .admitted) steps-then (e .once))
 
-    pub ear-some : 1 ≤ count
+    ear-some : 1 ≤ count
     ear-some = omega (arith, e .count, walk-some (e .ear .walk))
+
+  -- one ear more
+  pub recording-on : row < length ends / 2 → {degrees' used' sums' : List ℕ} → Rowed ends now first-row row degrees used sums degrees' used' sums'
+      → {count : ℕ} {part : List ℕ} → GrownFrom n ends degrees' used' sums' step (take (length now - 3 * row) (drop (3 * row) now)) part count
+      → Recording n ends before (take (3 * row) now ++ (part ++ drop (length now - 3 * row) (drop (3 * row) now))) degrees' used' sums' row (row + count) (step + 1)
+      × (row + count ≤ length ends / 2) × (1 ≤ count)
+  recording-on h w g = let e = ear-grown h w g in (recording-next e (c .tables (w (c .rowing))), ear-most e, ear-some e)
 
   -- every edge is built
   pub recording-end : length ends / 2 ≤ row → Recorded n ends before now

@@ -9,8 +9,9 @@ use Rattle.connectivity.specs.Graph.{Graph, Edge, Joins, graphOf, always}
 use Rattle.connectivity.specs.Walk.{Leg, Walk, froms, inner, edgesOf, degree, Built, Branch}
 use Rattle.connectivity.specs.Admission.{Admitted, limits}
 use Rattle.connectivity.proofs.Grow.{Inside}
-use Rattle.search.specs.Search.{Live, Pass, Start, Goal, Marked, FromStart}
-use Rattle.record.specs.Step.{Path, Marks, Sums, Growing, Ready}
+use Rattle.search.specs.Search.{Live, Marked, FromStart}
+use Rattle.connectivity.specs.Mader.{stepRows}
+use Rattle.record.specs.Step.{Path, Written, Marks, Sums, Growing, Ready}
 use Rattle.record.specs.Opening.{farEnd}
 
 -- each of the first k entries stands in a relation to its place
@@ -22,22 +23,11 @@ pub record PlainVertex (n : ℕ) (degrees : List ℕ) (r : ℕ) : Type 0 where
   pub found : r < n → (1 ≤ getD degrees r 0) × (getD degrees r 0 < 3)
   pub none : n ≤ r → (v : ℕ) → v < n → 1 ≤ getD degrees v 0 → 3 ≤ getD degrees v 0
 
--- the mark of an edge that is dead where it is built or d
-pub record LessEdge (used : List ℕ) (d e r : ℕ) : Type 0 where
-  pub same : e ≡ d → r ≡ 1
-  pub other : (e ≡ d → ⊥) → r ≡ getD used e 0
-
--- roles for the search from a link whose inner vertices are marked: from these, through what is not built, to any other that is
+-- roles for the search from what is marked, through what is not built, to any other that is
 pub data EarRole (degrees marks : List ℕ) (v r : ℕ) : Type 0 where
-  new : getD degrees v 0 ≡ 0 → r ≡ 0 → EarRole degrees marks v r
-  inside : 1 ≤ getD degrees v 0 → Marked marks v → r ≡ 1 → EarRole degrees marks v r
-  outside : 1 ≤ getD degrees v 0 → (Marked marks v → ⊥) → r ≡ 3 → EarRole degrees marks v r
-
--- roles for the search from u, through what is not built, to what is
-pub data EndRole (degrees : List ℕ) (u v r : ℕ) : Type 0 where
-  start : v ≡ u → r ≡ 1 → EndRole degrees u v r
-  new : (v ≡ u → ⊥) → getD degrees v 0 ≡ 0 → r ≡ 0 → EndRole degrees u v r
-  goal : (v ≡ u → ⊥) → 1 ≤ getD degrees v 0 → r ≡ 3 → EndRole degrees u v r
+  start : Marked marks v → r ≡ 1 → EarRole degrees marks v r
+  new : (Marked marks v → ⊥) → getD degrees v 0 ≡ 0 → r ≡ 0 → EarRole degrees marks v r
+  goal : (Marked marks v → ⊥) → 1 ≤ getD degrees v 0 → r ≡ 3 → EarRole degrees marks v r
 
 -- The link of p, along which its inside is marked.
 
@@ -93,22 +83,23 @@ pub record Halved (sums : List ℕ) (u v : ℕ) : Type 0 where
   pub least : u ≤ getD sums v 0
   pub most : getD sums v 0 - u < 1000
 
--- a built edge with the end v
-pub record BuiltAt (ends used : List ℕ) (v e : ℕ) : Type 0 where
-  pub marked : getD used e 0 ≡ 0 → ⊥
-  pub at : (getD ends (2 * e) 0 ≡ v) ⊎ (getD ends (2 * e + 1) 0 ≡ v)
+-- the end at place k is v, and its edge is built
+pub record BuiltAt (ends used : List ℕ) (v k : ℕ) : Type 0 where
+  pub at : getD ends k 0 ≡ v
+  pub marked : getD used (k / 2) 0 ≡ 0 → ⊥
 
--- what the search for one asks: there is one; and the vertex that it leads to
+-- what the search for one asks: there is one; and the vertex that its edge leads to
 pub record Neighbouring (ends used : List ℕ) (v : ℕ) : Type 0 where
   pub few : length ends / 2 ≤ 4000
+  pub even : length ends ≡ 2 * (length ends / 2)
   pub used-room : length ends / 2 ≤ length used
-  pub some : ((e : ℕ) → e < length ends / 2 → BuiltAt ends used v e → ⊥) → ⊥
+  pub some : ((k : ℕ) → k < length ends → BuiltAt ends used v k → ⊥) → ⊥
 
 pub record Neighbour (ends used : List ℕ) (v r : ℕ) : Type 0 where
-  pub edge : ℕ
-  pub below : edge < length ends / 2
-  pub built-at : BuiltAt ends used v edge
-  pub far : r ≡ farEnd ends edge v
+  pub place : ℕ
+  pub below : place < length ends
+  pub built-at : BuiltAt ends used v place
+  pub far : r ≡ farEnd ends (place / 2) v
 
 -- what `mark_link` asks, and what it leaves
 pub record Linking (ends degrees used sums : List ℕ) (p : ℕ) (marks : List ℕ) : Type 0 where
@@ -120,83 +111,79 @@ abbrev pub MarkedBy : List ℕ → List ℕ → List ℕ → List ℕ → ℕ �
 MarkedBy ends degrees used sums p before after =
     (c : Linking ends degrees used sums p before) → Marking (graphOf (c .link .n) always ends) (c .link .built) p after
 
--- what the search for a goal asks: it can't but see one
-pub record Exiting (n : ℕ) (ends roles dead : List ℕ) (room : ℕ) : Type 0 where
+-- what the search from what is marked for a built vertex asks: it can't but see one
+abbrev pub Outside : List ℕ → List ℕ → ℕ → Type 0
+Outside degrees marks v = (Marked marks v → ⊥) × (1 ≤ getD degrees v 0)
+
+abbrev pub Crosses : List ℕ → List ℕ → ℕ → Type 0
+Crosses degrees marks v = Marked marks v ⊎ (getD degrees v 0 ≡ 0)
+
+pub record Exiting (n : ℕ) (ends degrees marks dead : List ℕ) (room : ℕ) : Type 0 where
   pub admitted : Admitted limits n ends
-  pub roles-room : n ≤ length roles
+  pub degrees-room : n ≤ length degrees
+  pub marks-room : n ≤ length marks
   pub dead-room : length ends / 2 ≤ length dead
   pub fits : n ≤ room
-  pub some : ((v : ℕ) → v < n → Goal roles v → FromStart (graphOf n always ends) (Live dead) (Pass roles) (Start roles) n v → ⊥) → ⊥
+  pub some : ((v : ℕ) → v < n → Outside degrees marks v → FromStart (graphOf n always ends) (Live dead) (Crosses degrees marks) (Marked marks) n v → ⊥) → ⊥
 
--- and what it leaves: a way up from the goal t to a start, over live edges, through vertices that are neither
-pub record Exited (n : ℕ) (ends roles dead marks : List ℕ) (t : ℕ) : Type 0 where
+-- and what it leaves: a way up from such a vertex to one that is marked, over live edges, through vertices that are not built
+pub record Exited (n : ℕ) (ends degrees marks dead first : List ℕ) (t : ℕ) : Type 0 where
   pub below : t < n
-  pub goal : Goal roles t
+  pub goal : Outside degrees marks t
   pub from : ℕ
   pub from-below : from < n
-  pub from-start : Start roles from
-  pub top : getD marks from 0 ≡ 65535
+  pub from-start : Marked marks from
+  pub top : getD first from 0 ≡ 65535
   pub legs : List Leg
-  pub path : Path (graphOf n always ends) marks t legs from
+  pub path : Path (graphOf n always ends) first t legs from
   pub walk : Walk (graphOf n always ends) t legs from
   pub once : Distinct (froms legs)
-  pub through : (v : ℕ) → In v (inner legs) → (v < n) × (getD roles v 0 ≡ 0)
+  pub through : (v : ℕ) → In v (inner legs) → (v < n) × (Marked marks v → ⊥) × (getD degrees v 0 ≡ 0)
   pub live : (e : ℕ) → In e (edgesOf legs) → Live dead e
   pub short : length legs ≤ n
 
--- what `root` asks: a way up to a vertex with the mark of a start
-pub record Rooting (n : ℕ) (ends marks : List ℕ) (v : ℕ) : Type 0 where
-  pub admitted : Admitted limits n ends
-  pub long : n ≤ length marks
-  pub below : v < n
-  pub stop : ℕ
-  pub top : getD marks stop 0 ≡ 65535
-  pub legs : List Leg
-  pub path : Path (graphOf n always ends) marks v legs stop
-  pub short : length legs ≤ n
+-- what the writing of this way asks, and what it leaves
+pub record Leaving (n : ℕ) (ends degrees marks dead : List ℕ) (room : ℕ) : Type 0 where
+  pub exiting : Exiting n ends degrees marks dead 1000
+  pub space : {first : List ℕ} {t : ℕ} (x : Exited n ends degrees marks dead first t) → 3 * length (x .legs) ≤ room
 
-abbrev pub Rooted : ℕ → List ℕ → List ℕ → ℕ → ℕ → Type 0
-Rooted n ends marks v r = (c : Rooting n ends marks v) → r ≡ c .stop
+pub record WalkedOut (n : ℕ) (ends degrees marks dead : List ℕ) (step : ℕ) (before after : List ℕ) (r : ℕ) : Type 0 where
+  pub first : List ℕ
+  pub t : ℕ
+  pub way : Exited n ends degrees marks dead first t
+  pub written : Written (stepRows step (way .legs)) before after
+  pub count : r ≡ length (way .legs)
 
--- an edge that is not built and has a built end
-pub record Opens (ends degrees used : List ℕ) (e : ℕ) : Type 0 where
-  pub unused : getD used e 0 ≡ 0
-  pub touches : (1 ≤ getD degrees (getD ends (2 * e) 0) 0) ⊎ (1 ≤ getD degrees (getD ends (2 * e + 1) 0) 0)
+-- the end at place k is built, and its edge is not
+pub record OpenEnd (ends degrees used : List ℕ) (k : ℕ) : Type 0 where
+  pub unused : getD used (k / 2) 0 ≡ 0
+  pub built : 1 ≤ getD degrees (getD ends k 0) 0
 
-pub record Readable (ends degrees used : List ℕ) (e : ℕ) : Type 0 where
-  pub edge : e < length ends / 2
-  pub mark : e < length used
-  pub left : getD ends (2 * e) 0 < length degrees
-  pub right : getD ends (2 * e + 1) 0 < length degrees
+pub record EndFits (ends degrees used : List ℕ) (k : ℕ) : Type 0 where
+  pub place : k < length ends
+  pub mark : k / 2 < length used
+  pub vertex : getD ends k 0 < length degrees
 
 -- what the search for one asks: there is one
 pub record Opening (ends degrees used : List ℕ) : Type 0 where
-  pub n : ℕ
-  pub admitted : Admitted limits n ends
-  pub degrees-room : n ≤ length degrees
-  pub used-room : length ends / 2 ≤ length used
-  pub some : ((e : ℕ) → e < length ends / 2 → Opens ends degrees used e → ⊥) → ⊥
+  pub fits : (k : ℕ) → k < length ends → EndFits ends degrees used k
+  pub some : ((k : ℕ) → k < length ends → OpenEnd ends degrees used k → ⊥) → ⊥
 
-pub record OpenEdge (ends degrees used : List ℕ) (e : ℕ) : Type 0 where
-  pub below : e < length ends / 2
-  pub opens : Opens ends degrees used e
+pub record OpenAt (ends degrees used : List ℕ) (k : ℕ) : Type 0 where
+  pub below : k < length ends
+  pub opens : OpenEnd ends degrees used k
 
--- what `across` asks: an edge with a built end
-pub record Crossing (ends degrees : List ℕ) (e : ℕ) : Type 0 where
-  pub n : ℕ
-  pub admitted : Admitted limits n ends
-  pub degrees-room : n ≤ length degrees
-  pub below : e < length ends / 2
-  pub touches : (1 ≤ getD degrees (getD ends (2 * e) 0) 0) ⊎ (1 ≤ getD degrees (getD ends (2 * e + 1) 0) 0)
-
--- the end of an edge across from a built end
-pub record Across (n : ℕ) (ends degrees : List ℕ) (e u : ℕ) : Type 0 where
+-- an edge that is not built leads from a built vertex to u
+pub record Across (n : ℕ) (ends degrees used : List ℕ) (e u : ℕ) : Type 0 where
+  pub unused : getD used e 0 ≡ 0
   pub from : ℕ
   pub joins : Joins (graphOf n always ends) e from u
   pub built : 1 ≤ getD degrees from 0
 
-abbrev pub Crossed : List ℕ → List ℕ → ℕ → ℕ → Type 0
-Crossed ends degrees e u = (n : ℕ) → Admitted limits n ends → Across n ends degrees e u
+-- u and no other is marked
+pub record Alone (u : ℕ) (marks : List ℕ) : Type 0 where
+  pub marked : Marked marks u
+  pub only : (v : ℕ) → Marked marks v → v ≡ u
 
 -- the state from which an ear grows out of a link, and where every built vertex is a branch
 pub record GrowingLink (n : ℕ) (ends degrees used sums : List ℕ) (p room : ℕ) : Type 0 where
@@ -213,6 +200,5 @@ pub record GrowingBranch (n : ℕ) (ends degrees used : List ℕ) (room : ℕ) :
 pub record GrowingEdge (n : ℕ) (ends degrees used : List ℕ) (e u room : ℕ) : Type 0 where
   pub growing : Growing n ends degrees used room
   pub branches : (v : ℕ) → v < n → 1 ≤ getD degrees v 0 → 3 ≤ getD degrees v 0
-  pub opened : OpenEdge ends degrees used e
-  pub across : Across n ends degrees e u
+  pub across : Across n ends degrees used e u
   pub new : getD degrees u 0 ≡ 0

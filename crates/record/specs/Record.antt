@@ -8,7 +8,7 @@ use Rattle.connectivity.specs.Lists.{Distinct}
 use Rattle.connectivity.specs.Walk.{Leg, allEdges}
 use Rattle.connectivity.specs.Mader.{Steps, rows, Builds}
 use Rattle.connectivity.specs.Admission.{Admitted, limits}
-use Rattle.record.specs.Step.{Marks, Sums, Written}
+use Rattle.record.specs.Step.{Marks, Sums, Written, Sturdy}
 
 -- the tables say what is built
 pub record Tables (n : ℕ) (ends built degrees used sums : List ℕ) : Type 0 where
@@ -62,12 +62,25 @@ pub record Recorded (n : ℕ) (ends before after : List ℕ) : Type 0 where
   pub long : length list ≡ 3 * (length ends / 2)
   pub written : Written list before after
 
--- what has been written: the rows of Mader's steps so far, and the tables of what they build
-pub record Recording (n : ℕ) (ends before record-now degrees used sums : List ℕ) (row step : ℕ) : Type 0 where
+-- what has been written: the rows of Mader's steps so far; with the rows from `first` on, the tables say what they build
+pub record Recording (n : ℕ) (ends before record-now degrees used sums : List ℕ) (first row step : ℕ) : Type 0 where
   pub done : List (List Leg)
   pub steps : Steps (graphOf n always ends) done
   pub once : Distinct (allEdges done)
-  pub tables : Tables n ends (allEdges done) degrees used sums
   pub row-is : row ≡ length (allEdges done)
   pub step-is : step ≡ length done
   pub written : Written (rows done) before record-now
+  pub rowing : Rowing ends record-now first row degrees used sums
+  pub tables : {degrees' used' sums' : List ℕ} → Tables (rowing .n) ends (rowing .new ++ rowing .built) degrees' used' sums' → Tables n ends (allEdges done) degrees' used' sums'
+
+-- one ear more
+pub record Continuing (n : ℕ) (ends : List ℕ) (first row step : ℕ) (degrees used sums record-now : List ℕ) : Type 0 where
+  pub before : List ℕ
+  pub sturdy : Sturdy n ends (length before)
+  pub recording : Recording n ends before record-now degrees used sums first row step
+  pub left : row < length ends / 2
+
+abbrev pub Continued : ℕ → List ℕ → ℕ → ℕ → ℕ → List ℕ → List ℕ → List ℕ → List ℕ → List ℕ → List ℕ → List ℕ → List ℕ → ℕ → Type 0
+Continued n ends first row step degrees used sums record-now degrees' used' sums' record-then r =
+    (c : Continuing n ends first row step degrees used sums record-now)
+    → Recording n ends (c .before) record-then degrees' used' sums' row (row + r) (step + 1) × (row + r ≤ length ends / 2) × (1 ≤ r)

@@ -6,7 +6,7 @@ ghost use mathlib.Core.Path.{_≡_};
 ghost use Prim.Native.Nat.{_/_};
 ghost use lib.ListN.{length};
 ghost use Rattle.record.specs.Step.{Sturdy};
-ghost use Rattle.record.specs.Record.{Adding, Added, Edging, Edged, Rowing, Rowed, Recorded};
+ghost use Rattle.record.specs.Record.{Adding, Added, Edging, Edged, Rowing, Rowed, Recorded, Continuing, Continued};
 
 // Writes the record at the front of `rows`: three walks, then ears until every edge is built. What stands behind stays.
 pub(crate) fn build_record(vertices: u16, ends: &[u16], edges: u16, rows: &mut [u16])
@@ -16,32 +16,45 @@ pub(crate) fn build_record(vertices: u16, ends: &[u16], edges: u16, rows: &mut [
     let mut degree = [0u16; Graph::MAX_VERTICES as usize];
     let mut used = [0u8; Graph::MAX_EDGES];
     let mut sums = [0u32; Graph::MAX_VERTICES as usize];
+    let mut built: u16 = 0;
     let mut row = theta::first_walks(vertices, ends, rows);
-    build_rows(ends, rows, 0, row, &mut degree, &mut used, &mut sums);
     let mut step: u16 = 3;
     while row < edges {
-        let next = 3 * (row as usize);
-        let count = ear::next_ear(
+        let count = add_ear(
             vertices,
             ends,
-            &degree,
-            &used,
-            &sums,
-            step,
-            &mut rows[next..],
-        );
-        build_rows(
-            ends,
-            rows,
+            built,
             row,
-            row + count,
+            step,
             &mut degree,
             &mut used,
             &mut sums,
+            rows,
         );
+        built = row;
         row += count;
         step += 1;
     }
+}
+
+// The rows from `built` on and below `row` come to count as built, and the next ear is written behind them; how many rows it has.
+fn add_ear(
+    vertices: u16,
+    ends: &[u16],
+    built: u16,
+    row: u16,
+    step: u16,
+    degree: &mut [u16; Graph::MAX_VERTICES as usize],
+    used: &mut [u8; Graph::MAX_EDGES],
+    sums: &mut [u32; Graph::MAX_VERTICES as usize],
+    rows: &mut [u16],
+) -> u16
+    requires { ⌜ Continuing vertices (now ends) built row step (now degree) (now used) (now sums) (now rows) ⌝ }
+    ensures { λ r. ⌜ Continued vertices (now (ends .entry)) built row step (now (degree .entry)) (now (used .entry)) (now (sums .entry)) (now (rows .entry)) (now (degree .exit)) (now (used .exit)) (now (sums .exit)) (now (rows .exit)) r ⌝ }
+{
+    build_rows(ends, rows, built, row, degree, used, sums);
+    let next = 3 * (row as usize);
+    ear::next_ear(vertices, ends, degree, used, sums, step, &mut rows[next..])
 }
 
 // The edges of the rows from `first` on and below `end` count as built.

@@ -5,7 +5,7 @@ ghost use Prim.Native.Nat.{_<_};
 ghost use lib.ListN.{length};
 ghost use Rattle.connectivity.specs.Tells.{Tells};
 ghost use Rattle.record.specs.Step.{Sturdy, Opened};
-ghost use Rattle.record.specs.Opening.{Around, Rooted, IsDoor, DoorFits, DoorsFit, NextDoor, Way, MarkedUp, Toward, MetFirst, Meets, Met, OneMore, UpOver, OverUp, Three, ThreeWritten};
+ghost use Rattle.record.specs.Opening.{Around, Rooted, IsDoor, DoorFits, DoorsFit, NextDoor, Way, MarkedUp, Meets, Met, OneMore, UpOver, OverUp, Three, ThreeWritten};
 
 // The rows of the first three walks at the front of `rows`; how many there are.
 pub(crate) fn first_walks(vertices: u16, ends: &[u16], rows: &mut [u16]) -> u16
@@ -77,7 +77,7 @@ fn meeting(ends: &[u16], first: &[u16], k2: u16, k3: u16, r: u16) -> u16
 {
     let mut marks = [0u8; Graph::MAX_VERTICES as usize];
     mark_climb(ends, first, k2, r, &mut marks);
-    first_marked(ends, first, &marks, k3)
+    walk::first_marked(ends, first, &marks, k3)
 }
 
 // Marks the vertices from `v` up to `stop`.
@@ -91,18 +91,6 @@ fn mark_climb(ends: &[u16], first: &[u16], v: u16, stop: u16, marks: &mut [u8])
         at = walk::above(ends, first, at);
     }
     marks[stop as usize] = 1;
-}
-
-// The first marked vertex from `v` up.
-fn first_marked(ends: &[u16], first: &[u16], marks: &[u8], v: u16) -> u16
-    requires { ⌜ Toward (now ends) (now first) (now marks) v ⌝ }
-    ensures { λ r. ⌜ MetFirst (now (ends .entry)) (now (first .entry)) (now (marks .entry)) v r ⌝ }
-{
-    let mut at = v;
-    while marks[at as usize] == 0 {
-        at = walk::above(ends, first, at);
-    }
-    at
 }
 
 // Writes the rows of the three walks, each behind those before it; how many there are.

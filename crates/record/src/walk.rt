@@ -1,6 +1,6 @@
 // Rows along first edges, as a search leaves them.
 ghost use Rattle.record.specs.Step.{Climbing, Climbed};
-ghost use Rattle.record.specs.Opening.{withRow, farEnd, Rises};
+ghost use Rattle.record.specs.Opening.{withRow, farEnd, Rises, Toward, MetFirst};
 ghost use Prim.Native.Nat.{_+_, _*_, _/_, _-_, _≤_, _<_};
 ghost use mathlib.Core.Path.{_≡_};
 ghost use lib.ListN.{length, getD};
@@ -58,4 +58,16 @@ pub(crate) fn above(ends: &[u16], first: &[u16], v: u16) -> u16
     ensures { λ r. ⌜ r ≡ farEnd (now (ends .entry)) (getD (now (first .entry)) v 0 - 1) v ⌝ }
 {
     other_end(ends, first[v as usize] - 1, v)
+}
+
+// The first marked vertex from `v` up.
+pub(crate) fn first_marked(ends: &[u16], first: &[u16], marks: &[u8], v: u16) -> u16
+    requires { ⌜ Toward (now ends) (now first) (now marks) v ⌝ }
+    ensures { λ r. ⌜ MetFirst (now (ends .entry)) (now (first .entry)) (now (marks .entry)) v r ⌝ }
+{
+    let mut at = v;
+    while marks[at as usize] == 0 {
+        at = above(ends, first, at);
+    }
+    at
 }

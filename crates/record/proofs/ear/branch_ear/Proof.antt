@@ -1,16 +1,25 @@
 -- `branch_ear` meets its contract: some edge is open, and it alone or with a way up to its end is an ear.
-use native.Mathlib.Omega.{arith}
 use mathlib.Core.Path.{refl}
-use Rattle.record.proofs.FromEdge.{opening, crossing, u-below, edge-grown}
+use native.Mathlib.Omega.{arith}
+use Rattle.record.proofs.FromEdge.{opening, across, u-below, edge-grown}
 use borrow.Author.Needs.{needs}
 use Rattle.record.proofs.ear.branch_ear.Statement.{statement}
 use Rattle.record.proofs.ear.branch_ear.Tie as tie
 
-open-edge-requires : tie.Need-open-edge-requires
-open-edge-requires c κs = let s = c .before .before .before .before in opening (s .pre .growing)
+open-end-requires : tie.Need-open-end-requires
+open-end-requires c κs = opening (c .before .before .before .before .pre .growing)
 
-across-requires : tie.Need-across-requires
-across-requires c κs = let s = c .before .before .before .before .before in crossing (s .pre .growing) (c .open-edge .ensures)
+cast-e : tie.Need-cast-e
+cast-e c = search needs
+
+mul-other-end : tie.Need-mul-other-end
+mul-other-end c = search needs
+
+shared-slice-read-other-end : tie.Need-shared-slice-read-other-end
+shared-slice-read-other-end c = search needs
+
+other-end-requires : tie.Need-other-end-requires
+other-end-requires c κs = search needs
 
 cast-if1 : tie.Need-cast-if1
 cast-if1 c = search needs
@@ -20,23 +29,20 @@ mul-if1 c = search needs
 
 shared-slice-read-if1 : tie.Need-shared-slice-read-if1
 shared-slice-read-if1 c =
-    let across = c .before in
-    let edge = across .before in
-    let s = edge .before .before .before .before .before in
-    let g = s .pre in
-    omega (arith, u-below (g .growing) (g .branches) (edge .open-edge .ensures) (across .across .ensures _ (g .growing .admitted)), g .growing .marks .degrees-long, g .growing .admitted .vertices)
+    let f = c .before in
+    let o = f .before .before in
+    let g = o .before .before .before .before .before .pre in
+    omega (arith, u-below (g .growing) (g .branches) (across (g .growing) (o .open-end .ensures) (f .other-end .ensures)), g .growing .marks .degrees-long, g .growing .admitted .vertices)
 
 edge-ear-requires : tie.Need-edge-ear-requires
 edge-ear-requires c κs =
-    let across = c .before .before .before in
-    let edge = across .before in
-    let s = edge .before .before .before .before .before in
-    let g = s .pre in
+    let f = c .before .before .before in
+    let o = f .before .before in
+    let g = o .before .before .before .before .before .pre in
     record {
       growing = g .growing;
       branches = g .branches;
-      opened = edge .open-edge .ensures;
-      across = across .across .ensures _ (g .growing .admitted);
+      across = across (g .growing) (o .open-end .ensures) (f .other-end .ensures);
       new = c .before .if1 .taken;
     }
 
@@ -54,19 +60,21 @@ same-length-2 c = search needs
 
 returns-2 : tie.Need-returns-2
 returns-2 c =
-    let row = c .before .before in
-    let test = row .before .before in
-    let across = test .before .before in
-    let edge = across .before in
-    let s = edge .before .before .before .before .before in
-    λ growing. edge-grown growing (s .pre .branches) (edge .open-edge .ensures) (across .across .ensures _ (growing .admitted)) refl (test .if1 .left) (row .write-row .ensures)
+    let r = c .before .before in
+    let t = r .before .before in
+    let f = t .before .before in
+    let o = f .before .before in
+    λ g. edge-grown g (o .before .before .before .before .before .pre .branches) (across g (o .open-end .ensures) (f .other-end .ensures)) refl (t .if1 .left) (r .write-row .ensures)
 
 pub branch-ear-spec : {M : Type 1} → statement M
 branch-ear-spec =
     tie.close
     (tie.spec
-    open-edge-requires
-    across-requires
+    open-end-requires
+    cast-e
+    mul-other-end
+    shared-slice-read-other-end
+    other-end-requires
     cast-if1
     mul-if1
     shared-slice-read-if1

@@ -6,9 +6,6 @@ use borrow.Author.Needs.{needs}
 use Rattle.record.proofs.ear.mark_link.Statement.{statement}
 use Rattle.record.proofs.ear.mark_link.Tie as tie
 
-mul-marks : tie.Need-mul-marks
-mul-marks c = search needs
-
 slice-write-marks : tie.Need-slice-write-marks
 slice-write-marks c = search needs
 
@@ -53,7 +50,6 @@ pub mark-link-spec : {M : Type 1} → statement M
 mark-link-spec =
     tie.close
     (tie.spec
-    mul-marks
     slice-write-marks
     neighbour-requires
     beyond-requires

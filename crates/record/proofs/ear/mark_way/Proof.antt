@@ -17,9 +17,6 @@ loop-holds c = (refl, λ d. d .onward)
 cast-if1 : tie.Need-cast-if1 Inv-loop μ-loop
 cast-if1 c = let s = c .before .before .before .before in omega (arith, at-fits (c .loop .inv) (s .pre))
 
-mul-if1 : tie.Need-mul-if1 Inv-loop μ-loop
-mul-if1 c = let s = c .before .before .before .before in omega (arith, at-fits (c .loop .inv) (s .pre))
-
 slice-read-if1 : tie.Need-slice-read-if1 Inv-loop μ-loop
 slice-read-if1 c = let l = c .before in at-fits (l .loop .inv) (l .before .before .before .before .pre)
 
@@ -40,9 +37,6 @@ returns c = going-end (c .before .before .before .before .loop .inv) (c .if2 .ta
 
 cast-marks : tie.Need-cast-marks Inv-loop μ-loop
 cast-marks c = let l = c .before .before .before .before in omega (arith, at-fits (l .loop .inv) (l .before .before .before .before .pre))
-
-mul-marks : tie.Need-mul-marks Inv-loop μ-loop
-mul-marks c = let l = c .before .before .before .before in omega (arith, at-fits (l .loop .inv) (l .before .before .before .before .pre))
 
 slice-write-marks : tie.Need-slice-write-marks Inv-loop μ-loop
 slice-write-marks c = let l = c .before .before .before .before in at-fits (l .loop .inv) (l .before .before .before .before .pre)
@@ -75,7 +69,6 @@ mark-way-spec =
     μ-loop
     loop-holds
     cast-if1
-    mul-if1
     slice-read-if1
     cast-if2
     mul-if2
@@ -83,7 +76,6 @@ mark-way-spec =
     same-length
     returns
     cast-marks
-    mul-marks
     slice-write-marks
     beyond-requires
     loop-less

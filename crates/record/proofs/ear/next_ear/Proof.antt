@@ -8,10 +8,10 @@ plain-vertex-requires c κs = search needs
 
 link-ear-requires : tie.Need-link-ear-requires
 link-ear-requires c κs =
-    let plain = c .before .before in
-    let s = plain .before .before .before .before .before .before in
-    let f = plain .plain-vertex .ensures .found (c .before .if1 .taken) in
-    record { ready = s .pre; below = c .before .if1 .taken; built = f .0; plain = f .1 }
+    let t = c .before .before in
+    let v = t .before in
+    let f = v .plain-vertex .ensures .found (t .if1 .taken) in
+    record { ready = v .before .before .before .before .before .pre; below = t .if1 .taken; built = f .0; plain = f .1 }
 
 same-length : tie.Need-same-length
 same-length c = search needs
@@ -21,9 +21,8 @@ returns c = search needs
 
 branch-ear-requires : tie.Need-branch-ear-requires
 branch-ear-requires c κs =
-    let plain = c .before .before in
-    let s = plain .before .before .before .before .before .before in
-    record { growing = s .pre .growing; branches = plain .plain-vertex .ensures .none (c .before .if1 .left) }
+    let v = c .before .before in
+    record { growing = v .before .before .before .before .before .pre .growing; branches = v .plain-vertex .ensures .none (c .before .if1 .left) }
 
 same-length-2 : tie.Need-same-length-2
 same-length-2 c = search needs

@@ -2,8 +2,8 @@
 use native.Mathlib.Omega.{arith}
 use Rattle.record.proofs.Paths.{rises}
 use Rattle.record.proofs.Marking.{HeadingAll, ahead, heading-start, heading-below, heading-next, heading-step, heading-less, heading-end}
-use Rattle.record.proofs.theta.first_marked.Statement.{statement}
-use Rattle.record.proofs.theta.first_marked.Tie as tie
+use Rattle.record.proofs.walk.first_marked.Statement.{statement}
+use Rattle.record.proofs.walk.first_marked.Tie as tie
 
 abbrev Inv-loop : tie.InvT-loop
 Inv-loop ends first marks v at₀ at = HeadingAll ends first marks v at
