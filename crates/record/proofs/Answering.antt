@@ -1,10 +1,12 @@
 -- The answer about a plan and its record: refused, weak or firm as the definition has it, and what the lent list then holds.
 use mathlib.Core.Path.{_≡_, refl, sym, ap, subst, _∙_}
 use mathlib.Core.List.{List, [], _∷_, _++_}
+use mathlib.Core.Logic.{_⊎_, inl, inr}
 use mathlib.Core.Option.{Option, none, some}
 use Prim.Native.Nat.{ℕ, _*_, _/_, _≤_, _<_}
 use native.Mathlib.Omega.{arith}
 use lib.ListN.{length, take, drop}
+use denote.Enum.Declared.{tagOf}
 use lib.Seq.{take-at, drop-at}
 use Rattle.connectivity.specs.Graph.{graphOf, always}
 use Rattle.connectivity.specs.Reach.{ThreeEdgeConnected}
@@ -21,6 +23,7 @@ use Rattle.graph.specs.declared.Answer.{Answer}
 use Rattle.cuts.specs.declared.lowest.Lowest.{Lowest}
 use Rattle.cuts.specs.declared.Lightest.{Lightest}
 use Rattle.cuts.specs.declared.Lightest.the-variants as light
+use Rattle.cuts.proofs.Lightest as lightest
 use Rattle.cuts.specs.Verdict.{cutOf, lowestTold}
 use Rattle.record.specs.Step.{Sturdy}
 use Rattle.record.specs.Record.{Recorded}
@@ -80,7 +83,7 @@ module _ (n : ℕ) (ends lent : List ℕ) where
       unfolding lowestTold
       found p = p ∙ rw (admission-number limits n ends .1 a)
 
-      pub answers-weak : (c : Lowest) {l : Lightest} → l ≡ lowestTold limits n ends → l ≡ light.Cut c → Answered n ends lent lent (light.Cut c)
+      answers-weak : (c : Lowest) {l : Lightest} → l ≡ lowestTold limits n ends → l ≡ light.Cut c → Answered n ends lent lent (light.Cut c)
       unfolding meaning.verdictOn
       answers-weak c p q =
           let (list, at, same) = some-cut (lowestCut (graphOf n always ends)) (sym q ∙ found p) in
@@ -112,6 +115,8 @@ module _ (n : ℕ) (ends lent : List ℕ) where
             front : take (3 * (length ends / 2)) after ≡ c .list
             front = ap (take (3 * (length ends / 2))) (c .written) ∙ take-at (c .list) (drop (length (c .list)) lent) (3 * (length ends / 2)) (c .long)
 
-      -- an admitted plan is not refused
-      pub never-refused : {l : Lightest} {x : Answer} {P : Type 0} → l ≡ lowestTold limits n ends → l ≡ light.Refused x → P
-      never-refused p q = absurd (refused-cut (lowestCut (graphOf n always ends)) (sym q ∙ found p))
+      -- an admitted plan is not refused; where there is a cut, it is the answer
+      pub answers-cut : (l : Lightest) → l ≡ lowestTold limits n ends → (tagOf lightest.the-type l ≡ 0) ⊎ (tagOf lightest.the-type l ≡ 2) → Answered n ends lent lent l
+      answers-cut (light.Refused x) p k = absurd (refused-cut (lowestCut (graphOf n always ends)) (found p))
+      answers-cut (light.Cut c) p k = answers-weak c p refl
+      answers-cut light.NoCut p k = absurd (elim k [ inl q ↦ omega (arith, q) | inr q ↦ omega (arith, q) ])

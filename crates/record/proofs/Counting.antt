@@ -93,16 +93,14 @@ module _ {ends : List ℕ} {e : ℕ} {degrees used sums : List ℕ} (b : Edging 
 
   pub left-adding : Adding degrees sums l r
   left-adding = record {
-    degrees-room = omega (arith, left-long, b .tables .marks .degrees-long);
-    sums-room = omega (arith, left-long, b .tables .sums-are .long);
+    below = left-long;
     few = few l (fit .left);
     small = omega (arith, small l (fit .left), right-long);
   }
 
   pub right-adding : Adding (set degrees l (getD degrees l 0 + 1)) (set sums l (getD sums l 0 + r)) r l
   right-adding = record {
-    degrees-room = omega (arith, right-long, length-set degrees l (getD degrees l 0 + 1), b .tables .marks .degrees-long);
-    sums-room = omega (arith, right-long, length-set sums l (getD sums l 0 + r), b .tables .sums-are .long);
+    below = right-long;
     few = omega (arith, getD-set-other degrees l r (getD degrees l 0 + 1) 0 (λ q. fit .different (sym q)), few r (fit .right));
     small = omega (arith, getD-set-other sums l r (getD sums l 0 + r) 0 (λ q. fit .different (sym q)), small r (fit .right), left-long);
   }
@@ -113,7 +111,7 @@ module _ {ends : List ℕ} {e : ℕ} {degrees used sums : List ℕ} (b : Edging 
     used-long = length-set used e 1 ∙ m .used-long;
     degrees-are = λ v h. omega (
       arith,
-      raised-two degrees l r 1 1 v (left-adding .degrees-room) (omega (arith, right-long, m .degrees-long)) (fit .different),
+      raised-two degrees l r 1 1 v (omega (arith, left-long, m .degrees-long)) (omega (arith, right-long, m .degrees-long)) (fit .different),
       table-hits (b .n) ends e v,
       m .degrees-are v h,
     );
@@ -129,7 +127,7 @@ module _ {ends : List ℕ} {e : ℕ} {degrees used sums : List ℕ} (b : Edging 
     long = simp length-set (s .long);
     are = λ v h. omega (
       arith,
-      raised-two sums l r r l v (left-adding .sums-room) (omega (arith, right-long, s .long)) (fit .different),
+      raised-two sums l r r l v (omega (arith, left-long, s .long)) (omega (arith, right-long, s .long)) (fit .different),
       table-toward (b .n) ends e v,
       s .are v h,
     );

@@ -1,14 +1,13 @@
 -- The doors of x: the test of one edge, the lowest door from one edge to the next, and that there are two.
-use mathlib.Core.Path.{_≡_, refl, sym, _∙_, subst}
+use mathlib.Core.Path.{_≡_, refl, sym, ap, _∙_, subst}
 use mathlib.Core.Logic.{_⊎_, inl, inr, ⊎-elim}
-use mathlib.Core.Bool.{Bool, true, false}
 use mathlib.Core.List.{List}
 use Prim.Native.Nat.{ℕ, _+_, _*_, _/_, _≤_, _<_}
 use native.Mathlib.Omega.{arith}
 use native.Mathlib.Decide.{ℕ-discrete, decLt}
 use lib.Dec.{ltb}
 use lib.ListN.{length, getD}
-use borrow.Author.Tests.{ltb-true, ltb-false}
+use borrow.Author.Tests.{eq-eqb, ne-eqb}
 use Rattle.connectivity.specs.Graph.{Graph, Edge, Joins, graphOf, always}
 use Rattle.connectivity.specs.Reach.{ThreeEdgeConnected}
 use Rattle.connectivity.specs.Admission.{Admitted, limits}
@@ -20,6 +19,7 @@ use Rattle.search.proofs.Leads.{joins-below, joins-edge}
 use Rattle.connectivity.specs.Tells.{Tells}
 use Rattle.record.specs.Opening.{IsDoor, DoorFits, DoorsFit, NextDoor, Rooted, farEnd}
 use Rattle.record.proofs.Paths.{far-end}
+use Rattle.record.proofs.Filling.{tells-less}
 
 -- One edge.
 
@@ -30,25 +30,38 @@ module _ {ends marks : List ℕ} {e : ℕ} (x : ℕ) (f : DoorFits ends marks e)
   abbrev r : ℕ
   r = getD ends (2 * e + 1) 0
 
-  pub door-left : l ≡ x → Tells (ltb 0 (getD marks r 0)) (IsDoor ends marks x e)
-  door-left p = go (ltb 0 (getD marks r 0)) refl
-    where
-      go : (t : Bool) → ltb 0 (getD marks r 0) ≡ t → Tells t (IsDoor ends marks x e)
-      go true q = let m = ltb-true 0 (getD marks r 0) q in inl (p, λ z. omega (arith, m, z))
-      go false q = let m = ltb-false 0 (getD marks r 0) q in
-          λ d. ⊎-elim (λ h. h .1 (omega (arith, m))) (λ h. f .different (p ∙ sym (h .0))) d
+  far-left : l ≡ x → farEnd ends e x ≡ r
+  far-left p = rw (eq-eqb l x p)
 
-  module _ (n : l ≡ x → ⊥) where
-    pub door-right : r ≡ x → Tells (ltb 0 (getD marks l 0)) (IsDoor ends marks x e)
-    door-right p = go (ltb 0 (getD marks l 0)) refl
-      where
-        go : (t : Bool) → ltb 0 (getD marks l 0) ≡ t → Tells t (IsDoor ends marks x e)
-        go true q = let m = ltb-true 0 (getD marks l 0) q in inr (p, λ z. omega (arith, m, z))
-        go false q = let m = ltb-false 0 (getD marks l 0) q in
-            λ d. ⊎-elim (λ h. n (h .0)) (λ h. h .1 (omega (arith, m))) d
+  far-right : (l ≡ x → ⊥) → farEnd ends e x ≡ l
+  far-right d = rw (ne-eqb l x d)
 
-    pub door-none : (r ≡ x → ⊥) → IsDoor ends marks x e → ⊥
-    door-none m d = ⊎-elim (λ h. n (h .0)) (λ h. m (h .0)) d
+  pub far-fits : farEnd ends e x < length marks
+  far-fits = elim (ℕ-discrete l x) [ yes p ↦ rw (far-left p) (f .right) | no d ↦ rw (far-right d) (f .left) ]
+
+  -- back from the far end
+  back : farEnd ends e (farEnd ends e x) ≡ x → (l ≡ x) ⊎ (r ≡ x)
+  back h = elim (ℕ-discrete l x) [
+    | yes p ↦ inl p
+    | no d ↦ inr (sym (rw (eq-eqb l l refl)) ∙ ap (farEnd ends e) (sym (far-right d)) ∙ h)
+  ]
+
+  pub door-off : (farEnd ends e (farEnd ends e x) ≡ x → ⊥) → IsDoor ends marks x e → ⊥
+  door-off h i = elim i [
+    | inl q ↦ h (ap (farEnd ends e) (far-left (q .0)) ∙ rw (ne-eqb l r (f .different)) (q .0))
+    | inr q ↦ h (ap (farEnd ends e) (far-right (λ p. f .different (p ∙ sym (q .0)))) ∙ rw (eq-eqb l l refl) (q .0))
+  ]
+
+  pub door-on : farEnd ends e (farEnd ends e x) ≡ x → Tells (ltb 0 (getD marks (farEnd ends e x) 0)) (IsDoor ends marks x e)
+  door-on h = tells-less {P = IsDoor ends marks x e} 0 (getD marks (farEnd ends e x) 0)
+      (λ m. elim (ℕ-discrete l x) [
+        | yes p ↦ inl (p, λ z. omega (arith, rw (far-left p) at m, z))
+        | no d ↦ inr (elim (back h) [ inl p ↦ absurd (d p) | inr p ↦ p ], λ z. omega (arith, rw (far-right d) at m, z))
+      ])
+      (λ i. elim i [
+        | inl q ↦ rw (far-left (q .0)) (omega (arith, q .1))
+        | inr q ↦ rw (far-right (λ p. f .different (p ∙ sym (q .0)))) (omega (arith, q .1))
+      ])
 
 -- From one edge to the next.
 

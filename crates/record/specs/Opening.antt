@@ -13,7 +13,7 @@ use Rattle.connectivity.specs.Walk.{Leg, froms}
 use Rattle.connectivity.specs.Mader.{stepRows, rows}
 use Rattle.connectivity.specs.Admission.{Admitted, limits}
 use Rattle.search.specs.Search.{Marked}
-use Rattle.record.specs.Step.{Path, Written, Climbing}
+use Rattle.record.specs.Step.{Path, Written, Climbing, Sturdy, Opened}
 
 -- the rows with one written after the first `count`
 abbrev pub withRow : List ℕ → ℕ → ℕ → ℕ → ℕ → List ℕ
@@ -51,6 +51,15 @@ pub record Rooted (n : ℕ) (ends : List ℕ) (r x : ℕ) (first : List ℕ) : T
   pub long : n ≤ length first
   pub ways : (v : ℕ) → v < n → Marked first v → (v ≡ x → ⊥) → Up (graphOf n always ends) first r x v
   pub whole : (v : ℕ) → v < n → Through (graphOf n always ends) (Edge (graphOf n always ends)) (λ u. u ≡ x → ⊥) r v → Marked first v
+
+-- what the three walks ask after the search from one end of edge 0 around the other
+pub record Searched (ends first : List ℕ) (room : ℕ) : Type 0 where
+  pub n : ℕ
+  pub sturdy : Sturdy n ends room
+  pub rooted : Rooted n ends (getD ends 0 0) (getD ends 1 0) first
+
+abbrev pub OpenedBy : List ℕ → List ℕ → List ℕ → List ℕ → ℕ → Type 0
+OpenedBy ends first before after r = (c : Searched ends first (length before)) → Opened (c .n) ends before after r
 
 -- The doors of x: edges to a vertex that was seen.
 

@@ -17,8 +17,7 @@ pub record Tables (n : ℕ) (ends built degrees used sums : List ℕ) : Type 0 w
 
 -- one built edge more at v, to w
 pub record Adding (degrees sums : List ℕ) (v w : ℕ) : Type 0 where
-  pub degrees-room : v < length degrees
-  pub sums-room : v < length sums
+  pub below : v < 1000
   pub few : getD degrees v 0 ≤ 4000
   pub small : getD sums v 0 + w ≤ 4000000
 

@@ -63,9 +63,9 @@ fn build_rows(
     list: &[u16],
     first: u16,
     end: u16,
-    degree: &mut [u16],
-    used: &mut [u8],
-    sums: &mut [u32],
+    degree: &mut [u16; Graph::MAX_VERTICES as usize],
+    used: &mut [u8; Graph::MAX_EDGES],
+    sums: &mut [u32; Graph::MAX_VERTICES as usize],
 )
     requires { ⌜ Rowing (now ends) (now list) first end (now degree) (now used) (now sums) ⌝ }
     ensures { λ _. ⌜ Rowed (now (ends .entry)) (now (list .entry)) first end (now (degree .entry)) (now (used .entry)) (now (sums .entry)) (now (degree .exit)) (now (used .exit)) (now (sums .exit)) ⌝ }
@@ -77,7 +77,13 @@ fn build_rows(
     }
 }
 
-fn build_edge(ends: &[u16], e: u16, degree: &mut [u16], used: &mut [u8], sums: &mut [u32])
+fn build_edge(
+    ends: &[u16],
+    e: u16,
+    degree: &mut [u16; Graph::MAX_VERTICES as usize],
+    used: &mut [u8; Graph::MAX_EDGES],
+    sums: &mut [u32; Graph::MAX_VERTICES as usize],
+)
     requires { ⌜ Edging (now ends) e (now degree) (now used) (now sums) ⌝ }
     ensures { λ _. ⌜ Edged (now (ends .entry)) e (now (degree .entry)) (now (used .entry)) (now (sums .entry)) (now (degree .exit)) (now (used .exit)) (now (sums .exit)) ⌝ }
 {
@@ -90,7 +96,12 @@ fn build_edge(ends: &[u16], e: u16, degree: &mut [u16], used: &mut [u8], sums: &
 }
 
 // One built edge more at `v`, to `w`.
-fn add_end(v: u16, w: u16, degree: &mut [u16], sums: &mut [u32])
+fn add_end(
+    v: u16,
+    w: u16,
+    degree: &mut [u16; Graph::MAX_VERTICES as usize],
+    sums: &mut [u32; Graph::MAX_VERTICES as usize],
+)
     requires { ⌜ Adding (now degree) (now sums) v w ⌝ }
     ensures { λ _. ⌜ Added (now (degree .entry)) (now (sums .entry)) v w (now (degree .exit)) (now (sums .exit)) ⌝ }
 {

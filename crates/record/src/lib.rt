@@ -38,12 +38,9 @@ fn judge_admitted(vertices: u16, ends: &[u16], edges: u16, rows: &mut [u16]) -> 
         });
     }
     let found = cuts::lowest_cut(vertices, ends);
-    match found {
-        Lightest::Refused(answer) => Lightest::Refused(answer),
-        Lightest::Cut(cut) => Lightest::Cut(cut),
-        Lightest::NoCut => {
-            build::build_record(vertices, ends, edges, rows);
-            Lightest::NoCut
-        }
-    }
+    let Lightest::NoCut = found else {
+        return found;
+    };
+    build::build_record(vertices, ends, edges, rows);
+    Lightest::NoCut
 }

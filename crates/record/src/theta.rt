@@ -5,24 +5,32 @@ ghost use Prim.Native.Nat.{_<_};
 ghost use lib.ListN.{length};
 ghost use Rattle.connectivity.specs.Tells.{Tells};
 ghost use Rattle.record.specs.Step.{Sturdy, Opened};
-ghost use Rattle.record.specs.Opening.{Around, Rooted, IsDoor, DoorFits, DoorsFit, NextDoor, Way, MarkedUp, Meets, Met, OneMore, UpOver, OverUp, Three, ThreeWritten};
+ghost use Rattle.record.specs.Opening.{Around, Rooted, Searched, OpenedBy, IsDoor, DoorFits, DoorsFit, NextDoor, Way, MarkedUp, Meets, Met, OneMore, UpOver, OverUp, Three, ThreeWritten};
 
 // The rows of the first three walks at the front of `rows`; how many there are.
 pub(crate) fn first_walks(vertices: u16, ends: &[u16], rows: &mut [u16]) -> u16
     requires { ⌜ Sturdy vertices (now ends) (length (now rows)) ⌝ }
     ensures { λ r. ⌜ Opened vertices (now (ends .entry)) (now (rows .entry)) (now (rows .exit)) r ⌝ }
 {
+    let mut first = [0u16; Graph::MAX_VERTICES as usize];
+    search_around(vertices, ends, ends[0], ends[1], &mut first);
+    three_walks(ends, &first, rows)
+}
+
+// The same after the search from one end of edge 0 around the other.
+fn three_walks(ends: &[u16], first: &[u16], rows: &mut [u16]) -> u16
+    requires { ⌜ Searched (now ends) (now first) (length (now rows)) ⌝ }
+    ensures { λ q. ⌜ OpenedBy (now (ends .entry)) (now (first .entry)) (now (rows .entry)) (now (rows .exit)) q ⌝ }
+{
     let r = ends[0];
     let x = ends[1];
-    let mut first = [0u16; Graph::MAX_VERTICES as usize];
-    search_around(vertices, ends, r, x, &mut first);
     let edges = (ends.len() / 2) as u16;
-    let e2 = next_door(ends, &first, x, 0, edges);
-    let e3 = next_door(ends, &first, x, e2, edges);
+    let e2 = next_door(ends, first, x, 0, edges);
+    let e3 = next_door(ends, first, x, e2, edges);
     let k2 = walk::other_end(ends, e2, x);
     let k3 = walk::other_end(ends, e3, x);
-    let y = meeting(ends, &first, k2, k3, r);
-    write_walks(ends, &first, r, x, e2, k2, e3, k3, y, rows)
+    let y = meeting(ends, first, k2, k3, r);
+    write_walks(ends, first, r, x, e2, k2, e3, k3, y, rows)
 }
 
 // Searches from `r`; `x` is not passed through.
@@ -58,16 +66,12 @@ fn is_door(ends: &[u16], first: &[u16], x: u16, e: u16) -> bool
     requires { ⌜ DoorFits (now ends) (now first) e ⌝ }
     ensures { λ r. ⌜ Tells r (IsDoor (now (ends .entry)) (now (first .entry)) x e) ⌝ }
 {
-    let k = 2 * (e as usize);
-    let l = ends[k];
-    let r = ends[k + 1];
-    if l == x {
-        return 0 < first[r as usize];
+    let v = walk::other_end(ends, e, x);
+    // From `v` the edge leads back to `x` only if `x` is an end of it.
+    if walk::other_end(ends, e, v) != x {
+        return false;
     }
-    if r == x {
-        return 0 < first[l as usize];
-    }
-    false
+    0 < first[v as usize]
 }
 
 // The first vertex on the way up from `k3` to `r` that is also on the way from `k2`.

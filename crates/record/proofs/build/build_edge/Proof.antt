@@ -4,8 +4,8 @@ use Rattle.record.proofs.Counting.{left-adding, right-adding, edging-do
 use Rattle.record.proofs.build.build_edge.Statement.{statement}
 use Rattle.record.proofs.build.build_edge.Tie as tie
 
-slice-write-used : tie.Need-slice-write-used
-slice-write-used c = search needs
+element-write-used : tie.Need-element-write-used
+element-write-used c = search needs
 
 mul-k : tie.Need-mul-k
 mul-k c = search needs
@@ -26,34 +26,21 @@ shared-slice-read-r : tie.Need-shared-slice-read-r
 shared-slice-read-r c = search needs
 
 add-end-requires : tie.Need-add-end-requires
-add-end-requires c κs = left-adding (c .before .before .before .before .before .before .before .before .pre)
+add-end-requires c κs = left-adding (c .before .before .before .before .before .pre)
 
 add-end-requires-2 : tie.Need-add-end-requires-2
 add-end-requires-2 c κs =
-    let one = c .before .before .before .before .before .before in
-    let s = one .before .before .before .before .before .before .before .before .before in
-    rw (one .add-end .ensures .0, one .add-end .ensures .1) (right-adding (s .pre))
-
-same-length : tie.Need-same-length
-same-length c = search needs
-
-same-length-2 : tie.Need-same-length-2
-same-length-2 c = search needs
-
-same-length-3 : tie.Need-same-length-3
-same-length-3 c = search needs
+    let one = c .before .before in
+    rw (one .add-end .ensures .0, one .add-end .ensures .1) (right-adding (one .before .before .before .before .before .before .pre))
 
 returns : tie.Need-returns
-returns c b =
-    let two = c .before .before .before .before in
-    let one = two .before .before .before .before .before .before .before in
-    edging-done b (one .add-end .ensures) (two .add-end2 .ensures)
+returns c b = edging-done b (c .before .before .before .add-end .ensures) (c .add-end2 .ensures)
 
 pub build-edge-spec : {M : Type 1} → statement M
 build-edge-spec =
     tie.close
     (tie.spec
-    slice-write-used
+    element-write-used
     mul-k
     mul-l
     shared-slice-read-l
@@ -62,7 +49,4 @@ build-edge-spec =
     shared-slice-read-r
     add-end-requires
     add-end-requires-2
-    same-length
-    same-length-2
-    same-length-3
     returns)

@@ -1,6 +1,5 @@
 -- `build_rows` meets its contract: the rows from the last to the first, each with the edges behind it built.
 use borrow.Author.Needs.{needs}
-use mathlib.Core.Path.{sym, _∙_}
 use Prim.Native.Nat.{_-_}
 use native.Mathlib.Omega.{arith}
 use Rattle.record.proofs.Counting.{Building, building-start, building-edge, building-step, building-end}
@@ -14,7 +13,7 @@ abbrev μ-loop : tie.MeasureT-loop
 μ-loop ends list first end degree₀ used₀ sums₀ k₀ degree used sums k = k - first
 
 loop-holds : tie.Need-loop-holds Inv-loop μ-loop
-loop-holds c = building-start (c .before .before .before .before .before .pre)
+loop-holds c = building-start (c .before .before .pre)
 
 sub-k : tie.Need-sub-k Inv-loop μ-loop
 sub-k c = omega (arith, c .loop-test .taken)
@@ -32,36 +31,16 @@ mul-build-edge-2 : tie.Need-mul-build-edge-2 Inv-loop μ-loop
 mul-build-edge-2 c = search needs
 
 shared-slice-read-build-edge : tie.Need-shared-slice-read-build-edge Inv-loop μ-loop
-shared-slice-read-build-edge c = let i = c .before in omega (arith, i .before .loop .inv .high, i .before .before .before .before .before .before .before .pre .read, i .loop-test .taken)
+shared-slice-read-build-edge c = let i = c .before in omega (arith, i .before .loop .inv .high, i .before .before .before .before .pre .read, i .loop-test .taken)
 
 build-edge-requires : tie.Need-build-edge-requires Inv-loop μ-loop
-build-edge-requires c κs =
-    let i = c .before .before .before .before in
-    building-edge (i .before .loop .inv) (i .loop-test .taken) (i .before .before .before .before .before .before .before .pre)
+build-edge-requires c κs = let i = c .before .before .before .before in building-edge (i .before .loop .inv) (i .loop-test .taken) (i .before .before .before .before .pre)
 
 loop-less : tie.Need-loop-less Inv-loop μ-loop
-loop-less c = let i = c .before .before .before .before .before .before .before .before .before .before .before in omega (arith, i .loop-test .taken)
+loop-less c = omega (arith, c .before .before .before .before .before .loop-test .taken)
 
 loop-again : tie.Need-loop-again Inv-loop μ-loop
-loop-again c =
-    let b = c .before .before .before .before .before .before in
-    let i = b .before .before .before .before .before in
-    building-step (i .before .loop .inv) (i .loop-test .taken) (b .build-edge .ensures)
-
-same-length : tie.Need-same-length Inv-loop μ-loop
-same-length c =
-    let p = c .before .before .before .before .before .before .before .pre in
-    c .before .loop .inv .so-far p .marks .degrees-long ∙ sym (p .tables .marks .degrees-long)
-
-same-length-2 : tie.Need-same-length-2 Inv-loop μ-loop
-same-length-2 c =
-    let p = c .before .before .before .before .before .before .before .pre in
-    c .before .loop .inv .so-far p .marks .used-long ∙ sym (p .tables .marks .used-long)
-
-same-length-3 : tie.Need-same-length-3 Inv-loop μ-loop
-same-length-3 c =
-    let p = c .before .before .before .before .before .before .before .pre in
-    c .before .loop .inv .so-far p .sums-are .long ∙ sym (p .tables .sums-are .long)
+loop-again c = let i = c .before .before .before .before .before in building-step (i .before .loop .inv) (i .loop-test .taken) (c .build-edge .ensures)
 
 returns : tie.Need-returns Inv-loop μ-loop
 returns c b = building-end (c .before .loop .inv) (c .loop-test .left) b
@@ -82,7 +61,4 @@ build-rows-spec =
     build-edge-requires
     loop-less
     loop-again
-    same-length
-    same-length-2
-    same-length-3
     returns)

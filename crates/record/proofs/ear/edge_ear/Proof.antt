@@ -1,12 +1,12 @@
 -- `edge_ear` meets its contract: the way up from a built vertex, and over the edge, is an ear.
-use mathlib.Core.Path.{refl}
+use mathlib.Core.Path.{refl, sym, _∙_}
 use Prim.Native.Nat.{ℕ, _<_, _≤_}
 use native.Mathlib.Omega.{arith}
 use lib.ListN.{length, set, replicate, length-replicate, length-set}
 use Rattle.search.proofs.Leads.{joins-edge}
 use Rattle.search.proofs.From0.{zeros}
 use Rattle.record.specs.Growth.{Alone}
-use Rattle.record.proofs.FromEdge.{alone, u-below, edge-leaving, edge-room, long-grown}
+use Rattle.record.proofs.FromEdge.{alone, u-below, edge-leaving, edge-room, edge-few, long-grown}
 use borrow.Author.Needs.{needs}
 use Rattle.record.proofs.ear.edge_ear.Statement.{statement}
 use Rattle.record.proofs.ear.edge_ear.Tie as tie
@@ -25,10 +25,10 @@ array-write-dead : tie.Need-array-write-dead
 array-write-dead c = let s = c .before .before .before .before in let g = s .pre .growing in omega (arith, joins-edge _ (s .args .ends .now) _ _ _ (s .pre .across .joins), g .admitted .edges)
 
 slice-aggregate-exit-walk : tie.Need-slice-aggregate-exit-walk
-slice-aggregate-exit-walk c = search needs
+slice-aggregate-exit-walk c = sym (length-set {A = ℕ} (replicate 1000 0) (c .before .before .before .before .before .args .u) 1 ∙ length-replicate {A = ℕ} 1000 0)
 
 slice-aggregate-exit-walk-2 : tie.Need-slice-aggregate-exit-walk-2
-slice-aggregate-exit-walk-2 c = search needs
+slice-aggregate-exit-walk-2 c = let s = c .before .before .before .before .before .before in sym (length-set (s .args .used .now) (s .args .e) 1 ∙ s .pre .growing .marks .used-long)
 
 exit-walk-requires : tie.Need-exit-walk-requires
 exit-walk-requires c κs =
@@ -45,7 +45,11 @@ write-row-requires c κs =
     omega (arith, edge-room (g .growing) (g .branches) (g .across) (g .new) (lone s) (w .exit-walk .ensures), w .exit-walk .kept .1 .1 .1 .1 .1 .1 .0)
 
 add-result : tie.Need-add-result
-add-result c = search needs
+add-result c =
+    let w = c .before .before .before .before .before .before in
+    let s = w .before .before .before .before .before .before .before .before in
+    let g = s .pre in
+    omega (arith, edge-few (g .growing) (g .branches) (g .across) (g .new) (lone s) (w .exit-walk .ensures))
 
 same-length : tie.Need-same-length
 same-length c = search needs

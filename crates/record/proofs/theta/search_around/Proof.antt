@@ -1,32 +1,35 @@
 -- `search_around` meets its contract: the roles make r the start, and x a vertex that is not passed through.
+use mathlib.Core.Path.{sym, _∙_}
 use Prim.Native.Nat.{ℕ}
 use native.Mathlib.Omega.{arith}
-use lib.ListN.{replicate, length-replicate}
+use lib.ListN.{set, replicate, length-replicate, length-set}
 use borrow.Author.Needs.{needs}
 use Rattle.record.proofs.Roots.{rooted-by}
 use Rattle.record.proofs.theta.search_around.Statement.{statement}
 use Rattle.record.proofs.theta.search_around.Tie as tie
 
 array-write-roles : tie.Need-array-write-roles
-array-write-roles c = search needs
+array-write-roles c = let p = c .before .before .pre in omega (arith, p .root, p .admitted .vertices)
 
 array-write-roles-2 : tie.Need-array-write-roles-2
-array-write-roles-2 c = search needs
+array-write-roles-2 c = let p = c .before .before .pre in omega (arith, p .other, p .admitted .vertices)
 
 slice-aggregate-explore : tie.Need-slice-aggregate-explore
-slice-aggregate-explore c = search needs
+slice-aggregate-explore c =
+    let a = c .before .before .before .args in
+    sym (length-set {A = ℕ} (set (replicate 1000 0) (a .r) 1) (a .x) 2 ∙ length-set {A = ℕ} (replicate 1000 0) (a .r) 1 ∙ length-replicate {A = ℕ} 1000 0)
 
 slice-aggregate-explore-2 : tie.Need-slice-aggregate-explore-2
-slice-aggregate-explore-2 c = search needs
+slice-aggregate-explore-2 c = sym (length-replicate {A = ℕ} 4000 0)
 
 slice-aggregate-explore-3 : tie.Need-slice-aggregate-explore-3
-slice-aggregate-explore-3 c = search needs
+slice-aggregate-explore-3 c = sym (length-replicate {A = ℕ} 1000 0)
 
 explore-requires : tie.Need-explore-requires
 explore-requires c κs = search needs
 
 same-length : tie.Need-same-length
-same-length c = search needs
+same-length c = c .before .before .before .explore .kept .1 .1 .1 .1 .0
 
 returns : tie.Need-returns
 returns c =
