@@ -37,7 +37,7 @@ build-record-requires c κs =
     (s .pre .0, sturdy (s .args .vertices) (s .args .ends .now) (s .args .rows .now) (s .pre .1) (enough (cut .before)) (cut .lowest-cut .ensures) (c .before .enum-told .given .1))
 
 same-length : tie.Need-same-length
-same-length c = search needs
+same-length c = c .before .before .build-record .kept .1 .1 .1 .0
 
 returns-3 : tie.Need-returns-3
 returns-3 c =

@@ -47,7 +47,7 @@ edge-ear-requires c κs =
     }
 
 same-length : tie.Need-same-length
-same-length c = search needs
+same-length c = c .before .before .edge-ear .kept .1 .1 .1 .1 .1 .1 .1 .0
 
 returns : tie.Need-returns
 returns c = search needs
@@ -56,7 +56,7 @@ write-row-requires : tie.Need-write-row-requires
 write-row-requires c κs = search needs
 
 same-length-2 : tie.Need-same-length-2
-same-length-2 c = search needs
+same-length-2 c = c .before .before .write-row .kept .0
 
 returns-2 : tie.Need-returns-2
 returns-2 c =

@@ -7,7 +7,6 @@ use Rattle.search.proofs.Leads.{joins-edge}
 use Rattle.search.proofs.From0.{zeros}
 use Rattle.record.specs.Growth.{Alone}
 use Rattle.record.proofs.FromEdge.{alone, u-below, edge-leaving, edge-room, edge-few, long-grown}
-use borrow.Author.Needs.{needs}
 use Rattle.record.proofs.ear.edge_ear.Statement.{statement}
 use Rattle.record.proofs.ear.edge_ear.Tie as tie
 
@@ -52,7 +51,7 @@ add-result c =
     omega (arith, edge-few (g .growing) (g .branches) (g .across) (g .new) (lone s) (w .exit-walk .ensures))
 
 same-length : tie.Need-same-length
-same-length c = search needs
+same-length c = c .before .before .write-row .kept .0 ∙ c .before .before .before .before .before .before .exit-walk .kept .1 .1 .1 .1 .1 .1 .0
 
 returns : tie.Need-returns
 returns c =

@@ -30,7 +30,7 @@ enum-known-found : tie.Need-enum-known-found
 enum-known-found c = search needs
 
 same-length : tie.Need-same-length
-same-length c = search needs
+same-length c = c .before .before .before .before .explore .kept .1 .1 .1 .1 .0
 
 returns : tie.Need-returns
 returns c =
@@ -60,7 +60,7 @@ array-read-result c =
     omega (arith, e .2 .some, count-most (s .pre .admitted) (s .args .dead .now) (r .ear-roles .ensures) (e .1), s .pre .admitted .vertices)
 
 same-length-2 : tie.Need-same-length-2
-same-length-2 c = search needs
+same-length-2 c = c .before .before .before .before .before .before .explore .kept .1 .1 .1 .1 .0
 
 returns-2 : tie.Need-returns-2
 returns-2 c =

@@ -37,7 +37,7 @@ climb-requires c κs =
     exit-climbing (s .pre .exiting) (x .exit .ensures) (long x) _ (m .first-marked .ensures (toward x)) (s .pre .space (x .exit .ensures))
 
 same-length : tie.Need-same-length
-same-length c = search needs
+same-length c = c .before .before .climb .kept .1 .1 .1 .1 .1 .0
 
 returns : tie.Need-returns
 returns c =

@@ -30,7 +30,7 @@ exit-walk-requires c κs =
     link-leaving g (m .mark-link .ensures (linking g (room g) (zeros 1000))) (omega (arith, m .mark-link .kept .1 .1 .1 .1 .1 .0, room g))
 
 same-length : tie.Need-same-length
-same-length c = search needs
+same-length c = c .before .before .exit-walk .kept .1 .1 .1 .1 .1 .1 .0
 
 returns : tie.Need-returns
 returns c =

@@ -14,7 +14,7 @@ link-ear-requires c κs =
     record { ready = v .before .before .before .before .before .pre; below = t .if1 .taken; built = f .0; plain = f .1 }
 
 same-length : tie.Need-same-length
-same-length c = search needs
+same-length c = c .before .before .link-ear .kept .1 .1 .1 .1 .1 .1 .1 .0
 
 returns : tie.Need-returns
 returns c = search needs
@@ -25,7 +25,7 @@ branch-ear-requires c κs =
     record { growing = v .before .before .before .before .before .pre .growing; branches = v .plain-vertex .ensures .none (c .before .if1 .left) }
 
 same-length-2 : tie.Need-same-length-2
-same-length-2 c = search needs
+same-length-2 c = c .before .before .branch-ear .kept .1 .1 .1 .1 .1 .0
 
 returns-2 : tie.Need-returns-2
 returns-2 c = λ r. c .before .before .branch-ear .ensures (r .growing)

@@ -28,7 +28,7 @@ three-walks-requires : tie.Need-three-walks-requires
 three-walks-requires c κs = search needs
 
 same-length : tie.Need-same-length
-same-length c = search needs
+same-length c = c .before .before .three-walks .kept .1 .1 .0
 
 returns : tie.Need-returns
 returns c =
