@@ -4,9 +4,7 @@ use mathlib.Core.Logic.{_⊎_, inl, inr, ⊎-elim}
 use mathlib.Core.List.{List, [], _∷_, List·Memᴰ as In, List·Memᴰ·head as first, List·Memᴰ·tail as later, List·Memᴰ·not-nil as not-in, List·Memᴰ·cases-cons as in-cons}
 use Prim.Native.Nat.{ℕ, _-_, _*_, _/_, _+_, _≤_, _<_}
 use native.Mathlib.Omega.{arith}
-use native.Mathlib.Decide.{ℕ-discrete}
 use lib.ListN.{length, getD, set, length-set}
-use lib.Seq.{getD-set-same, getD-set-other}
 use Rattle.connectivity.specs.Graph.{Graph, Joins, graphOf, always}
 use Rattle.connectivity.specs.Reach.{here, over}
 use Rattle.connectivity.specs.Walk.{hits, Branch}

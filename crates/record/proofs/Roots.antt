@@ -5,7 +5,7 @@ use mathlib.Core.List.{List, List·Memᴰ as In, List·Memᴰ·not-nil as not-in
 use Prim.Native.Nat.{ℕ, suc, _/_, _≤_, _<_}
 use native.Mathlib.Omega.{arith}
 use native.Mathlib.Decide.{ℕ-discrete}
-use lib.ListN.{length, getD, set, replicate, length-set, length-replicate}
+use lib.ListN.{length, getD, set, length-set}
 use lib.Seq.{getD-set-same, getD-set-other}
 use Rattle.connectivity.specs.Graph.{Graph, graphOf, always}
 use Rattle.connectivity.specs.Reach.{Through, stay, leave}
@@ -17,10 +17,9 @@ use Rattle.search.specs.declared.Explored.the-variants.{Refused, Seen, Met}
 use Rattle.search.proofs.Climb as trees
 use Rattle.search.proofs.Outcomes.{enough-room}
 use Rattle.search.proofs.Leads.{joins-edge}
-use Rattle.search.proofs.From0.{zeros}
 use Rattle.search.proofs.Tally.{tally-le}
 use Rattle.record.specs.Step.{Path, there, up}
-use Rattle.record.specs.Opening.{Around, Up, Rooted}
+use Rattle.record.specs.Opening.{Up, Rooted}
 use Rattle.record.proofs.Exits.{climb-path, climb-short}
 
 -- The search's tree as ways up.
@@ -57,6 +56,9 @@ module _ (n r x : ℕ) (ends blank dead : List ℕ) (a : Admitted limits n ends)
   abbrev roles : List ℕ
   roles = rolesOf blank r x
 
+  roles-room : n ≤ length roles
+  roles-room = omega (arith, room, length-set blank r 1, length-set (set blank r 1) x 2)
+
   role-x : getD roles x 0 ≡ 2
   role-x = getD-set-same (set blank r 1) x 2 0 (omega (arith, length-set blank r 1, room, other))
 
@@ -81,10 +83,10 @@ module _ (n r x : ℕ) (ends blank dead : List ℕ) (a : Admitted limits n ends)
   off-most : (v : ℕ) → (v ≡ x → ⊥) → Pass roles v
   off-most v d = elim (ℕ-discrete v r) [ yes p ↦ rw p (omega (arith, role-r)) | no e ↦ omega (arith, role-other v d e) ]
 
-  pub no-goal : (v : ℕ) → Goal roles v → ⊥
+  no-goal : (v : ℕ) → Goal roles v → ⊥
   no-goal v h = elim (ℕ-discrete v x) [ yes q ↦ omega (arith, rw q at h, role-x) | no d ↦ omega (arith, h, off-most v d) ]
 
-  pub rooted : {first₀ order₀ marks order : List ℕ} {count : ℕ} → Found g (Live dead) (Pass roles) (Start roles) n first₀ order₀ marks order count
+  rooted : {first₀ order₀ marks order : List ℕ} {count : ℕ} → Found g (Live dead) (Pass roles) (Start roles) n first₀ order₀ marks order count
       → Whole g (Live dead) (Pass roles) (Start roles) (Goal roles) n marks order count → n ≤ length marks → Rooted n ends r x marks
   rooted {marks = marks} {order = order} {count = count} f w long = record {
     long = long;
@@ -113,22 +115,9 @@ module _ (n r x : ℕ) (ends blank dead : List ℕ) (a : Admitted limits n ends)
             short = omega (arith, climb-short t u, c, f .counted, tally-le marks n, a .vertices);
           }
 
--- the answer of the search on arrays of the limits' size
-pub rooted-by : {n r x : ℕ} {ends first₀ marks : List ℕ} (order₀ order : List ℕ) → Around n ends r x first₀ → n ≤ length order₀ → n ≤ length marks → (found : Explored)
-    → Answered n ends (rolesOf (replicate 1000 0) r x) (replicate 4000 0) first₀ order₀ marks order found → Rooted n ends r x marks
-rooted-by {n} {r} {x} {ends} {first₀} order₀ order o room long (Refused answer) h =
-    let thousand = length-replicate {A = ℕ} 1000 0 in
-    let one = length-set {A = ℕ} (replicate 1000 0) r 1 in
-    let two = length-set {A = ℕ} (set (replicate 1000 0) r 1) x 2 in
-    let edges = length-replicate {A = ℕ} 4000 0 in
-    let a = o .admitted in
-    absurd (h .0 .0 (ap (λ (z : Answer). z .number) (enough-room n ends (rolesOf (replicate 1000 0) r x) (replicate 4000 0) first₀ order₀ a
-    (omega (arith, a .vertices), (omega (arith, a .edges), (o .long, room))))))
-rooted-by {n} {r} {x} {ends} order₀ order o room long (Seen count) h =
-    let thousand = length-replicate {A = ℕ} 1000 0 in
-    let a = o .admitted in
-    rooted n r x ends (replicate 1000 0) (replicate 4000 0) a (o .root) (o .other) (o .different) (omega (arith, a .vertices)) (zeros 1000) (zeros 4000) (h .1) (h .2) long
-rooted-by {n} {r} {x} {ends} order₀ order o room long (Met count) h =
-    let thousand = length-replicate {A = ℕ} 1000 0 in
-    let a = o .admitted in
-    absurd (no-goal n r x ends (replicate 1000 0) (replicate 4000 0) a (o .root) (o .other) (o .different) (omega (arith, a .vertices)) (zeros 1000) (zeros 4000) _ (h .2 .met))
+  -- the answer of the search
+  module _ (first₀ order₀ marks order : List ℕ) (edges : length ends / 2 ≤ length dead) (first-room : n ≤ length first₀) (order-room : n ≤ length order₀) where
+    pub rooted-by : n ≤ length marks → (found : Explored) → Answered n ends roles dead first₀ order₀ marks order found → Rooted n ends r x marks
+    rooted-by long (Refused answer) h = absurd (h .0 .0 (ap (λ (z : Answer). z .number) (enough-room n ends roles dead first₀ order₀ a (roles-room, (edges, (first-room, order-room))))))
+    rooted-by long (Seen count) h = rooted (h .1) (h .2) long
+    rooted-by long (Met count) h = absurd (no-goal _ (h .2 .met))

@@ -1,6 +1,6 @@
 -- `build_record` meets its contract: after each turn the rows so far are those of Mader's steps.
 use mathlib.Core.Path.{_∙_}
-use Prim.Native.Nat.{_-_, _/_, _<_}
+use Prim.Native.Nat.{_-_}
 use native.Mathlib.Omega.{arith}
 use lib.ListN.{length}
 use Rattle.record.specs.Step.{Sturdy}

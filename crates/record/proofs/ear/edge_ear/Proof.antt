@@ -1,8 +1,8 @@
 -- `edge_ear` meets its contract: the way up from a built vertex, and over the edge, is an ear.
 use mathlib.Core.Path.{refl, sym, _∙_}
-use Prim.Native.Nat.{ℕ, _<_, _≤_}
+use Prim.Native.Nat.{ℕ, _<_}
 use native.Mathlib.Omega.{arith}
-use lib.ListN.{length, set, replicate, length-replicate, length-set}
+use lib.ListN.{set, replicate, length-replicate, length-set}
 use Rattle.search.proofs.Leads.{joins-edge}
 use Rattle.search.proofs.From0.{zeros}
 use Rattle.record.specs.Growth.{Alone}
