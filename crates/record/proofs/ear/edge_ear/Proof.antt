@@ -5,7 +5,7 @@ use native.Mathlib.Omega.{arith}
 use lib.ListN.{set, replicate, length-replicate, length-set}
 use Rattle.search.proofs.Leads.{joins-edge}
 use Rattle.search.proofs.From0.{zeros}
-use Rattle.record.specs.Growth.{Alone}
+use Rattle.record.specs.Growth.{Alone, WalkedOut}
 use Rattle.record.proofs.FromEdge.{alone, u-below, edge-leaving, edge-room, edge-few, long-grown}
 use Rattle.record.proofs.ear.edge_ear.Statement.{statement}
 use Rattle.record.proofs.ear.edge_ear.Tie as tie
@@ -16,6 +16,12 @@ below s = let g = s .pre in omega (arith, u-below (g .growing) (g .branches) (g 
 -- no other vertex is marked
 lone : (s : tie.Start) → Alone (s .args .u) (set (replicate 1000 0) (s .args .u) 1)
 lone s = alone (replicate 1000 0) (zeros 1000) (omega (arith, below s, length-replicate {A = ℕ} 1000 0))
+
+-- the walk to the edge's end, on the arrays as they are made here
+walked : (w : tie.After-exit-walk) → let a = w .before .before .before .before .before .before .before .before .args in
+    WalkedOut (a .vertices) (a .ends .now) (a .degree .now) (set (replicate 1000 0) (a .u) 1) (set (a .used .now) (a .e) 1) (a .step) (a .rows .now)
+    (w .exit-walk .last .1 .1 .1 .1 .1 .1 .0) (w .exit-walk .result)
+walked w = w .exit-walk .ensures
 
 array-write-marks : tie.Need-array-write-marks
 array-write-marks c = below (c .before .before .before)
@@ -41,14 +47,14 @@ write-row-requires c κs =
     let w = c .before .before .before in
     let s = w .before .before .before .before .before .before .before .before in
     let g = s .pre in
-    omega (arith, edge-room (g .growing) (g .branches) (g .across) (g .new) (lone s) (w .exit-walk .ensures), w .exit-walk .kept .1 .1 .1 .1 .1 .1 .0)
+    omega (arith, edge-room (g .growing) (g .branches) (g .across) (g .new) (lone s) (walked w), w .exit-walk .kept .1 .1 .1 .1 .1 .1 .0)
 
 add-result : tie.Need-add-result
 add-result c =
     let w = c .before .before .before .before .before .before in
     let s = w .before .before .before .before .before .before .before .before in
     let g = s .pre in
-    omega (arith, edge-few (g .growing) (g .branches) (g .across) (g .new) (lone s) (w .exit-walk .ensures))
+    omega (arith, edge-few (g .growing) (g .branches) (g .across) (g .new) (lone s) (walked w))
 
 same-length : tie.Need-same-length
 same-length c = c .before .before .write-row .kept .0 ∙ c .before .before .before .before .before .before .exit-walk .kept .1 .1 .1 .1 .1 .1 .0
@@ -59,7 +65,7 @@ returns c =
     let w = r .before .before .before .before in
     let s = w .before .before .before .before .before .before .before .before in
     let p = s .pre in
-    λ g. long-grown g (p .branches) (p .across) (p .new) (lone s) (w .exit-walk .ensures) refl (r .write-row .ensures)
+    λ g. long-grown g (p .branches) (p .across) (p .new) (lone s) (walked w) refl (r .write-row .ensures)
 
 pub edge-ear-spec : {M : Type 1} → statement M
 edge-ear-spec =
