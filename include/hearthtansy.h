@@ -7,6 +7,17 @@
  * The caller sees to it that each pointer is not null, also where its length is 0, that it is aligned for its type, that as many
  * numbers or bytes can be read behind it as its length says, and that nothing changes them until the call returns.
  *
+ * Stack: the proof is about a machine whose stack has no end, so the caller sees to it that there is enough. HEARTHTANSY_CHECK_STACK and
+ * HEARTHTANSY_CHECK_TEXTS_STACK are the bytes to keep free below the call: what was measured at the largest inputs, by `bench/run stack`,
+ * rounded up by a kilobyte or two. Interrupts that run on the same stack come on top. Nothing calls itself or goes through a pointer, so no
+ * input takes more than the deepest chain of calls, which the measured ones go down. No heap is used.
+ *
+ * Machine: the toolchain compiles for x86-64 Linux, so the archive links into x86-64 programs alone, by the System V calling convention.
+ * Of the C library it takes memcpy and memset. A board with another processor can't link it. Until there is more, such a
+ * board does not judge by itself: it goes on unwatched only at the answer of an x86-64 machine beside it that runs this check, over a link on
+ * which nobody else can speak; that machine and the link are then trusted like the board. Where it runs Linux, an emulator of x86-64 can
+ * run the program verdict_check instead, and is then trusted as well.
+ *
  * An answer is a number and a place in one uint32_t: the number in the upper sixteen bits, the place in the lower.
  *
  *   0        passed; the place is 0, so the whole answer is 0
@@ -44,6 +55,10 @@
 #ifdef __cplusplus
 extern "C" {
 #endif
+
+/* Bytes of stack to keep free below a call. */
+#define HEARTHTANSY_CHECK_STACK 13312
+#define HEARTHTANSY_CHECK_TEXTS_STACK 54272
 
 /*
  * The check of a verdict about a plan, both as numbers. `ends` has two numbers for each tab, the pieces that it joins. `kind` is 0 for a

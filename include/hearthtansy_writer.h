@@ -7,6 +7,9 @@
  * The caller sees to it that each pointer is not null, also where its length is 0, that it is aligned for its type, that as many numbers
  * or bytes stand behind it as its length says, that nothing else changes or reads them until the call returns, and that what is written
  * to does not overlap what is read.
+ *
+ * Stack and machine: as hearthtansy.h says. HEARTHTANSY_VERDICT_STACK and HEARTHTANSY_VERDICT_TEXT_STACK are the bytes of stack to keep
+ * free below the call; the archive links into x86-64 programs alone.
  */
 #ifndef HEARTHTANSY_WRITER_H
 #define HEARTHTANSY_WRITER_H
@@ -17,6 +20,10 @@
 #ifdef __cplusplus
 extern "C" {
 #endif
+
+/* Bytes of stack to keep free below a call. */
+#define HEARTHTANSY_VERDICT_STACK 58368
+#define HEARTHTANSY_VERDICT_TEXT_STACK 98304
 
 /*
  * The verdict on a plan. `ends` has two numbers for each tab, the pieces that it joins; `rows` is lent for the record. The lengths count

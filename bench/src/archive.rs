@@ -36,6 +36,28 @@ unsafe extern "C" {
     ) -> u64;
 }
 
+/// The exported functions, in the order of their addresses and names below.
+#[derive(Clone, Copy)]
+pub enum Exported {
+    Check,
+    CheckTexts,
+    Verdict,
+    VerdictText,
+}
+
+pub const EXPORTED: [(*const (), &str); 4] = [
+    (hearthtansy_check as *const (), "hearthtansy_check"),
+    (
+        hearthtansy_check_texts as *const (),
+        "hearthtansy_check_texts",
+    ),
+    (hearthtansy_verdict as *const (), "hearthtansy_verdict"),
+    (
+        hearthtansy_verdict_text as *const (),
+        "hearthtansy_verdict_text",
+    ),
+];
+
 /// An answer from number x 65,536 + place.
 fn answer(told: u32) -> Answer {
     Answer {

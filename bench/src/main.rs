@@ -1,5 +1,5 @@
 //! The proved check and the proved writer beside second ones: `measure` and `measure-writer` have both timed, `compare` and
-//! `compare-writer` have their answers compared.
+//! `compare-writer` have their answers compared. `stack` has the stack measured that the proved ones take.
 
 mod archive;
 mod brute;
@@ -14,12 +14,13 @@ mod plans;
 mod random;
 mod second;
 mod shapes;
+mod stack;
 mod texts;
 mod writer;
 
 use std::process::ExitCode;
 
-const USE: &str = "use: bench/run [measure | measure-writer | compare [COUNT [SEED]] | compare-writer [COUNT [SEED]]]";
+const USE: &str = "use: bench/run [measure | measure-writer | stack | compare [COUNT [SEED]] | compare-writer [COUNT [SEED]]]";
 
 fn main() -> ExitCode {
     let words: Vec<String> = std::env::args().skip(1).collect();
@@ -27,6 +28,7 @@ fn main() -> ExitCode {
     let done = match words[..] {
         [] | ["measure"] => measure::run(),
         ["measure-writer"] => measure_writer::run(),
+        ["stack"] => stack::run(),
         ["compare"] => compare::run(500_000, 1),
         ["compare", count] => compare::run(whole(count), 1),
         ["compare", count, seed] => compare::run(whole(count), whole(seed)),

@@ -1,0 +1,274 @@
+//! How much stack each exported function takes at the largest inputs, beside what the headers ask for.
+//!
+//! Each call is made on a stack of its own: a block of memory, painted before, to whose upper end the stack pointer is set for the
+//! call alone. What the call takes is the distance from there down to the lowest byte that has lost its paint. That includes the
+//! return address and what `memcpy` and `memset` of this machine's C library take, and nothing of the caller: all arguments go
+//! in registers. A byte that is written with the paint's own value would not show, so each call is made on two paints.
+//! What a function sets aside below its lowest write does not show, and needs no memory.
+
+use crate::archive::{self, Exported};
+use crate::damage::number;
+use crate::grow::{Case, Family, grow};
+use crate::random::Random;
+use crate::shapes::{Plan, shapes};
+use crate::texts;
+use std::arch::asm;
+
+const HEADERS: &str = concat!(
+    include_str!("../../include/hearthtansy.h"),
+    include_str!("../../include/hearthtansy_writer.h")
+);
+const PIECES: usize = 1000;
+const TABS: usize = 4000;
+/// Damaged ones of each verdict and each plan.
+const DAMAGED: usize = 8;
+/// The block, in words of 16 bytes, and its two paints.
+const WORDS: usize = 1 << 14;
+const PAINTS: [u128; 2] = [
+    u128::from_ne_bytes([0x5a; 16]),
+    u128::from_ne_bytes([0xc3; 16]),
+];
+
+/// The deepest use of a function, and over how many inputs.
+pub struct Use {
+    pub name: &'static str,
+    pub bytes: usize,
+    pub inputs: usize,
+}
+
+/// Prints a table: the deepest use of each function. More than its header asks for is an error.
+pub fn run() -> Result<(), String> {
+    println!("| function | stack, bytes | its header asks for | inputs |");
+    println!("|---|---|---|---|");
+    for Use {
+        name,
+        bytes,
+        inputs,
+    } in measure()?
+    {
+        let asked = asked(name)?;
+        println!("| `{name}` | {bytes} | {asked} | {inputs} |");
+        if asked < bytes {
+            return Err(format!("{name} takes more stack than its header asks for"));
+        }
+    }
+    Ok(())
+}
+
+/// The bytes of stack that a function's header asks for.
+fn asked(name: &str) -> Result<usize, String> {
+    let define = format!("#define {}_STACK ", name.to_uppercase());
+    let mut bytes = HEADERS
+        .lines()
+        .filter_map(|line| line.strip_prefix(&define));
+    let bytes = bytes.next().and_then(|bytes| bytes.parse().ok());
+    bytes.ok_or(format!("no header says how much stack {name} takes"))
+}
+
+/// The deepest use of each function over firm, weak, refused, damaged and rejected inputs of 1,000 pieces and 4,000 tabs.
+fn measure() -> Result<Vec<Use>, String> {
+    let mut random = Random::new(1);
+    let mut stack = Stack::new();
+    for family in [Family::Short, Family::Long, Family::Far] {
+        let case = grow(&mut random, family, PIECES, TABS);
+        stack.verdicts(&mut random, &case)?;
+    }
+    for shape in shapes() {
+        let plan = shape.plan(&mut random, TABS);
+        stack.plans(&mut random, &plan)?;
+    }
+    Ok(stack.uses)
+}
+
+/// A block of memory that calls are made on, and what they have taken so far, in the order of `archive::EXPORTED`.
+struct Stack {
+    block: Vec<u128>,
+    uses: Vec<Use>,
+}
+
+impl Stack {
+    fn new() -> Stack {
+        let unused = |&(_, name)| Use {
+            name,
+            bytes: 0,
+            inputs: 0,
+        };
+        Stack {
+            block: vec![0; WORDS],
+            uses: archive::EXPORTED.iter().map(unused).collect(),
+        }
+    }
+
+    /// Makes a call on each paint and keeps what it took, if that is the most so far.
+    fn call(&mut self, which: Exported, words: [usize; 6]) -> Result<u64, String> {
+        let (address, _) = archive::EXPORTED[which as usize];
+        let mut told = [0; 2];
+        for (paint, told) in PAINTS.into_iter().zip(&mut told) {
+            self.block.fill(paint);
+            let top = self.block.as_mut_ptr_range().end;
+            // SAFETY: the words are what the function asks for, and the block is not used meanwhile but as its stack.
+            *told = unsafe { on_stack(top, address, words) };
+            let bytes = self.taken(paint)?;
+            let deepest = &mut self.uses[which as usize].bytes;
+            *deepest = bytes.max(*deepest);
+        }
+        self.uses[which as usize].inputs += 1;
+        if told[0] != told[1] {
+            return Err(format!("two answers to one input: {told:?}"));
+        }
+        Ok(told[0])
+    }
+
+    /// How many bytes there are from the lowest one that has lost its paint to the end of the block.
+    fn taken(&self, paint: u128) -> Result<usize, String> {
+        let kept = self.block.iter().take_while(|&&word| word == paint).count();
+        let Some(word) = self.block.get(kept) else {
+            return Ok(0);
+        };
+        if kept == 0 {
+            return Err("the block is too small for a stack".to_string());
+        }
+        let (is, was) = (word.to_ne_bytes(), paint.to_ne_bytes());
+        let more = is.iter().zip(was).take_while(|(is, was)| *is == was);
+        Ok((WORDS - kept) * 16 - more.count())
+    }
+
+    fn check(&mut self, case: &Case) -> Result<(), String> {
+        let Case {
+            vertices,
+            ends,
+            kind,
+            list,
+        } = case;
+        let (pieces, kind) = (*vertices as usize, *kind as usize);
+        let [ends, count] = [ends.as_ptr() as usize, ends.len()];
+        let [list, length] = [list.as_ptr() as usize, list.len()];
+        self.call(Exported::Check, [pieces, ends, count, kind, list, length])?;
+        Ok(())
+    }
+
+    fn check_texts(&mut self, plan: &[u8], verdict: &[u8]) -> Result<(), String> {
+        let [text, length] = [verdict.as_ptr() as usize, verdict.len()];
+        let words = [plan.as_ptr() as usize, plan.len(), text, length, 0, 0];
+        self.call(Exported::CheckTexts, words)?;
+        Ok(())
+    }
+
+    /// A verdict as it is, damaged, and of other kinds, as numbers and as texts.
+    fn verdicts(&mut self, random: &mut Random, case: &Case) -> Result<(), String> {
+        self.both(case)?;
+        for _ in 0..DAMAGED {
+            let mut damaged = case.clone();
+            number(random, &mut damaged);
+            self.both(&damaged)?;
+        }
+        let [plan, verdict] = texts_of(case);
+        for _ in 0..DAMAGED {
+            let [mut plan, mut verdict] = [plan.clone(), verdict.clone()];
+            texts::damage(random, &mut verdict);
+            self.check_texts(&plan, &verdict)?;
+            texts::damage(random, &mut plan);
+            self.check_texts(&plan, &verdict)?;
+        }
+        let last = (case.ends.len() / 2) as u16 - 1;
+        for kind in 0..4 {
+            for list in [vec![], vec![last], vec![0, last], vec![last, 0, 0]] {
+                let case = case.clone();
+                self.both(&Case { kind, list, ..case })?;
+            }
+        }
+        Ok(())
+    }
+
+    /// A verdict as numbers and as texts.
+    fn both(&mut self, case: &Case) -> Result<(), String> {
+        self.check(case)?;
+        let [plan, verdict] = texts_of(case);
+        self.check_texts(&plan, &verdict)
+    }
+
+    fn verdict(&mut self, plan: &Plan, rows: &mut [u16]) -> Result<u64, String> {
+        let [ends, count] = [plan.ends.as_ptr() as usize, plan.ends.len()];
+        let [list, length] = [rows.as_mut_ptr() as usize, rows.len()];
+        let words = [plan.vertices as usize, ends, count, list, length, 0];
+        self.call(Exported::Verdict, words)
+    }
+
+    fn verdict_text(&mut self, plan: &[u8], text: &mut [u8]) -> Result<usize, String> {
+        let [written, length] = [text.as_mut_ptr() as usize, text.len()];
+        let words = [plan.as_ptr() as usize, plan.len(), written, length, 0, 0];
+        Ok(self.call(Exported::VerdictText, words)? as usize)
+    }
+
+    /// A plan as it is, with too little space, refused and damaged, and the check of what is written, as numbers and as texts.
+    fn plans(&mut self, random: &mut Random, plan: &Plan) -> Result<(), String> {
+        let tabs = plan.ends.len() / 2;
+        let mut rows = vec![0; tabs * 3];
+        let told = self.verdict(plan, &mut rows)?;
+        let [kind, count, first, second] = [48, 32, 16, 0].map(|bits| (told >> bits) as u16);
+        let cut = [first, second][..(count as usize).min(2)].to_vec();
+        let (vertices, ends) = (plan.vertices, plan.ends.clone());
+        let list = if kind == 0 { rows.clone() } else { cut };
+        self.check(&Case {
+            vertices,
+            ends,
+            kind,
+            list,
+        })?;
+        self.verdict(plan, &mut rows[1..])?;
+        let text = texts::write(plan.vertices, &plan.ends, 2);
+        let mut written = vec![0; 16 * tabs + 11];
+        let length = self.verdict_text(&text, &mut written)?;
+        self.check_texts(&text, &written[..length])?;
+        self.verdict_text(&text, &mut written[..length - 1])?;
+        for _ in 0..DAMAGED {
+            let mut damaged = plan.clone();
+            let at = random.below(2 * tabs);
+            damaged.ends[at] = random.below(PIECES + 1) as u16;
+            self.verdict(&damaged, &mut rows)?;
+            let mut text = texts::write(damaged.vertices, &damaged.ends, 2);
+            self.verdict_text(&text, &mut written)?;
+            texts::damage(random, &mut text);
+            self.verdict_text(&text, &mut written)?;
+        }
+        Ok(())
+    }
+}
+
+/// The texts of a plan and of a verdict, also of one that has none.
+fn texts_of(case: &Case) -> [Vec<u8>; 2] {
+    let columns = if case.kind == 0 { 3 } else { 1 };
+    [
+        texts::write(case.vertices, &case.ends, 2),
+        texts::write(case.kind, &case.list, columns),
+    ]
+}
+
+/// Calls a function with these words as its arguments, on the stack that ends at `top`.
+///
+/// # Safety
+/// The function must take the words as its arguments, and the block below `top` must be large enough and its own for the call.
+unsafe fn on_stack(top: *mut u128, function: *const (), words: [usize; 6]) -> u64 {
+    let told;
+    // SAFETY: r12 keeps the stack pointer, as the convention has the function preserve it; all that it may change is named.
+    unsafe {
+        asm!(
+            "mov r12, rsp",
+            "mov rsp, {top}",
+            "call {function}",
+            "mov rsp, r12",
+            top = in(reg) top,
+            function = in(reg) function,
+            in("rdi") words[0],
+            in("rsi") words[1],
+            in("rdx") words[2],
+            in("rcx") words[3],
+            in("r8") words[4],
+            in("r9") words[5],
+            out("r12") _,
+            lateout("rax") told,
+            clobber_abi("sysv64"),
+        );
+    }
+    told
+}
