@@ -1,5 +1,5 @@
-//! The proved check and the proved writer beside second ones: `measure` and `measure-writer` have both timed, `compare` and
-//! `compare-writer` have their answers compared. `stack` has the stack measured that the proved ones take.
+//! The proved check and the proved writer beside second ones: `measure`, `measure-writer` and `measure-texts` have them timed, `stack` has
+//! their stack measured, `figures` all of these; `compare` and `compare-writer` have the answers of both compared.
 
 mod archive;
 mod brute;
@@ -9,18 +9,20 @@ mod compare_writer;
 mod damage;
 mod grow;
 mod measure;
+mod measure_texts;
 mod measure_writer;
 mod plans;
 mod random;
 mod second;
 mod shapes;
 mod stack;
+mod table;
 mod texts;
 mod writer;
 
 use std::process::ExitCode;
 
-const USE: &str = "use: bench/run [measure | measure-writer | stack | compare [COUNT [SEED]] | compare-writer [COUNT [SEED]]]";
+const USE: &str = "use: bench/run [measure | measure-writer | measure-texts | stack | figures | compare [COUNT [SEED]] | compare-writer [COUNT [SEED]]]";
 
 fn main() -> ExitCode {
     let words: Vec<String> = std::env::args().skip(1).collect();
@@ -28,7 +30,9 @@ fn main() -> ExitCode {
     let done = match words[..] {
         [] | ["measure"] => measure::run(),
         ["measure-writer"] => measure_writer::run(),
+        ["measure-texts"] => measure_texts::run(),
         ["stack"] => stack::run(),
+        ["figures"] => figures(),
         ["compare"] => compare::run(500_000, 1),
         ["compare", count] => compare::run(whole(count), 1),
         ["compare", count, seed] => compare::run(whole(count), whole(seed)),
@@ -44,6 +48,25 @@ fn main() -> ExitCode {
             ExitCode::FAILURE
         }
     }
+}
+
+/// All that docs/BENCHMARKS.md has from here: its tables, in its order, then both comparisons.
+fn figures() -> Result<(), String> {
+    type Run = fn() -> Result<(), String>;
+    let parts: [(&str, Run); 6] = [
+        ("The check", measure::run),
+        ("The writer", measure_writer::run),
+        ("Texts", measure_texts::run),
+        ("Stack", stack::run),
+        ("Checks compared", || compare::run(500_000, 1)),
+        ("Writers compared", || compare_writer::run(1_000_000, 1)),
+    ];
+    for (name, run) in parts {
+        println!("## {name}\n");
+        run()?;
+        println!();
+    }
+    Ok(())
 }
 
 fn whole(word: &str) -> u64 {

@@ -1,11 +1,14 @@
-//! How long both checks take on grown graphs, and how that grows.
+//! How much processor time both checks take, and how that grows.
 
+use crate::clock::{median, time};
 use crate::compare::same;
 use crate::grow::{Case, Family, grow};
 use crate::random::Random;
-use crate::{archive, second};
+use crate::shapes::{grouped, shapes};
+use crate::table::{head, number, numbers, row, whole};
+use crate::{archive, second, writer};
 use std::hint::black_box;
-use std::time::Instant;
+use std::time::Duration;
 
 const SIZES: [usize; 3] = [100, 1000, 4000];
 const FAMILIES: [(&str, Family); 3] = [
@@ -13,58 +16,69 @@ const FAMILIES: [(&str, Family); 3] = [
     ("few long links", Family::Long),
     ("ends far apart", Family::Far),
 ];
-/// Graphs of each size and family, and samples of each graph; a sample calls a check until it has seen so many rows.
+/// Graphs of each size and family, samples of each verdict, and how long a sample takes at least.
 const GRAPHS: usize = 9;
-const SAMPLES: usize = 31;
-const ROWS: usize = 50_000;
+const SAMPLES: usize = 15;
+const TIME: Duration = Duration::from_millis(2);
 
-/// The graphs of one family and size, and the times of one call of each check in nanoseconds.
-struct Cell {
-    family: &'static str,
-    edges: usize,
-    cases: Vec<Case>,
-    proved: Vec<f64>,
-    other: Vec<f64>,
-}
-
-/// Prints a table: median times of a check of one record, and how they grow.
+/// Prints two tables: median times of a check of one verdict, of firm ones by size, of weak ones at the limits of their shape.
 pub fn run() -> Result<(), String> {
-    let mut cells = cells()?;
-    for _ in 0..SAMPLES {
-        cells.iter_mut().for_each(Cell::sample);
-    }
-    println!(
-        "family              tabs pieces  proved, us  second, us  ratio ns per row  x tabs  x time"
-    );
-    let mut before: Option<&Cell> = None;
-    for cell in &cells {
-        cell.print(before.filter(|before| before.family == cell.family));
-        before = Some(cell);
-    }
-    println!(
-        "medians over {GRAPHS} graphs with {SAMPLES} samples each; both checks answered 0 and 0 to every record"
-    );
-    Ok(())
+    records()?;
+    println!();
+    weak_lists()
 }
 
-fn cells() -> Result<Vec<Cell>, String> {
-    let mut random = Random::new(1);
-    let mut cells = Vec::new();
-    for (name, family) in FAMILIES {
-        for edges in SIZES {
-            let grown = (0..GRAPHS).map(|_| grow(&mut random, family, edges / 4, edges));
-            let cases: Vec<Case> = grown.collect();
-            cases.iter().try_for_each(passes)?;
-            cells.push(Cell {
-                family: name,
-                edges,
-                cases,
-                proved: Vec::new(),
-                other: Vec::new(),
-            });
+type Check = fn(u16, &[u16], u16, &[u16]) -> second::Answer;
+const CHECKS: [Check; 2] = [archive::check, second::check];
+
+/// The median nanoseconds of each check over some verdicts, sampled in turn.
+fn medians(cases: &[Case]) -> [f64; 2] {
+    let mut times = [Vec::new(), Vec::new()];
+    for _ in 0..SAMPLES {
+        for case in cases {
+            for (check, times) in CHECKS.iter().zip(&mut times) {
+                times.push(time(TIME, || {
+                    let case = black_box(case);
+                    black_box(check(case.vertices, &case.ends, case.kind, &case.list));
+                }));
+            }
         }
     }
-    Ok(cells)
+    times.map(|times| median(&times))
+}
+
+fn records() -> Result<(), String> {
+    let mut random = Random::new(1);
+    head(&[
+        "records",
+        "tabs",
+        "proved, µs",
+        "second, µs",
+        "ratio",
+        "ns for each row",
+        "against the size before",
+    ]);
+    for (name, family) in FAMILIES {
+        let mut before = None;
+        for tabs in SIZES {
+            let grown = (0..GRAPHS).map(|_| grow(&mut random, family, tabs / 4, tabs));
+            let cases: Vec<Case> = grown.collect();
+            cases.iter().try_for_each(|case| passes(case))?;
+            let [proved, other] = medians(&cases);
+            let growth = before.map_or(String::new(), |before| format!("× {:.1}", proved / before));
+            row(&[
+                name.to_string(),
+                whole(tabs),
+                number(proved / 1e3),
+                number(other / 1e3),
+                format!("{:.1}", proved / other),
+                number(proved / tabs as f64),
+                growth,
+            ]);
+            before = Some(proved);
+        }
+    }
+    Ok(())
 }
 
 /// Both checks answer 0 and 0.
@@ -73,52 +87,44 @@ fn passes(case: &Case) -> Result<(), String> {
     if answer.number == 0 && answer.place == 0 {
         return Ok(());
     }
-    Err(format!("a grown record is answered {answer:?}: {case:?}"))
+    Err(format!("a verdict is answered {answer:?}: {case:?}"))
 }
 
-impl Cell {
-    /// One sample of each graph and check, in turn.
-    fn sample(&mut self) {
-        for case in &self.cases {
-            self.proved.push(time(case, archive::check));
-            self.other.push(time(case, second::check));
+/// Weak verdicts that pass, each the lowest cut of its plan.
+fn weak_lists() -> Result<(), String> {
+    let mut random = Random::new(1);
+    head(&[
+        "weak verdicts",
+        "pieces",
+        "tabs",
+        "proved, µs",
+        "second, µs",
+    ]);
+    let shapes = shapes();
+    for group in grouped(&shapes).filter(|group| !group[0].firm) {
+        let mut times = Vec::new();
+        let mut about = (0, 0);
+        for shape in group {
+            let plan = shape.plan(&mut random, SIZES[2]);
+            about = (plan.vertices as usize, plan.ends.len() / 2);
+            let mut rows = vec![0; about.1 * 3];
+            let [kind, count, first, last] = writer::verdict(plan.vertices, &plan.ends, &mut rows);
+            let case = Case {
+                vertices: plan.vertices,
+                ends: plan.ends,
+                kind,
+                list: [first, last][..count as usize].to_vec(),
+            };
+            passes(&case)?;
+            times.push(medians(&[case]));
         }
+        row(&[
+            group[0].title(),
+            whole(about.0),
+            whole(about.1),
+            numbers(times.iter().map(|[proved, _]| proved / 1e3)),
+            numbers(times.iter().map(|[_, other]| other / 1e3)),
+        ]);
     }
-
-    /// A line of the table, beside the next smaller size, if there is one.
-    fn print(&self, before: Option<&Cell>) {
-        let (proved, other) = (median(&self.proved), median(&self.other));
-        let edges = self.edges as f64;
-        print!(
-            "{:<17} {:>6} {:>6}",
-            self.family,
-            self.edges,
-            self.edges / 4
-        );
-        print!(" {:>11.2} {:>11.2}", proved / 1e3, other / 1e3);
-        print!(" {:>6.2} {:>10.1}", proved / other, proved / edges);
-        if let Some(before) = before {
-            let growth = proved / median(&before.proved);
-            print!(" {:>7.1} {growth:>7.1}", edges / before.edges as f64);
-        }
-        println!();
-    }
-}
-
-type Check = fn(u16, &[u16], u16, &[u16]) -> second::Answer;
-
-fn time(case: &Case, check: Check) -> f64 {
-    let calls = ROWS.div_ceil(case.list.len() / 3);
-    let start = Instant::now();
-    for _ in 0..calls {
-        let case = black_box(case);
-        black_box(check(case.vertices, &case.ends, case.kind, &case.list));
-    }
-    start.elapsed().as_nanos() as f64 / calls as f64
-}
-
-pub fn median(times: &[f64]) -> f64 {
-    let mut times = times.to_vec();
-    times.sort_by(f64::total_cmp);
-    times[times.len() / 2]
+    Ok(())
 }

@@ -1,69 +1,107 @@
 //! How much processor time both writers take, and how that grows.
 
+use crate::clock::{median, time};
 use crate::compare_writer::obeys;
-use crate::measure::median;
 use crate::plans::Trial;
 use crate::random::Random;
-use crate::shapes::{Plan, Shape, shapes};
+use crate::shapes::{Plan, Shape, grouped, shapes};
+use crate::table::{head, number, numbers, row, whole};
 use crate::writer::Write;
-use crate::{archive, clock, writer};
+use crate::{archive, writer};
 use std::hint::black_box;
 use std::time::Duration;
 
 const SIZES: [usize; 3] = [100, 1000, 4000];
-/// Plans of each size and shape that varies, and samples of each plan; a sample calls a writer again until so much time is over.
+/// Plans of each size and shape that varies, samples of each plan, and how long a sample takes at least.
 const PLANS: usize = 5;
 const SAMPLES: usize = 9;
 const TIME: Duration = Duration::from_millis(2);
+const WRITERS: [Write; 2] = [archive::verdict, writer::verdict];
 
-/// The median times of one call of each writer in nanoseconds.
+/// Pieces and tabs of a shape at a size, and the median nanoseconds of one call of each writer.
 struct Cell {
+    pieces: usize,
     tabs: usize,
-    pieces: u16,
-    proved: f64,
-    other: f64,
+    times: [f64; 2],
 }
 
-/// Prints a table: median times of one verdict, and how they grow.
+/// Prints three tables: median times of one verdict, of random firm plans by size, of the other firm shapes and of weak ones at their limits.
 pub fn run() -> Result<(), String> {
-    println!(
-        "verdict shape                         tabs pieces  proved, ms  second, ms   ratio  x tabs  x time"
-    );
     let mut random = Random::new(1);
-    for shape in shapes() {
-        let mut before: Option<Cell> = None;
-        for size in SIZES {
-            let cell = measure(&mut random, &shape, size)?;
-            if before.as_ref().is_none_or(|before| before.tabs < cell.tabs) {
-                cell.print(&shape, before.as_ref());
-            }
-            before = Some(cell);
+    let shapes = shapes();
+    growth(&mut random, &shapes)?;
+    for (firm, name) in [(true, "other firm plans"), (false, "weak plans")] {
+        println!();
+        head(&[name, "pieces", "tabs", "proved, ms", "second, ms"]);
+        let chosen = |shape: &Shape| shape.firm == firm && !(firm && shape.varies());
+        for group in grouped(&shapes).filter(|group| chosen(&group[0])) {
+            let cells = group.iter().map(|s| measure(&mut random, s, SIZES[2]));
+            let cells: Vec<Cell> = cells.collect::<Result<_, _>>()?;
+            row(&[
+                group[0].title(),
+                whole(cells[0].pieces),
+                whole(cells[0].tabs),
+                numbers(cells.iter().map(|cell| cell.times[0] / 1e6)),
+                numbers(cells.iter().map(|cell| cell.times[1] / 1e6)),
+            ]);
         }
     }
-    println!(
-        "medians of {SAMPLES} samples, over {PLANS} plans where a shape varies; the verdicts are the same and pass both checks"
-    );
+    Ok(())
+}
+
+/// How the time grows with the size, for the firm shapes that vary.
+fn growth(random: &mut Random, shapes: &[Shape]) -> Result<(), String> {
+    head(&[
+        "firm plans, by size",
+        "tabs",
+        "proved, ms",
+        "second, ms",
+        "ratio",
+        "against the size before",
+    ]);
+    for shape in shapes.iter().filter(|shape| shape.firm && shape.varies()) {
+        let mut before = None;
+        for size in SIZES {
+            let cell = measure(random, shape, size)?;
+            let [proved, other] = cell.times;
+            let growth = before.map_or(String::new(), |before| format!("× {:.1}", proved / before));
+            row(&[
+                shape.title(),
+                whole(cell.tabs),
+                number(proved / 1e6),
+                number(other / 1e6),
+                format!("{:.1}", proved / other),
+                growth,
+            ]);
+            before = Some(proved);
+        }
+    }
     Ok(())
 }
 
 fn measure(random: &mut Random, shape: &Shape, size: usize) -> Result<Cell, String> {
     let count = if shape.varies() { PLANS } else { 1 };
-    let (mut proved, mut other) = (Vec::new(), Vec::new());
-    let mut about = (0, 0);
+    let mut times = [Vec::new(), Vec::new()];
+    let (mut pieces, mut tabs) = (0, 0);
     for _ in 0..count {
         let plan = shape.plan(random, size);
         agree(&plan, shape)?;
+        (pieces, tabs) = (plan.vertices as usize, plan.ends.len() / 2);
+        let mut rows = vec![0; 3 * tabs];
         for _ in 0..SAMPLES {
-            proved.push(time(&plan, archive::verdict));
-            other.push(time(&plan, writer::verdict));
+            for (write, times) in WRITERS.iter().zip(&mut times) {
+                times.push(time(TIME, || {
+                    let plan = black_box(&plan);
+                    black_box(write(plan.vertices, &plan.ends, &mut rows));
+                }));
+            }
         }
-        about = (plan.ends.len() / 2, plan.vertices);
     }
+    let times = times.map(|times| median(&times));
     Ok(Cell {
-        tabs: about.0,
-        pieces: about.1,
-        proved: median(&proved),
-        other: median(&other),
+        pieces,
+        tabs,
+        times,
     })
 }
 
@@ -71,44 +109,14 @@ fn measure(random: &mut Random, shape: &Shape, size: usize) -> Result<Cell, Stri
 fn agree(plan: &Plan, shape: &Shape) -> Result<(), String> {
     let rows = vec![0; plan.ends.len() / 2 * 3];
     let expected = writer::verdict(plan.vertices, &plan.ends, &mut rows.clone());
-    let wrong = |why| format!("{}: {why}, for {plan:?}", shape.name);
+    let wrong = |why| format!("{}, {}: {why}, for {plan:?}", shape.name, shape.order);
     if expected[0] != !shape.firm as u16 {
         return Err(wrong(format!("{expected:?}")));
     }
     let plan = plan.clone();
     let trial = Trial { plan, rows };
-    for write in [archive::verdict, writer::verdict] {
+    for write in WRITERS {
         obeys(&trial, write, expected).map_err(wrong)?;
     }
     Ok(())
-}
-
-fn time(plan: &Plan, write: Write) -> f64 {
-    let mut rows = vec![0; plan.ends.len() / 2 * 3];
-    let mut calls = 0;
-    let start = clock::now();
-    let mut spent = Duration::ZERO;
-    while spent < TIME {
-        let plan = black_box(plan);
-        black_box(write(plan.vertices, &plan.ends, &mut rows));
-        calls += 1;
-        spent = clock::now() - start;
-    }
-    spent.as_nanos() as f64 / calls as f64
-}
-
-impl Cell {
-    /// A line of the table, beside the next smaller size, if there is one.
-    fn print(&self, shape: &Shape, before: Option<&Cell>) {
-        let verdict = if shape.firm { "firm" } else { "weak" };
-        print!("{verdict:<7} {:<29}", shape.name);
-        print!(" {:>4} {:>6}", self.tabs, self.pieces);
-        print!(" {:>11.3} {:>11.3}", self.proved / 1e6, self.other / 1e6);
-        print!(" {:>7.1}", self.proved / self.other);
-        if let Some(before) = before {
-            let tabs = self.tabs as f64 / before.tabs as f64;
-            print!(" {tabs:>7.1} {:>7.1}", self.proved / before.proved);
-        }
-        println!();
-    }
 }

@@ -28,9 +28,10 @@ type Make = fn(&mut Random, usize) -> Plan;
 /// The tabs of a long shape, from one end to the other, no more than so many.
 type Long = fn(usize) -> Vec<[usize; 2]>;
 
-/// A named shape; firm or weak.
+/// A named shape; firm or weak. One that is numbered in several orders stands once for each.
 pub struct Shape {
-    pub name: String,
+    pub name: &'static str,
+    pub order: &'static str,
     pub firm: bool,
     kind: Kind,
 }
@@ -52,6 +53,21 @@ impl Shape {
     pub fn varies(&self) -> bool {
         matches!(self.kind, Kind::Mixed(_))
     }
+
+    /// The name, with the orders that the shapes of this name stand for.
+    pub fn title(&self) -> String {
+        let orders = if self.varies() {
+            ""
+        } else {
+            ": up, down, other"
+        };
+        format!("{}{orders}", self.name)
+    }
+}
+
+/// The shapes of one name together.
+pub fn grouped(shapes: &[Shape]) -> impl Iterator<Item = &[Shape]> {
+    shapes.chunk_by(|a, b| a.name == b.name && a.firm == b.firm)
 }
 
 /// All shapes, the firm ones first.
@@ -95,16 +111,17 @@ pub fn shapes() -> Vec<Shape> {
     shapes
 }
 
-fn mixed(shapes: &mut Vec<Shape>, firm: bool, name: &str, make: Make) {
+fn mixed(shapes: &mut Vec<Shape>, firm: bool, name: &'static str, make: Make) {
     shapes.push(Shape {
-        name: name.to_string(),
+        name,
+        order: "",
         firm,
         kind: Kind::Mixed(make),
     });
 }
 
 /// A long shape in each order.
-fn orders(shapes: &mut Vec<Shape>, firm: bool, name: &str, make: Long) {
+fn orders(shapes: &mut Vec<Shape>, firm: bool, name: &'static str, make: Long) {
     let orders = [
         ("up", Order::Up),
         ("down", Order::Down),
@@ -112,7 +129,8 @@ fn orders(shapes: &mut Vec<Shape>, firm: bool, name: &str, make: Long) {
     ];
     for (word, order) in orders {
         shapes.push(Shape {
-            name: format!("{name}, {word}"),
+            name,
+            order: word,
             firm,
             kind: Kind::Long(make, order),
         });

@@ -11,6 +11,7 @@ use crate::damage::number;
 use crate::grow::{Case, Family, grow};
 use crate::random::Random;
 use crate::shapes::{Plan, shapes};
+use crate::table::{head, row, whole};
 use crate::texts;
 use std::arch::asm;
 
@@ -38,8 +39,7 @@ pub struct Use {
 
 /// Prints a table: the deepest use of each function. More than its header asks for is an error.
 pub fn run() -> Result<(), String> {
-    println!("| function | stack, bytes | its header asks for | inputs |");
-    println!("|---|---|---|---|");
+    head(&["function", "stack, bytes", "its header asks for", "inputs"]);
     for Use {
         name,
         bytes,
@@ -47,7 +47,8 @@ pub fn run() -> Result<(), String> {
     } in measure()?
     {
         let asked = asked(name)?;
-        println!("| `{name}` | {bytes} | {asked} | {inputs} |");
+        let [taken, header, inputs] = [bytes, asked, inputs].map(whole);
+        row(&[format!("`{name}`"), taken, header, inputs]);
         if asked < bytes {
             return Err(format!("{name} takes more stack than its header asks for"));
         }
