@@ -63,7 +63,7 @@ fn records() -> Result<(), String> {
         for tabs in SIZES {
             let grown = (0..GRAPHS).map(|_| grow(&mut random, family, tabs / 4, tabs));
             let cases: Vec<Case> = grown.collect();
-            cases.iter().try_for_each(|case| passes(case))?;
+            cases.iter().try_for_each(passes)?;
             let [proved, other] = medians(&cases);
             let growth = before.map_or(String::new(), |before| format!("× {:.1}", proved / before));
             row(&[
