@@ -4,64 +4,92 @@ use mathlib.Core.List.{List, [], _∷_}
 use mathlib.Core.Option.{Option, none, some}
 use Prim.Native.Nat.{ℕ, _*_, _/_, _≤_}
 use native.Mathlib.Omega.{arith}
-use lib.ListN.{length}
-use Rattle.connectivity.specs.Graph.{graphOf, always}
-use Rattle.connectivity.specs.Cut.{LowestCut, lowestCut}
-use Rattle.connectivity.specs.Admission.{Admitted, limits}
+use lib.ListN.{length, getD, take}
+use Rattle.connectivity.specs.Plan.{Plan, graph, Limits}
+use Rattle.connectivity.specs.Cut.{lowestCut}
+use Rattle.connectivity.specs.Admission.{Handed, served, refusal, Admitted}
 use Rattle.connectivity.specs.Verdict as meaning
 use Rattle.connectivity.proofs.Admission.{admitted-edges}
 use Rattle.connectivity.proofs.Verdict.{reaches, verdict-weak}
+use Rattle.graph.specs.Admission.{answerOf}
 use Rattle.graph.specs.declared.Answer.{Answer}
+use Rattle.graph.proofs.Lent.{not-served}
+use Rattle.cuts.specs.declared.lowest.Lowest.{Lowest}
 use Rattle.certify.specs.declared.Finding.{Finding}
+use Rattle.certify.specs.declared.Outcome.{Outcome}
 use Rattle.certify.specs.declared.Outcome.the-variants.{Refused, Weak, Firm}
-use Rattle.certify.specs.Answered.{Answered, told, named}
+use Rattle.certify.specs.Answered.{Answered, handedBy, named}
 
-weak-outcome : (v : meaning.Verdict) → (told v) .outcome ≡ Weak → (cut : List ℕ) × (v ≡ meaning.weak cut)
-weak-outcome (meaning.refused a) p = let z : _≡_ {A = ℕ} 0 1 = cc in absurd (omega arith)
-weak-outcome (meaning.weak []) p = ([], refl)
-weak-outcome (meaning.weak (e ∷ [])) p = (e ∷ [], refl)
-weak-outcome (meaning.weak (e ∷ (d ∷ l))) p = (e ∷ (d ∷ l), refl)
-weak-outcome meaning.firm p = let z : _≡_ {A = ℕ} 0 1 = cc in absurd (omega arith)
+-- Firm is handed back of a firm verdict alone.
 
-firm-outcome : (v : meaning.Verdict) → (told v) .outcome ≡ Firm → v ≡ meaning.firm
-firm-outcome (meaning.refused a) p = let z : _≡_ {A = ℕ} 0 1 = cc in absurd (omega arith)
-firm-outcome (meaning.weak []) p = let z : _≡_ {A = ℕ} 0 1 = cc in absurd (omega arith)
-firm-outcome (meaning.weak (e ∷ [])) p = let z : _≡_ {A = ℕ} 0 1 = cc in absurd (omega arith)
-firm-outcome (meaning.weak (e ∷ (d ∷ l))) p = let z : _≡_ {A = ℕ} 0 1 = cc in absurd (omega arith)
-firm-outcome meaning.firm p = refl
+size : Handed → ℕ
+size h = length (h .values)
 
-unrefused : {x : Answer} (o : Option (List ℕ)) → (told (meaning.verdictOn o)) .outcome ≡ Refused x → ⊥
-unfolding meaning.verdictOn
-unrefused none p = let z : _≡_ {A = ℕ} 0 1 = cc in omega arith
-unrefused (some []) p = let z : _≡_ {A = ℕ} 0 1 = cc in omega arith
-unrefused (some (e ∷ [])) p = let z : _≡_ {A = ℕ} 0 1 = cc in omega arith
-unrefused (some (e ∷ (d ∷ l))) p = let z : _≡_ {A = ℕ} 0 1 = cc in omega arith
+firm-only : (v : meaning.Verdict) → served (0 ∷ []) ≡ meaning.verdictHanded v → v ≡ meaning.firm
+unfolding meaning.verdictHanded size
+firm-only (meaning.refused a) p = absurd (not-served (sym p))
+firm-only meaning.firm p = refl
+firm-only (meaning.weak []) p = absurd (omega (arith, ap size p))
+firm-only (meaning.weak (e ∷ [])) p = absurd (omega (arith, ap size p))
+firm-only (meaning.weak (e ∷ (d ∷ l))) p = absurd (omega (arith, ap size p))
 
--- at most two edges are named, and just those of the cut
-named-cut : (cut : List ℕ) → length cut ≤ 2 → ((told (meaning.weak cut)) .cut .count ≤ 2) × (named ((told (meaning.weak cut)) .cut) ≡ cut)
-named-cut [] h = (omega arith, refl)
-named-cut (e ∷ []) h = (omega arith, refl)
-named-cut (e ∷ (d ∷ [])) h = (omega arith, refl)
-named-cut (e ∷ (d ∷ (c ∷ l))) h = absurd (omega (arith, h))
+firm-back : (o : Outcome) (c : Lowest) → handedBy o c ≡ served (0 ∷ []) → o ≡ Firm
+unfolding size
+firm-back (Refused a) c p = absurd (not-served p)
+firm-back Weak c p = absurd (omega (arith, ap size p))
+firm-back Firm c p = refl
+
+-- A weak answer names at most two edges, and just those of the cut.
+
+at : ℕ → Handed → ℕ
+at i h = getD (h .values) i 0
+
+module _ (c : Lowest) where
+  abbrev weak-back : Handed
+  weak-back = served (1 ∷ (c .count ∷ (c .first ∷ (c .second ∷ []))))
+
+  weak-named : (n e d : ℕ) → n ≤ 2 → weak-back ≡ served (1 ∷ (n ∷ (e ∷ (d ∷ [])))) → (c .count ≤ 2) × (named c ≡ take n (e ∷ (d ∷ [])))
+  unfolding at
+  weak-named n e d h p = (omega (arith, h, ap (at 1) p), rw (ap (at 1) p, ap (at 2) p, ap (at 3) p))
+
+  weak-only : (v : meaning.Verdict) → ((cut : List ℕ) → v ≡ meaning.weak cut → length cut ≤ 2) → weak-back ≡ meaning.verdictHanded v
+      → (c .count ≤ 2) × (v ≡ meaning.weak (named c))
+  unfolding meaning.verdictHanded size
+  weak-only (meaning.refused a) small p = absurd (not-served (sym p))
+  weak-only meaning.firm small p = absurd (omega (arith, ap size p))
+  weak-only (meaning.weak []) small p = let (few, q) = weak-named 0 0 0 (omega arith) p in (few, ap meaning.weak (sym q))
+  weak-only (meaning.weak (e ∷ [])) small p = let (few, q) = weak-named 1 e 0 (omega arith) p in (few, ap meaning.weak (sym q))
+  weak-only (meaning.weak (e ∷ (d ∷ []))) small p = let (few, q) = weak-named 2 e d (omega arith) p in (few, ap meaning.weak (sym q))
+  weak-only (meaning.weak (e ∷ (d ∷ (b ∷ l)))) small p = absurd (omega (arith, small (e ∷ (d ∷ (b ∷ l))) refl))
+
+-- A refusal is handed back of no verdict by a cut.
+
+unrefused : {x : Answer} (o : Option (List ℕ)) → refusal (answerOf x) ≡ meaning.verdictHanded (meaning.verdictOn o) → ⊥
+unfolding meaning.verdictOn meaning.verdictHanded
+unrefused none p = not-served p
+unrefused (some []) p = not-served p
+unrefused (some (e ∷ [])) p = not-served p
+unrefused (some (e ∷ (d ∷ l))) p = not-served p
+
+-- of every plan, whatever is lent
+pub firm-told : {most : Limits} {p : Plan} {before after : List ℕ} {f : Finding} → Answered most p before after f
+    → meaning.verdict most p (length before) ≡ meaning.firm → f .outcome ≡ Firm
+unfolding meaning.verdictHanded
+firm-told {f = f} c v = firm-back (f .outcome) (f .cut) (c .answer ∙ ap meaning.verdictHanded v)
 
 -- of an admitted plan, where the lent record has three numbers for each edge
-module _ {n : ℕ} {ends before after : List ℕ} {f : Finding} (a : Admitted limits n ends) (room : 3 * (length ends / 2) ≤ length before)
-    (c : Answered n ends before after f) where
-  outcome-is : f .outcome ≡ (told (meaning.verdict limits n always ends (length before))) .outcome
-  outcome-is = ap (λ (x : Finding). x .outcome) (c .answer)
+module _ {most : Limits} {p : Plan} {before after : List ℕ} {f : Finding} (a : Admitted most p) (room : 3 * (length (p .ends) / 2) ≤ length before)
+    (c : Answered most p before after f) where
+  abbrev found : meaning.Verdict
+  found = meaning.verdict most p (length before)
 
   pub never-refused : {x : Answer} → f .outcome ≡ Refused x → ⊥
-  never-refused p =
-      let q = reaches a (length before) (omega (arith, room, admitted-edges a)) in
-      unrefused (lowestCut (graphOf n always ends)) (ap (λ (v : meaning.Verdict). (told v) .outcome) (sym q) ∙ sym outcome-is ∙ p)
+  never-refused q = unrefused (lowestCut (graph p))
+      ((rw q at (c .answer)) ∙ ap meaning.verdictHanded (reaches a (length before) (omega (arith, room, admitted-edges a))))
 
-  pub found-firm : f .outcome ≡ Firm → meaning.verdict limits n always ends (length before) ≡ meaning.firm
-  found-firm p = firm-outcome (meaning.verdict limits n always ends (length before)) (sym outcome-is ∙ p)
+  pub found-firm : f .outcome ≡ Firm → found ≡ meaning.firm
+  found-firm q = firm-only found (rw q at (c .answer))
 
-  pub found-weak : f .outcome ≡ Weak → (f .cut .count ≤ 2) × (meaning.verdict limits n always ends (length before) ≡ meaning.weak (named (f .cut)))
-  found-weak p =
-      let (cut, q) = weak-outcome (meaning.verdict limits n always ends (length before)) (sym outcome-is ∙ p) in
-      let small = verdict-weak a (length before) (omega (arith, room, admitted-edges a)) cut .0 q .cut .small in
-      let at : f ≡ told (meaning.weak cut) = c .answer ∙ ap told q in
-      let names = named-cut cut small in
-      (rw at (names .0), q ∙ ap meaning.weak (sym (names .1) ∙ ap (λ (x : Finding). named (x .cut)) (sym at)))
+  pub found-weak : f .outcome ≡ Weak → (f .cut .count ≤ 2) × (found ≡ meaning.weak (named (f .cut)))
+  found-weak q = weak-only (f .cut) found
+      (λ cut v. verdict-weak a (length before) (omega (arith, room, admitted-edges a)) cut .0 v .cut .small) (rw q at (c .answer))

@@ -3,6 +3,7 @@ use cuts::Lightest;
 use cuts::lowest::Lowest;
 use graph::Answer;
 ghost use mathlib.Core.Path.{_≡_};
+ghost use Rattle.connectivity.specs.Plan.{plan, limits};
 ghost use Rattle.certify.specs.Answered.{Answered, unnamed};
 
 pub enum Outcome {
@@ -19,7 +20,7 @@ pub struct Finding {
 
 // The plan's own 1 to 5; 6 unless `rows` has three numbers for each edge; then weak, or firm with the record at the front of `rows`.
 pub fn verdict(vertices: u16, ends: &[u16], rows: &mut [u16]) -> Finding
-    ensures { λ r. ⌜ Answered vertices (now (ends .entry)) (now (rows .entry)) (now (rows .exit)) r ⌝ }
+    ensures { λ r. ⌜ Answered limits (plan vertices (now (ends .entry))) (now (rows .entry)) (now (rows .exit)) r ⌝ }
 {
     let found = record::write_record(vertices, ends, rows);
     match found {

@@ -1,31 +1,34 @@
--- The text that is written for a plan text: its verdict has a text form, so that 6 is the only refusal; and of an admitted plan the check
--- of both texts passes.
-use mathlib.Core.Path.{_≡_, refl, sym, ap, _∙_}
+-- The text that is written for a plan text: its verdict has a text form, so that 6 is the only refusal; and of a plan that is read, the
+-- bytes that are left in the lent buffer pass the check of both texts.
+use mathlib.Core.Path.{_≡_, refl, sym, ap, subst, _∙_}
 use mathlib.Core.Logic.{⊎-elim}
 use mathlib.Core.Bool.{Bool, true, _&&_}
 use mathlib.Core.List.{List, [], _∷_, List·Memᴰ as In, List·Memᴰ·head as first, List·Memᴰ·tail as later}
-use Prim.Native.Nat.{ℕ, zero, suc, _+_, _*_, _/_, _%_, _≤_, _<_}
+use Prim.Native.Nat.{ℕ, zero, suc, _+_, _*_, _/_, _%_, _≤_, _<_, _^_}
 use native.Mathlib.Omega.{arith}
 use lib.Dec.{eqb, leb}
-use lib.ListN.{length, getD}
+use lib.ListN.{length, getD, take, drop}
+use lib.Seq.{take-at}
 use borrow.Author.Tests.{eq-eqb, le-leb}
-use Rattle.connectivity.specs.Graph.{graphOf, always}
-use Rattle.connectivity.specs.Admission.{Admitted, limits, passed}
+use Rattle.connectivity.specs.Plan.{Plan, graph, Limits}
+use Rattle.connectivity.specs.Admission.{Admitted, Handed, passed}
 use Rattle.connectivity.specs.Judge.{judge}
 use Rattle.connectivity.specs.Verdict as meaning
 use Rattle.connectivity.proofs.Admission.{admitted-edges}
 use Rattle.connectivity.proofs.Verdict.{verdict-weak}
 use Rattle.connectivity.proofs.Judge.{firm-passes, weak-passes}
 use Rattle.connectivity.proofs.Complete.{numbers-below, builds-length}
-use Rattle.text.specs.Column.{five, largest}
-use Rattle.text.specs.Plan.{Reading}
-use Rattle.text.specs.Verdict.{hasText, verdictText}
-use Rattle.text_write.specs.Entry.{bytesTold}
+use Rattle.text.specs.Column.{worths, lineSize}
+use Rattle.text.specs.Plan.{PlanReading, Writing, filled}
+use Rattle.text.specs.Verdict.{VerdictReading, hasText, verdictText, writeVerdict}
+use Rattle.text_write.specs.Entry.{handed, bytesHanded, afterWriting}
 use Rattle.text_write.specs.declared.Written.{Written}
 use Rattle.text_write.specs.declared.Written.the-variants as written
 use Rattle.text.proofs.Writing.{length-verdict, verdict-size, verdict-written}
-use Rattle.text.proofs.RoundTrip.{verdict-kept-five}
-use Rattle.verify_texts.specs.Texts.{planIn, verdictIn, judgeRead, judgeTextsBy, judgeTexts}
+use Rattle.text.proofs.RoundTrip.{verdict-kept}
+use Rattle.text_write.proofs.Result.{bytes-told}
+use Rattle.verify_texts.specs.Texts.{planIn, verdictIn, judgeRead, judgeTexts}
+use Rattle.verify_texts.proofs.TwoTexts as two
 use Rattle.verify_texts.proofs.TwoTexts.{verdict-space, plan-number}
 use Rattle.certify_texts.specs.Says.{SaysOf, Says, weak, firm, refused, read, WritesFor}
 use Rattle.certify_texts.proofs.Saying.{planned}
@@ -36,57 +39,83 @@ at-below [] bound f i = omega arith
 at-below (x ∷ list) bound f zero = omega (arith, f x (first refl))
 at-below (x ∷ list) bound f (suc i) = at-below list bound (λ y m. f y (later m)) i
 
-module _ {n : ℕ} {ends : List ℕ} (a : Admitted limits n ends) where
+module _ {limits : Limits} {p : Plan} (a : Admitted limits p) where
   -- a verdict on an admitted plan passes
-  pub says-passes : {kind : ℕ} {list : List ℕ} → SaysOf n ends kind list → judge limits n always ends kind list ≡ passed
-  says-passes (weak {cut} v) = weak-passes limits n always ends cut .1 (a, verdict-weak a (3 * (length ends / 2)) (omega (arith, admitted-edges a)) cut .0 v .cut)
-  says-passes (firm v p) = p
+  pub says-passes : {kind : ℕ} {list : List ℕ} → SaysOf limits p kind list → judge limits p kind list ≡ passed
+  says-passes (weak {cut} v) = weak-passes limits p cut .1 (a, verdict-weak a (3 * (length (p .ends) / 2)) (omega (arith, admitted-edges a)) cut .0 v .cut)
+  says-passes (firm v q) = q
 
   -- and has a text form
-  passes-text : {kind : ℕ} {list : List ℕ} → SaysOf n ends kind list → hasText limits kind list ≡ true
+  passes-text : {kind : ℕ} {list : List ℕ} → SaysOf limits p kind list → hasText limits kind list ≡ true
   unfolding hasText
-  passes-text (weak {cut} v) = le-leb (length cut) 2 (verdict-weak a (3 * (length ends / 2)) (omega (arith, admitted-edges a)) cut .0 v .cut .small)
-  passes-text (firm {list} v p) =
-      let long : length list ≡ 3 * (length ends / 2) = omega (arith, builds-length (graphOf n always ends) list (firm-passes limits n always ends list .0 p .1), admitted-edges a) in
-      rw (eq-eqb (length list % 3) 0 (omega (arith, long)), le-leb (length list / 3) 4000 (omega (arith, long, a .edges))) refl
+  passes-text (weak {cut} v) = le-leb (length cut) 2 (verdict-weak a (3 * (length (p .ends) / 2)) (omega (arith, admitted-edges a)) cut .0 v .cut .small)
+  passes-text (firm {list} v q) =
+      let long : length list ≡ 3 * (length (p .ends) / 2) = omega (arith, builds-length (graph p) list (firm-passes limits p list .0 q .1), admitted-edges a) in
+      rw (eq-eqb (length list % 3) 0 (omega (arith, long)), le-leb (length list / 3) (limits .edges) (omega (arith, long, a .edges))) refl
 
-  numbers-small : {kind : ℕ} {list : List ℕ} → SaysOf n ends kind list → (i : ℕ) → getD list i 0 ≤ largest
-  unfolding graphOf
-  numbers-small (weak {cut} v) i =
-      let c = verdict-weak a (3 * (length ends / 2)) (omega (arith, admitted-edges a)) cut .0 v .cut in
-      omega (arith, a .edges, at-below cut (length ends / 2) (λ x m. c .set .edges x m .below) i)
-  numbers-small (firm {list} v p) i =
-      omega (arith, a .edges, a .vertices, admitted-edges a, at-below list _ (numbers-below (graphOf n always ends) list (firm-passes limits n always ends list .0 p .1)) i)
+  -- its numbers are edges, vertices and steps
+  numbers-small : {kind : ℕ} {list : List ℕ} (most : ℕ) → 2 * limits .edges + limits .vertices + 2 ≤ most → SaysOf limits p kind list → (i : ℕ) → getD list i 0 ≤ most
+  unfolding graph
+  numbers-small most h (weak {cut} v) i =
+      let c = verdict-weak a (3 * (length (p .ends) / 2)) (omega (arith, admitted-edges a)) cut .0 v .cut in
+      omega (arith, h, a .edges, at-below cut (length (p .ends) / 2) (λ x m. c .set .edges x m .below) i)
+  numbers-small most h (firm {list} v q) i =
+      omega (arith, h, a .edges, a .vertices, admitted-edges a, at-below list _ (numbers-below (graph p) list (firm-passes limits p list .0 q .1)) i)
 
--- a verdict that is written for a plan text has a text form
-pub says-text : {plan : List ℕ} {kind : ℕ} {list : List ℕ} → Says plan kind list → hasText limits kind list ≡ true
-unfolding hasText
-says-text {plan} (refused {a} p) =
-    let (low, o) = plan-number five largest limits plan a p in
-    let high : a .number ≤ 7 = ⊎-elim (λ h. omega (arith, h)) (λ h. omega (arith, h)) o in
-    rw (le-leb 1 (a .number) low, le-leb (a .number) 7 high) refl
-says-text {plan} (read p s) = passes-text (planned plan p) s
+module _ {ws : List ℕ} {most : ℕ} {limits : Limits} where
+  -- a verdict that is written for a plan text has a text form
+  pub says-text : {plan : List ℕ} {kind : ℕ} {list : List ℕ} → Says ws most limits plan kind list → hasText limits kind list ≡ true
+  unfolding hasText
+  says-text {plan} (refused {a} q) =
+      let (low, o) = plan-number ws most limits plan a q in
+      let high : a .number ≤ 7 = ⊎-elim (λ h. omega (arith, h)) (λ h. omega (arith, h)) o in
+      rw (le-leb 1 (a .number) low, le-leb (a .number) 7 high) refl
+  says-text {plan} (read q s) = passes-text (planned ws most limits plan q) s
 
--- 01: the check of a plan text and the verdict text that is written for it passes, where the plan is admitted
-pub text-passes : (plan : List ℕ) {n kind : ℕ} {ends list : List ℕ} → planIn five largest limits plan ≡ Reading.read n ends → SaysOf n ends kind list
-    → judgeTexts plan (verdictText five kind list) ≡ passed
-unfolding judgeTextsBy judgeRead
-text-passes plan {n} {kind} {ends} {list} p s =
-    let a = planned plan p in
-    let space = 12000 + length list in
-    let y : verdictIn five largest limits (verdictText five kind list) ≡ Reading.read kind list = sym (verdict-space five largest limits (verdictText five kind list) space (omega arith) (omega arith))
-    ∙ verdict-kept-five kind list space (passes-text a s) (numbers-small a s) (omega arith) in
-    rw (p, y) (says-passes a s)
+  -- Space for the longest verdict text is enough.
+  module _ (seven : 7 ≤ limits .edges) where
+    longest : {plan : List ℕ} {kind : ℕ} {list : List ℕ} → Says ws most limits plan kind list
+        → length (verdictText ws kind list) ≤ lineSize ws 2 + limits .edges * lineSize ws 3
+    longest {kind = kind} {list = list} s = let h = says-text s in omega (arith, length-verdict ws limits kind list 0 h, verdict-size ws limits seven kind list h .1)
 
--- Space for the longest verdict text is enough.
+    pub bytes-fit : {plan before after : List ℕ} {r : Written} {count : ℕ} → WritesFor ws most limits plan before after r
+        → lineSize ws 2 + limits .edges * lineSize ws 3 ≤ length before → r ≡ written.Bytes count → count ≤ lineSize ws 2 + limits .edges * lineSize ws 3
+    bytes-fit {before = before} {count = count} w h q =
+        let text = verdictText ws (w .kind) (w .list) in
+        let told : handed (written.Bytes count) ≡ bytesHanded (Writing.written text) = ap handed (sym q) ∙ w .written .answer
+        ∙ ap bytesHanded (verdict-written ws limits (w .kind) (w .list) (length before) (says-text (w .says)) (omega (arith, h, longest (w .says)))) in
+        let same : count ≡ length text = ap (λ (x : Handed). getD (x .values) 0 0) told in
+        omega (arith, same, longest (w .says))
 
-longest : {plan : List ℕ} {kind : ℕ} {list : List ℕ} → Says plan kind list → length (verdictText five kind list) ≤ 64011
-longest {plan} {kind} {list} s = let h = says-text s in omega (arith, length-verdict five limits kind list 0 h, verdict-size kind list h .1)
+-- what is said of a plan that is read
+said : {ws : List ℕ} {most : ℕ} {limits : Limits} {plan : List ℕ} {p : Plan} {kind : ℕ} {list : List ℕ} → Says ws most limits plan kind list
+    → planIn ws most limits plan ≡ PlanReading.read p → SaysOf limits p kind list
+said (refused q) h = let z : _≡_ {A = ℕ} 0 1 = cc in absurd (omega arith)
+said {limits = limits} {p = p} {kind = kind} {list = list} (read {p = d} q s) h = let same : d ≡ p = cc in subst (λ (x : Plan). SaysOf limits x kind list) same s
 
-pub always-written : {plan before after : List ℕ} {r : Written} (w : WritesFor plan before after r) → 64011 ≤ length before
-    → r ≡ written.Bytes (length (verdictText five (w .kind) (w .list)))
-always-written {before = before} w h =
-    w .written .answer ∙ ap bytesTold (verdict-written five limits (w .kind) (w .list) (length before) (says-text (w .says)) (omega (arith, h, longest (w .says))))
+-- In columns of w digits, for every largest value that has no more digits, and all limits whose numbers it has room for.
+module _ (w most : ℕ) (digits : most < 10 ^ w) (limits : Limits) (numbers : 2 * limits .edges + limits .vertices + 2 ≤ most) (seven : 7 ≤ most) where
+  abbrev ws : List ℕ
+  ws = worths w
 
-pub bytes-fit : {plan before after : List ℕ} {r : Written} {count : ℕ} → WritesFor plan before after r → 64011 ≤ length before → r ≡ written.Bytes count → count ≤ 64011
-bytes-fit {count = count} w h p = let q = sym p ∙ always-written w h in let k : count ≡ length (verdictText five (w .kind) (w .list)) = cc in omega (arith, k, longest (w .says))
+  -- the check of a plan text and the verdict text that is said of it passes
+  pub text-passes : (plan : List ℕ) {p : Plan} {kind : ℕ} {list : List ℕ} → planIn ws most limits plan ≡ PlanReading.read p → SaysOf limits p kind list
+      → judgeTexts ws most limits plan (verdictText ws kind list) ≡ passed
+  unfolding judgeTexts judgeRead
+  text-passes plan {p} {kind} {list} q s =
+      let a = planned ws most limits plan q in
+      let space = 3 * limits .edges + length list + 2 in
+      let y : verdictIn ws most limits (verdictText ws kind list) ≡ VerdictReading.read kind list = sym (verdict-space ws most limits (verdictText ws kind list) space (omega arith) (omega arith))
+      ∙ verdict-kept w most digits limits (omega arith) (omega arith) seven kind list space (passes-text a s) (numbers-small a most numbers s) (omega arith) in
+      rw (q, y) (says-passes a s)
+
+  -- 01, demand 3: the bytes that the verdict entry leaves at the front of the lent buffer pass the check of both texts, for every plan text
+  -- that is read
+  pub left-passes : {plan before after : List ℕ} {r : Written} {p : Plan} {count : ℕ} → WritesFor ws most limits plan before after r
+      → planIn ws most limits plan ≡ PlanReading.read p → r ≡ written.Bytes count → judgeTexts ws most limits plan (take count after) ≡ passed
+  left-passes {plan} {before} {after} {count = count} c q b =
+      let (bytes, x, long) = bytes-told (writeVerdict ws limits (c .kind) (c .list) (length before)) (c .written .answer) b in
+      let text = two.verdict-written ws limits (c .kind) (c .list) (length before) bytes x .1 in
+      let memory : after ≡ filled bytes before = c .written .memory ∙ ap (λ (y : Writing). afterWriting y before) x in
+      let front : take count after ≡ verdictText ws (c .kind) (c .list) = ap (take count) memory ∙ take-at bytes (drop (length bytes) before) count (sym long) ∙ text in
+      ap (judgeTexts ws most limits plan) front ∙ text-passes plan q (said (c .says) q)

@@ -5,58 +5,61 @@ use mathlib.Core.List.{List, [], _∷_}
 use Prim.Native.Nat.{ℕ, _*_, _/_, _≤_}
 use native.Mathlib.Omega.{arith}
 use lib.ListN.{length, take}
-use Rattle.connectivity.specs.Graph.{always}
-use Rattle.connectivity.specs.Admission.{Admitted, Answer, limits}
+use Rattle.connectivity.specs.Plan.{Plan, Limits}
+use Rattle.connectivity.specs.Admission.{Admitted, Answer}
 use Rattle.connectivity.specs.Verdict as meaning
 use Rattle.connectivity.proofs.Admission.{admitted-edges}
 use Rattle.connectivity.proofs.Verdict.{reaches}
 use Rattle.graph.specs.Admission.{toldBy}
 use Rattle.graph.specs.declared.Answer as declared
-use Rattle.text.specs.Column.{five, largest}
-use Rattle.text.specs.Plan.{Reading}
-use Rattle.text_write.specs.Entry.{WritesVerdict}
+use Rattle.text.specs.Plan.{PlanReading}
+use Rattle.text_write.specs.Entry as written
 use Rattle.text_write.specs.declared.Written.{Written}
 use Rattle.text.proofs.RoundTrip.{plan-admitted}
 use Rattle.verify_texts.specs.Texts.{planIn}
 use Rattle.certify.specs.declared.Finding.{Finding}
 use Rattle.certify.specs.declared.Outcome.the-variants.{Refused, Weak, Firm}
-use Rattle.certify.specs.Answered.{Answered, named}
+use Rattle.certify.specs.Answered.{Answered, handed, named}
 use Rattle.certify.proofs.Outcomes as outcomes
-use Rattle.certify_texts.specs.Packed.{packed, Packed}
+use Rattle.certify_texts.specs.Packed.{packed, Packed, sizeOf, TextSize}
 use Rattle.certify_texts.specs.Says.{SaysOf, weak, firm, refused, WritesFor}
 
 -- a plan that is read is admitted
-pub planned : (plan : List ℕ) {ends : List ℕ} {n : ℕ} → planIn five largest limits plan ≡ Reading.read n ends → Admitted limits n ends
+pub planned : (ws : List ℕ) (most : ℕ) (limits : Limits) (plan : List ℕ) {p : Plan} → planIn ws most limits plan ≡ PlanReading.read p → Admitted limits p
 unfolding planIn
-planned plan p = plan-admitted five largest limits plan _ _ _ p
+planned ws most limits plan q = plan-admitted ws most limits plan _ _ q
 
 -- one that is refused has kind 2
-pub says-refused : {plan before after : List ℕ} {r : Written} {a : declared.Answer} (b : Answer) → planIn five largest limits plan ≡ Reading.refused b → a ≡ toldBy b
-    → WritesVerdict 2 (a .number ∷ []) before after r → WritesFor plan before after r
-says-refused {before = before} {after = after} {r = r} b q e w = record {
+pub says-refused : {ws : List ℕ} {most : ℕ} {limits : Limits} {plan before after : List ℕ} {r : Written} {a : declared.Answer} (b : Answer)
+    → planIn ws most limits plan ≡ PlanReading.refused b → a ≡ toldBy b → written.WritesVerdict ws limits 2 (a .number ∷ []) before after r → WritesFor ws most limits plan before after r
+says-refused {ws = ws} {limits = limits} {before = before} {after = after} {r = r} b q e w = record {
   kind = 2;
   list = b .number ∷ [];
   says = refused q;
-  written = subst (λ (x : declared.Answer). WritesVerdict 2 (x .number ∷ []) before after r) e w;
+  written = subst (λ (x : declared.Answer). written.WritesVerdict ws limits 2 (x .number ∷ []) before after r) e w;
 }
 
 -- an admitted one is weak or firm, whatever the space above three numbers for each edge
-module _ {n : ℕ} {ends before after : List ℕ} {f : Finding} (a : Admitted limits n ends) (long : length before ≡ 3 * limits .edges) (c : Answered n ends before after f) where
-  room : 3 * (length ends / 2) ≤ length before
+module _ {limits : Limits} {p : Plan} {before after : List ℕ} {f : Finding} (a : Admitted limits p) (long : length before ≡ 3 * limits .edges) (c : Answered limits p before after f) where
+  room : 3 * (length (p .ends) / 2) ≤ length before
   room = omega (arith, a .edges, long)
 
-  same : meaning.verdict limits n always ends (3 * (length ends / 2)) ≡ meaning.verdict limits n always ends (length before)
-  same = reaches a (3 * (length ends / 2)) (omega (arith, admitted-edges a)) ∙ sym (reaches a (length before) (omega (arith, room, admitted-edges a)))
+  same : meaning.verdict limits p (3 * (length (p .ends) / 2)) ≡ meaning.verdict limits p (length before)
+  same = reaches a (3 * (length (p .ends) / 2)) (omega (arith, admitted-edges a)) ∙ sym (reaches a (length before) (omega (arith, room, admitted-edges a)))
 
   pub never-refused : {x : declared.Answer} {P : Type 0} → f .outcome ≡ Refused x → P
-  never-refused p = absurd (outcomes.never-refused a room c p)
+  never-refused q = absurd (outcomes.never-refused a room c q)
 
-  pub says-weak : f .outcome ≡ Weak → (f .cut .count ≤ 2) × SaysOf n ends 1 (named (f .cut))
-  says-weak p = let (few, v) = outcomes.found-weak a room c p in (few, weak (same ∙ v))
+  pub says-weak : f .outcome ≡ Weak → (f .cut .count ≤ 2) × SaysOf limits p 1 (named (f .cut))
+  says-weak q = let (few, v) = outcomes.found-weak a room c q in (few, weak (same ∙ v))
 
-  pub says-firm : f .outcome ≡ Firm → SaysOf n ends 0 (take (3 * (length ends / 2)) after)
-  says-firm p = let v = outcomes.found-firm a room c p in firm (same ∙ v) (c .passes v)
+  pub says-firm : f .outcome ≡ Firm → SaysOf limits p 0 (take (3 * (length (p .ends) / 2)) after)
+  says-firm q = let v = outcomes.found-firm a room c q in firm (same ∙ v) (c .kept .passes v)
 
--- the same in one number
-pub packs : {n : ℕ} {ends before after : List ℕ} {f : Finding} {r : ℕ} → Answered n ends before after f → r ≡ packed f → Packed n ends before after r
-packs {n} {ends} {before} {after} c p = record { answer = p ∙ ap packed (c .answer); lent = subst (Answered n ends before after) (c .answer) c }
+-- to C: the same in one number, and how many bytes were written
+pub packs : {most : Limits} {p : Plan} {before after : List ℕ} {f : Finding} {r : ℕ} → Answered most p before after f → r ≡ packed (handed f) → Packed most p before after r
+packs c q = record { answer = q ∙ ap packed (c .answer); kept = c .kept }
+
+pub sizes : {ws : List ℕ} {most : ℕ} {limits : Limits} {plan before after : List ℕ} {w : Written} {r : ℕ} → WritesFor ws most limits plan before after w
+    → r ≡ sizeOf (written.handed w) → TextSize ws most limits plan before after r
+sizes c q = record { kind = c .kind; list = c .list; says = c .says; size = q ∙ ap sizeOf (c .written .answer); memory = c .written .memory }

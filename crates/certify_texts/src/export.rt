@@ -3,12 +3,16 @@ use certify::Finding;
 use certify::Outcome;
 use text_write::Written;
 ghost use mathlib.Core.Path.{_≡_};
-ghost use Rattle.certify_texts.specs.Packed.{four, packed, Packed, bytesIn, TextLength};
+ghost use Rattle.connectivity.specs.Plan.{plan, limits};
+ghost use Rattle.text.specs.Column.{five, largest};
+ghost use Rattle.text_write.specs.Entry as entry;
+ghost use Rattle.certify.specs.Answered.{handed};
+ghost use Rattle.certify_texts.specs.Packed.{four, packed, Packed, sizeOf, TextSize};
 
 // The verdict on a plan; a firm one's record stands at the front of `rows`.
 #[no_mangle]
 pub extern "C" fn hearthtansy_verdict(vertices: u16, ends: &[u16], rows: &mut [u16]) -> u64
-    ensures { λ r. ⌜ Packed vertices (now (ends .entry)) (now (rows .entry)) (now (rows .exit)) r ⌝ }
+    ensures { λ r. ⌜ Packed limits (plan vertices (now (ends .entry))) (now (rows .entry)) (now (rows .exit)) r ⌝ }
 {
     pack(certify::verdict(vertices, ends, rows))
 }
@@ -16,13 +20,13 @@ pub extern "C" fn hearthtansy_verdict(vertices: u16, ends: &[u16], rows: &mut [u
 // The verdict text of a plan text; how many bytes it has, or 0 where `text` is shorter.
 #[no_mangle]
 pub extern "C" fn hearthtansy_verdict_text(plan: &[u8], text: &mut [u8]) -> usize
-    ensures { λ r. ⌜ TextLength (now (plan .entry)) (now (text .entry)) (now (text .exit)) r ⌝ }
+    ensures { λ r. ⌜ TextSize five largest limits (now (plan .entry)) (now (text .entry)) (now (text .exit)) r ⌝ }
 {
     count(crate::verdict_text(plan, text))
 }
 
 fn pack(found: Finding) -> u64
-    ensures { λ r. ⌜ r ≡ packed found ⌝ }
+    ensures { λ r. ⌜ r ≡ packed (handed found) ⌝ }
 {
     let cut = found.cut;
     let outcome = found.outcome;
@@ -41,7 +45,7 @@ fn join(a: u16, b: u16, c: u16, d: u16) -> u64
 }
 
 fn count(written: Written) -> usize
-    ensures { λ r. ⌜ r ≡ bytesIn written ⌝ }
+    ensures { λ r. ⌜ r ≡ sizeOf (entry.handed written) ⌝ }
 {
     match written {
         Written::Bytes(count) => count,

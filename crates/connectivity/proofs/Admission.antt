@@ -10,8 +10,9 @@ use lib.Dec.{T, eqb, ltb, ltb→lt, lt→ltb, eqb→eq}
 use lib.ListN.{length, getD}
 use borrow.Author.Tests.{eqb-true, eqb-false, ltb-true, ltb-false, eq-eqb, ne-eqb, lt-ltb, le-ltb}
 use Rattle.connectivity.specs.Lists.{range, keep}
-use Rattle.connectivity.specs.Graph.{Graph, Vertex, Edge, graphOf, always, isEdge, edges}
-use Rattle.connectivity.specs.Admission.{Answer, answer, passed, Limits, EndsFit, Admitted, andThen, edgeNumber, endsAnswer, admission}
+use Rattle.connectivity.specs.Graph.{Graph, Vertex, Edge, isEdge, edges}
+use Rattle.connectivity.specs.Plan.{Plan, plan, graph, Limits}
+use Rattle.connectivity.specs.Admission.{Answer, answer, passed, EndsFit, Admitted, andThen, edgeNumber, endsAnswer, admission}
 use Rattle.connectivity.proofs.Lists.{and-both, both-and, T-true, T-false, true-T, range-is}
 use Rattle.connectivity.proofs.Search.{is-edge}
 
@@ -60,28 +61,28 @@ module _ (n a b : ℕ) (ends : List ℕ) where
   odd-next : (e : ℕ) → getD (a ∷ (b ∷ ends)) (2 * suc e + 1) 0 ≡ getD ends (2 * e + 1) 0
   odd-next e = let p : 2 * suc e + 1 ≡ suc (suc (2 * e + 1)) = omega arith in rw p
 
-  fit-next : (e : ℕ) → EndsFit n ends e → EndsFit n (a ∷ (b ∷ ends)) (suc e)
+  fit-next : (e : ℕ) → EndsFit (plan n ends) e → EndsFit (plan n (a ∷ (b ∷ ends))) (suc e)
   fit-next e f = record {
     left = rw (even-next e) (f .left);
     right = rw (odd-next e) (f .right);
     different = rw (even-next e, odd-next e) (f .different);
   }
 
-  next-fit : (e : ℕ) → EndsFit n (a ∷ (b ∷ ends)) (suc e) → EndsFit n ends e
+  next-fit : (e : ℕ) → EndsFit (plan n (a ∷ (b ∷ ends))) (suc e) → EndsFit (plan n ends) e
   next-fit e f = record {
     left = rw (even-next e) at (f .left);
     right = rw (odd-next e) at (f .right);
     different = rw (even-next e, odd-next e) at (f .different);
   }
 
-fits : (n k : ℕ) (ends : List ℕ) → endsAnswer n k ends ≡ passed → (e : ℕ) → e < length ends / 2 → EndsFit n ends e
+fits : (n k : ℕ) (ends : List ℕ) → endsAnswer n k ends ≡ passed → (e : ℕ) → e < length ends / 2 → EndsFit (plan n ends) e
 unfolding endsAnswer
 fits n k [] p e h = absurd (omega arith)
 fits n k (a ∷ []) p e h = absurd (omega arith)
 fits n k (a ∷ (b ∷ ends)) p zero h = let f = edge-number n a b .0 (both-passed _ _ p .0) in record { left = f .0; right = f .1; different = f .2 }
 fits n k (a ∷ (b ∷ ends)) p (suc e) h = fit-next n a b ends e (fits n (suc k) ends (both-passed _ _ p .1) e (omega arith))
 
-fitting : (n k : ℕ) (ends : List ℕ) → ((e : ℕ) → e < length ends / 2 → EndsFit n ends e) → endsAnswer n k ends ≡ passed
+fitting : (n k : ℕ) (ends : List ℕ) → ((e : ℕ) → e < length ends / 2 → EndsFit (plan n ends) e) → endsAnswer n k ends ≡ passed
 unfolding endsAnswer
 fitting n k [] f = refl
 fitting n k (a ∷ []) f = refl
@@ -89,27 +90,28 @@ fitting n k (a ∷ (b ∷ ends)) f = let p = f 0 (omega arith) in
     passed-then _ _ (edge-number n a b .1 (p .left, p .right, p .different))
     ∙ fitting n (suc k) ends (λ e h. next-fit n a b ends e (f (suc e) (omega arith)))
 
-pub admission-is : (limits : Limits) (n : ℕ) (ends : List ℕ) → (admission limits n ends ≡ passed) ↔ Admitted limits n ends
+pub admission-is : (most : Limits) (p : Plan) → (admission most p ≡ passed) ↔ Admitted most p
 unfolding admission
-admission-is limits n ends = (to (eqb (length ends % 2) 0) refl (ltb n 2) refl (ltb (limits .vertices) n) refl (ltb (limits .edges) (length ends / 2)) refl, from)
+admission-is most p = (to (eqb (length (p .ends) % 2) 0) refl (ltb (p .vertices) 2) refl (ltb (most .vertices) (p .vertices)) refl (ltb (most .edges) (length (p .ends) / 2)) refl, from)
   where
-    to : (a : Bool) → eqb (length ends % 2) 0 ≡ a → (b : Bool) → ltb n 2 ≡ b → (c : Bool) → ltb (limits .vertices) n ≡ c → (d : Bool) → ltb (limits .edges) (length ends / 2) ≡ d
-        → cond a (cond (b || c) (answer 2 0) (cond d (answer 3 0) (endsAnswer n 0 ends))) (answer 1 0) ≡ passed → Admitted limits n ends
-    to false p b q c r d s h = absurd (not-passed (λ z. omega arith) h)
-    to true p true q c r d s h = absurd (not-passed (λ z. omega arith) h)
-    to true p false q true r d s h = absurd (not-passed (λ z. omega arith) h)
-    to true p false q false r true s h = absurd (not-passed (λ z. omega arith) h)
-    to true p false q false r false s h = record {
-      even = eqb-true (length ends % 2) 0 p;
-      two = ltb-false n 2 q;
-      vertices = ltb-false (limits .vertices) n r;
-      edges = ltb-false (limits .edges) (length ends / 2) s;
-      fit = fits n 0 ends h;
+    to : (a : Bool) → eqb (length (p .ends) % 2) 0 ≡ a → (b : Bool) → ltb (p .vertices) 2 ≡ b → (c : Bool) → ltb (most .vertices) (p .vertices) ≡ c
+        → (d : Bool) → ltb (most .edges) (length (p .ends) / 2) ≡ d
+        → cond a (cond (b || c) (answer 2 0) (cond d (answer 3 0) (endsAnswer (p .vertices) 0 (p .ends)))) (answer 1 0) ≡ passed → Admitted most p
+    to false o b q c r d s h = absurd (not-passed (λ z. omega arith) h)
+    to true o true q c r d s h = absurd (not-passed (λ z. omega arith) h)
+    to true o false q true r d s h = absurd (not-passed (λ z. omega arith) h)
+    to true o false q false r true s h = absurd (not-passed (λ z. omega arith) h)
+    to true o false q false r false s h = record {
+      even = eqb-true (length (p .ends) % 2) 0 o;
+      two = ltb-false (p .vertices) 2 q;
+      vertices = ltb-false (most .vertices) (p .vertices) r;
+      edges = ltb-false (most .edges) (length (p .ends) / 2) s;
+      fit = fits (p .vertices) 0 (p .ends) h;
     }
 
-    from : Admitted limits n ends → admission limits n ends ≡ passed
-    from a = rw (eq-eqb (length ends % 2) 0 (a .even), le-ltb n 2 (a .two), le-ltb (limits .vertices) n (a .vertices), le-ltb (limits .edges) (length ends / 2) (a .edges))
-        (fitting n 0 ends (a .fit))
+    from : Admitted most p → admission most p ≡ passed
+    from a = rw (eq-eqb (length (p .ends) % 2) 0 (a .even), le-ltb (p .vertices) 2 (a .two), le-ltb (most .vertices) (p .vertices) (a .vertices), le-ltb (most .edges) (length (p .ends) / 2) (a .edges))
+        (fitting (p .vertices) 0 (p .ends) (a .fit))
 
 -- an answer is success, or its number is not 0
 abbrev pub Told : Answer → Type 0
@@ -128,21 +130,21 @@ ends-told n k [] = inl refl
 ends-told n k (a ∷ []) = inl refl
 ends-told n k (a ∷ (b ∷ ends)) = then-told (answer (edgeNumber n a b) k) (endsAnswer n (suc k) ends) (ends-told n (suc k) ends)
 
-pub admission-told : (limits : Limits) (n : ℕ) (ends : List ℕ) → Told (admission limits n ends)
+pub admission-told : (most : Limits) (p : Plan) → Told (admission most p)
 unfolding admission
-admission-told limits n ends = cond-both Told (eqb (length ends % 2) 0)
-    (cond-both Told (ltb n 2 || ltb (limits .vertices) n) (inr (λ z. omega arith))
-    (cond-both Told (ltb (limits .edges) (length ends / 2)) (inr (λ z. omega arith)) (ends-told n 0 ends)))
+admission-told most p = cond-both Told (eqb (length (p .ends) % 2) 0)
+    (cond-both Told (ltb (p .vertices) 2 || ltb (most .vertices) (p .vertices)) (inr (λ z. omega arith))
+    (cond-both Told (ltb (most .edges) (length (p .ends) / 2)) (inr (λ z. omega arith)) (ends-told (p .vertices) 0 (p .ends))))
     (inr (λ z. omega arith))
 
 -- so the number alone tells whether the plan is admitted
-pub admission-number : (limits : Limits) (n : ℕ) (ends : List ℕ) → ((admission limits n ends) .number ≡ 0) ↔ Admitted limits n ends
-admission-number limits n ends = (
-  λ z. elim (admission-told limits n ends) [ inl p ↦ admission-is limits n ends .0 p | inr q ↦ absurd (q z) ],
-  λ a. ap (λ (x : Answer). x .number) (admission-is limits n ends .1 a),
+pub admission-number : (most : Limits) (p : Plan) → ((admission most p) .number ≡ 0) ↔ Admitted most p
+admission-number most p = (
+  λ z. elim (admission-told most p) [ inl q ↦ admission-is most p .0 q | inr q ↦ absurd (q z) ],
+  λ a. ap (λ (x : Answer). x .number) (admission-is most p .1 a),
 )
 
--- the graph of an admitted plan: its vertices are the numbers below n, and each entry of the table is an edge
+-- the graph of an admitted plan: its vertices are the numbers below their count, and each entry of the table is an edge
 keep-all : (f : ℕ → Bool) (l : List ℕ) → ((x : ℕ) → In x l → T (f x)) → keep f l ≡ l
 unfolding keep
 keep-all f [] h = refl
@@ -153,30 +155,30 @@ unfolding range
 length-range i zero = refl
 length-range i (suc k) = ap suc (length-range (suc i) k)
 
-pub edge-size : (n : ℕ) (ends : List ℕ) {e : ℕ} → Edge (graphOf n always ends) e → e < length ends / 2
-unfolding graphOf
-edge-size n ends k = k .below
+pub edge-size : (p : Plan) {e : ℕ} → Edge (graph p) e → e < length (p .ends) / 2
+unfolding graph
+edge-size p k = k .below
 
-module _ {limits : Limits} {n : ℕ} {ends : List ℕ} (a : Admitted limits n ends) where
-  pub admitted-vertex : (v : ℕ) → v < n → Vertex (graphOf n always ends) v
-  unfolding graphOf
+module _ {most : Limits} {p : Plan} (a : Admitted most p) where
+  pub admitted-vertex : (v : ℕ) → v < p .vertices → Vertex (graph p) v
+  unfolding graph
   admitted-vertex v h = record { below = h; kept = tt }
 
-  pub admitted-edge : (e : ℕ) → e < length ends / 2 → Edge (graphOf n always ends) e
-  unfolding graphOf
+  pub admitted-edge : (e : ℕ) → e < length (p .ends) / 2 → Edge (graph p) e
+  unfolding graph
   admitted-edge e h = record { below = h; left = record { below = a .fit e h .left; kept = tt }; right = record { below = a .fit e h .right; kept = tt } }
 
-  pub admitted-range : edges (graphOf n always ends) ≡ range 0 (length ends / 2)
-  unfolding edges graphOf
-  admitted-range = keep-all (isEdge (graphOf n always ends)) (range 0 (length ends / 2))
-      (λ e i. is-edge (graphOf n always ends) e .1 (admitted-edge e (omega (arith, range-is e 0 (length ends / 2) .0 i .1))))
+  pub admitted-range : edges (graph p) ≡ range 0 (length (p .ends) / 2)
+  unfolding edges graph
+  admitted-range = keep-all (isEdge (graph p)) (range 0 (length (p .ends) / 2))
+      (λ e i. is-edge (graph p) e .1 (admitted-edge e (omega (arith, range-is e 0 (length (p .ends) / 2) .0 i .1))))
 
-  pub admitted-edges : length (edges (graphOf n always ends)) ≡ length ends / 2
-  admitted-edges = ap length admitted-range ∙ length-range 0 (length ends / 2)
+  pub admitted-edges : length (edges (graph p)) ≡ length (p .ends) / 2
+  admitted-edges = ap length admitted-range ∙ length-range 0 (length (p .ends) / 2)
 
   -- the edges are the numbers below their count
-  pub admitted-all : (e : ℕ) → isEdge (graphOf n always ends) e ≡ ltb e (length ends / 2)
-  admitted-all e = elim (decLt e (length ends / 2)) [
-    | yes h ↦ T-true _ (is-edge (graphOf n always ends) e .1 (admitted-edge e h)) ∙ sym (lt-ltb e (length ends / 2) h)
-    | no h ↦ T-false _ (λ t. h (edge-size n ends (is-edge (graphOf n always ends) e .0 t))) ∙ sym (le-ltb e (length ends / 2) (omega (arith, h)))
+  pub admitted-all : (e : ℕ) → isEdge (graph p) e ≡ ltb e (length (p .ends) / 2)
+  admitted-all e = elim (decLt e (length (p .ends) / 2)) [
+    | yes h ↦ T-true _ (is-edge (graph p) e .1 (admitted-edge e h)) ∙ sym (lt-ltb e (length (p .ends) / 2) h)
+    | no h ↦ T-false _ (λ t. h (edge-size p (is-edge (graph p) e .0 t))) ∙ sym (le-ltb e (length (p .ends) / 2) (omega (arith, h)))
   ]

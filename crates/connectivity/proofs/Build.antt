@@ -9,10 +9,10 @@ use native.Mathlib.Decide.{decLt}
 use lib.Dec.{eqb, eqb→eq}
 use lib.ListN.{length, length-append}
 use borrow.Author.Tests.{eq-eqb}
-use Rattle.connectivity.specs.Lists.{Ordered, nil, cons, Distinct, none, one}
+use Rattle.connectivity.specs.Lists.{Ordered, nil, cons, Distinct, no-member, one}
 use Rattle.connectivity.specs.Graph.{Graph, Vertex, Edge, edges}
 use Rattle.connectivity.specs.Walk.{Leg, Walk, last, then, Between, inner, edgesOf, allInner, allEdges, Branch, start, stop}
-use Rattle.connectivity.specs.Mader.{Theta, Ear, Steps, theta, ear, stepRows, rows, Builds}
+use Rattle.connectivity.specs.Mader.{Theta, MaderPath, Steps, theta, mader, stepRows, rows, Builds}
 use Rattle.connectivity.specs.Admission.{Answer, answer, passed}
 use Rattle.connectivity.specs.Judge.{Row, rowsOf, stepNumber, closingNumber, judgeRows, judgeFirm}
 use Rattle.connectivity.proofs.Lists.{in-dec}
@@ -24,13 +24,13 @@ use Rattle.connectivity.proofs.Degree.{part-length}
 use Rattle.connectivity.proofs.Sound.{stage}
 use Rattle.connectivity.proofs.Legs.{walk-start, walk-stop}
 use Rattle.connectivity.proofs.Run.{Runs, end, step, rowsAt, rowsFrom, rows-pass}
-use Rattle.connectivity.proofs.Fit.{fitting-ear, ear-fitting, Sound, walk-sound, paths-fit, step-few, step-many, closing}
+use Rattle.connectivity.proofs.Fit.{fitting-path, path-fitting, Sound, walk-sound, paths-fit, step-few, step-many, closing}
 
 -- From walks that run to Mader's steps.
 
 pub steps-length : {g : Graph} {walks : List (List Leg)} → Steps g walks → 3 ≤ length walks
 steps-length (theta t) = omega (arith, t .three)
-steps-length (ear p k) = omega (arith, steps-length p)
+steps-length (mader p k) = omega (arith, steps-length p)
 
 -- the rules kept so far: fewer than three walks, or Mader's steps
 data Kept (g : Graph) (done : List (List Leg)) : Type 0 where
@@ -44,7 +44,7 @@ kept-step {g} {done} {a} {b} {legs} (few h s) k p = elim (decLt (length done) 2)
       many (theta {a = a} {b = b} {walks = legs ∷ done} (record { three = omega arith; between = λ m i. elim (in-cons i) [ inl e ↦ inl (rw e k) | inr j ↦ q .0 m j ]; simple = q .1 }))
 ]
 kept-step {g} {done} {a} {b} {legs} (many s) k p = let q = step-many g done legs (steps-length s) .0 p in
-    many (ear s (fitting-ear g (allEdges done) legs (walk-sound k) (q .0) (q .1)))
+    many (mader s (fitting-path g (allEdges done) legs (walk-sound k) (q .0) (q .1)))
 
 -- what holds of the walks once all have run
 record Ran (g : Graph) (walks : List (List Leg)) : Type 0 where
@@ -83,10 +83,10 @@ paths-fine {g} a b (legs ∷ walks) h f s d =
 
 steps-fine : {g : Graph} {walks : List (List Leg)} → Steps g walks → Distinct (allEdges walks) → Fine g walks
 steps-fine (theta {a = a} {b = b} {walks = walks} t) d = paths-fine a b walks (omega (arith, t .three)) (t .between) (t .simple) d
-steps-fine {g} (ear {walks = walks} {legs = legs} p k) d =
+steps-fine {g} (mader {walks = walks} {legs = legs} p k) d =
     let e = right-distinct (edgesOf legs) d in
     more (k .walk) d (step-many g walks legs (steps-length p) .1
-    (ear-fitting g (allEdges walks) legs (stage p e) (rw (walk-start (k .walk), walk-stop (k .walk)) k)))
+    (path-fitting g (allEdges walks) legs (stage p e) (rw (walk-start (k .walk), walk-stop (k .walk)) k)))
     (steps-fine p e)
 
 -- Rows.
@@ -147,7 +147,7 @@ between-edges (legs ∷ walks) f i = elim (in-cases (edgesOf legs) i) [
 
 pub steps-edges : {g : Graph} {e : ℕ} {walks : List (List Leg)} → Steps g walks → In e (allEdges walks) → Edge g e
 steps-edges (theta {walks = walks} t) i = between-edges walks (t .between) i
-steps-edges (ear {legs = legs} p k) i = elim (in-cases (edgesOf legs) i) [ inl j ↦ walk-edges (k .walk) j | inr j ↦ steps-edges p j ]
+steps-edges (mader {legs = legs} p k) i = elim (in-cases (edgesOf legs) i) [ inl j ↦ walk-edges (k .walk) j | inr j ↦ steps-edges p j ]
 
 -- as many different edges as the graph has are all of them
 all-edges : {g : Graph} {walks : List (List Leg)} → Steps g walks → Distinct (allEdges walks) → length (allEdges walks) ≡ length (edges g)
@@ -184,7 +184,7 @@ module _ (g : Graph) (list : List ℕ) where
       numbers = sym (flat-rows (length (edges g)) list h) ∙ ap flat same ∙ flat-steps [] walks
 
       r : Ran g (reverse walks)
-      r = ran runs (few (omega arith) (λ m i. absurd (not-in i))) none
+      r = ran runs (few (omega arith) (λ m i. absurd (not-in i))) no-member
 
       c : (3 ≤ length (reverse walks)) × ((v : ℕ) → Vertex g v → Branch g (allEdges (reverse walks)) v)
       c = closing g (reverse walks) .0 (r .closes)

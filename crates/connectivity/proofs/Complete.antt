@@ -7,11 +7,12 @@ use native.Mathlib.Omega.{arith}
 use native.Mathlib.Decide.{ℕ-discrete, map-dec}
 use lib.ListN.{length, length-append}
 use Rattle.connectivity.specs.Lists.{Distinct}
-use Rattle.connectivity.specs.Graph.{Graph, Vertex, graphOf, always, edges}
+use Rattle.connectivity.specs.Plan.{Plan, graph, Limits}
+use Rattle.connectivity.specs.Graph.{Graph, Vertex, edges}
 use Rattle.connectivity.specs.Reach.{ThreeEdgeConnected}
 use Rattle.connectivity.specs.Walk.{Leg, Walk, last, then, froms, edgesOf, allEdges}
-use Rattle.connectivity.specs.Mader.{Steps, theta, ear, stepRows, rows, Builds}
-use Rattle.connectivity.specs.Admission.{Limits, Admitted, Answer, answer, passed}
+use Rattle.connectivity.specs.Mader.{Steps, theta, mader, stepRows, rows, Builds}
+use Rattle.connectivity.specs.Admission.{Admitted, Answer, answer, passed}
 use Rattle.connectivity.specs.Judge.{judge, judgeFirm}
 use Rattle.connectivity.proofs.Reach.{joins-vertex}
 use Rattle.connectivity.proofs.Search.{edges-are}
@@ -23,7 +24,7 @@ use Rattle.connectivity.proofs.Stretch.{WalkIn, walk-in}
 use Rattle.connectivity.proofs.Judge.{firm-passes}
 use Rattle.connectivity.proofs.Grow.{all-branches}
 use Rattle.connectivity.proofs.First.{first-three}
-use Rattle.connectivity.proofs.Ears.{every-edge}
+use Rattle.connectivity.proofs.MaderPaths.{every-edge}
 use Rattle.connectivity.proofs.Find.{find}
 
 -- The construction ends, with every edge built.
@@ -33,7 +34,7 @@ grow : {g : Graph} {walks : List (List Leg)} → ThreeEdgeConnected g → (k : �
     → Steps g walks → Distinct (allEdges walks) → ((list : List ℕ) → Builds g list → ⊥) → ⊥
 grow {g} {walks} t zero h s d f = omega (arith, h, part-length g (allEdges walks) (edges g) d (λ e i. edges-are g e .1 (steps-edges s i)))
 grow {g} {walks} t (suc k) h s d f =
-    let every = every-edge t s d (λ n. grow t k (omega (arith, h, walk-length (n .ear .walk), length-append (edgesOf (n .legs)) (allEdges walks))) (ear s (n .ear)) (n .once) f) in
+    let every = every-edge t s d (λ n. grow t k (omega (arith, h, walk-length (n .path .walk), length-append (edgesOf (n .legs)) (allEdges walks))) (mader s (n .path)) (n .once) f) in
     f (rows walks) (record { walks = walks; numbers = refl; steps = s; every = every; once = d; branches = all-branches t (stage s d) every })
 
 -- The numbers of a list that builds the graph are below a bound.
@@ -106,6 +107,5 @@ three-builds {g} t = elim (find (builds-dec g) (bound g) (3 * length (edges g)))
 ]
 
 -- 01: so on every admitted plan that is firm some firm verdict passes
-pub firm-exists : {limits : Limits} {n : ℕ} {ends : List ℕ} → Admitted limits n ends → ThreeEdgeConnected (graphOf n always ends)
-    → (list : List ℕ) × (judge limits n always ends 0 list ≡ passed)
-firm-exists {limits} {n} {ends} a t = let (list, b) = three-builds t in (list, firm-passes limits n always ends list .1 (a, b))
+pub firm-exists : {most : Limits} {p : Plan} → Admitted most p → ThreeEdgeConnected (graph p) → (list : List ℕ) × (judge most p 0 list ≡ passed)
+firm-exists {most} {p} a t = let (list, b) = three-builds t in (list, firm-passes most p list .1 (a, b))

@@ -6,10 +6,10 @@ use Prim.Native.Nat.{ℕ, suc, _+_, _≤_}
 use native.Mathlib.Omega.{arith}
 use native.Mathlib.Decide.{ℕ-discrete, decLe}
 use lib.ListN.{length, length-append}
-use Rattle.connectivity.specs.Lists.{Distinct, none, one}
+use Rattle.connectivity.specs.Lists.{Distinct, no-member, one}
 use Rattle.connectivity.specs.Graph.{Graph, Vertex, vertices, edges}
 use Rattle.connectivity.specs.Walk.{Leg, Walk, last, then, Between, inner, edgesOf, allInner, allEdges, degree, Built}
-use Rattle.connectivity.specs.Mader.{Theta, Ear, Steps, theta, ear, Builds}
+use Rattle.connectivity.specs.Mader.{Theta, MaderPath, Steps, theta, mader, Builds}
 use Rattle.connectivity.proofs.Search.{vertices-are}
 use Rattle.connectivity.proofs.Order.{ordered-vertices}
 use Rattle.connectivity.proofs.Distinct.{ordered-distinct, join-distinct}
@@ -72,10 +72,10 @@ counted-theta {g} {a} {b} {walks} t = record {
   total = omega (arith, t .three, all-length walks (t .between));
 }
 
--- An ear.
+-- A Mader-path.
 
-counted-ear : {g : Graph} {walks : List (List Leg)} {u w : ℕ} {legs : List Leg} → Counted g walks → Ear g (allEdges walks) u legs w → Counted g (legs ∷ walks)
-counted-ear {g} {walks} {u} {w} {legs} c k = record {
+counted-path : {g : Graph} {walks : List (List Leg)} {u w : ℕ} {legs : List Leg} → Counted g walks → MaderPath g (allEdges walks) u legs w → Counted g (legs ∷ walks)
+counted-path {g} {walks} {u} {w} {legs} c k = record {
   built = inner legs ++ c .built;
   distinct = join-distinct (inner legs) (k .simple) (c .distinct) (λ v i j. k .fresh v i (c .only v j));
   has = λ v h. elim (decLe 1 (degree g (allEdges walks) v)) [
@@ -95,7 +95,7 @@ counted-ear {g} {walks} {u} {w} {legs} c k = record {
 -- at every stage
 pub counted : {g : Graph} {walks : List (List Leg)} → Steps g walks → Counted g walks
 counted (theta t) = counted-theta t
-counted (ear p k) = counted-ear (counted p) k
+counted (mader p k) = counted-path (counted p) k
 
 -- 01's numbers of a whole record: the steps are the tabs less the pieces plus 2
 pub builds-count : {g : Graph} {list : List ℕ} (b : Builds g list) → length (b .walks) + length (vertices g) ≡ length (edges g) + 2

@@ -9,7 +9,7 @@ use native.Mathlib.Decide.{ℕ-discrete, decLe}
 use borrow.Author.Tests.{eqb-true, eqb-false}
 use lib.Dec.{eqb}
 use lib.ListN.{length}
-use Rattle.connectivity.specs.Lists.{Distinct, none, one}
+use Rattle.connectivity.specs.Lists.{Distinct, no-member, one}
 use Rattle.connectivity.specs.Graph.{Graph, Vertex, Edge, Joins}
 use Rattle.connectivity.specs.Reach.{Reach, here, over}
 use Rattle.connectivity.specs.Walk.{Leg, Walk, last, then, froms, inner, edgesOf, hits, degree, Branch}
@@ -173,7 +173,7 @@ module _ {g : Graph} where
   ]
 
   inner-distinct : {u w : ℕ} {legs : List Leg} → Walk g u legs w → Distinct (froms legs) → Distinct (inner legs)
-  inner-distinct (last e j) d = none
+  inner-distinct (last e j) d = no-member
   inner-distinct (then e j k) d = tail-distinct d
 
   -- away from its ends a walk whose inner vertices are all different has at most two edges at a vertex

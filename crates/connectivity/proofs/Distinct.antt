@@ -4,7 +4,7 @@ use mathlib.Core.Logic.{_⊎_, inl, inr}
 use mathlib.Core.List.{List, [], _∷_, _++_, List·Memᴰ as In, List·Memᴰ·head as first, List·Memᴰ·tail as later, List·Memᴰ·not-nil as not-in, List·Memᴰ·cases-cons as in-cons, List·Memᴰ·append-cases as in-cases, Memᴰ·append-left as in-left, Memᴰ·append-right as in-right, Memᴰ·cast}
 use Prim.Native.Nat.{ℕ, _<_}
 use native.Mathlib.Omega.{arith}
-use Rattle.connectivity.specs.Lists.{Distinct, none, one, Ordered, nil, cons}
+use Rattle.connectivity.specs.Lists.{Distinct, no-member, one, Ordered, nil, cons}
 use Rattle.connectivity.proofs.Lists.{in-dec}
 
 -- two lists have a member in common, or none
@@ -25,7 +25,7 @@ pub tail-distinct : {x : ℕ} {l : List ℕ} → Distinct (x ∷ l) → Distinct
 tail-distinct (one n d) = d
 
 pub left-distinct : (l r : List ℕ) → Distinct (l ++ r) → Distinct l
-left-distinct [] r d = none
+left-distinct [] r d = no-member
 left-distinct (x ∷ l) r (one n d) = one (λ i. n (in-left r i)) (left-distinct l r d)
 
 pub right-distinct : (l : List ℕ) {r : List ℕ} → Distinct (l ++ r) → Distinct r
@@ -52,5 +52,5 @@ skip-distinct {a} {b} l {r} (one n (one m d)) =
 
 -- an ascending list
 pub ordered-distinct : {l : List ℕ} → Ordered _<_ l → Distinct l
-ordered-distinct nil = none
+ordered-distinct nil = no-member
 ordered-distinct (cons {x = x} h o) = one (λ i. let l = h x i in omega arith) (ordered-distinct o)

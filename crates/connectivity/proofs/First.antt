@@ -5,7 +5,7 @@ use mathlib.Core.List.{List, [], _∷_, _++_, append-assoc, List·Memᴰ as In, 
 use Prim.Native.Nat.{ℕ}
 use native.Mathlib.Omega.{arith}
 use native.Mathlib.Decide.{ℕ-discrete}
-use Rattle.connectivity.specs.Lists.{Distinct, none, one}
+use Rattle.connectivity.specs.Lists.{Distinct, no-member, one}
 use Rattle.connectivity.specs.Graph.{Graph, Edge, Joins}
 use Rattle.connectivity.specs.Reach.{Reach, here, over, ThreeEdgeConnected}
 use Rattle.connectivity.specs.Walk.{Leg, Walk, froms, allEdges}
@@ -77,7 +77,7 @@ module _ {g : Graph} {x r c d e : ℕ} (j : Joins g c r x) (apart : r ≡ x → 
       ∙ ap (λ (l : List ℕ). l ++ (r ∷ [])) (sym (parted .parts))
 
   round : Distinct (x ∷ (froms (parted .low) ++ froms (parted .high ++ (leg c r ∷ []))))
-  round = subst (λ (l : List ℕ). Distinct (x ∷ l)) (sym whole) (one off (join-distinct (froms (to-r .legs)) (to-r .once) (one not-in none)
+  round = subst (λ (l : List ℕ). Distinct (x ∷ l)) (sym whole) (one off (join-distinct (froms (to-r .legs)) (to-r .once) (one not-in no-member)
       (λ v i k. path-new line i .1 (eq-of-singleton k))))
     where
       off : In x on-line → ⊥

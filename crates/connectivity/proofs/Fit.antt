@@ -1,4 +1,4 @@
--- The tests on a whole step and what they decide: three paths, an ear, its links, and the end of the record.
+-- The tests on a whole step and what they decide: three paths, a Mader-path, its links, and the end of the record.
 use mathlib.Core.Path.{_≡_, refl, sym, ap, _∙_, subst}
 use mathlib.Core.Logic.{_⊎_, inl, inr, _↔_}
 use mathlib.Core.Bool.{Bool, true, false, not, cond, _&&_, _||_}
@@ -9,13 +9,13 @@ use native.Mathlib.Decide.{ℕ-discrete}
 use lib.Dec.{T, eqb, ltb, leb, eqb→eq, leb→le, le→leb, T-not, not-T}
 use lib.ListN.{length}
 use borrow.Author.Tests.{lt-ltb, le-ltb}
-use Rattle.connectivity.specs.Lists.{Distinct, none, one, all, mem, distinct}
+use Rattle.connectivity.specs.Lists.{Distinct, no-member, one, all, mem, distinct}
 use Rattle.connectivity.specs.Graph.{Graph, Vertex, Edge, Joins, vertices}
 use Rattle.connectivity.specs.Reach.{Reach}
 use Rattle.connectivity.specs.Cut.{unreached}
 use Rattle.connectivity.specs.Walk.{Leg, Walk, Between, inner, edgesOf, allInner, allEdges, degree, Built, Branch, isBuilt, isBranch, start, stop}
 use Rattle.connectivity.specs.Link.{SameLink, isBare, sameLink}
-use Rattle.connectivity.specs.Mader.{Theta, Ear}
+use Rattle.connectivity.specs.Mader.{Theta, MaderPath}
 use Rattle.connectivity.specs.Judge.{leadsBetween, allBetween, pathsFit, earFits, linksFit, stepNumber, closingNumber}
 use Rattle.connectivity.proofs.Lists.{T-dec, T-true, true-T, mem-in, in-mem, not-mem, distinct-is, Decides, decides, decides-eq, decides-not, decides-to, decides-and, decides-or, decides-all}
 use Rattle.connectivity.proofs.Reach.{reach-map}
@@ -90,8 +90,8 @@ module _ (g : Graph) (built : List ℕ) (legs : List Leg) where
   unfolding linksFit
   links-fit h = decides-or (decides-or (is-branch g built u) (is-branch g built w)) (decides-not (same-link-is g built u w h))
 
-  pub fitting-ear : Walk g u legs w → T (earFits g built legs) → T (linksFit g built legs) → Ear g built u legs w
-  fitting-ear k t l = let f = ear-fits .holds t in record {
+  pub fitting-path : Walk g u legs w → T (earFits g built legs) → T (linksFit g built legs) → MaderPath g built u legs w
+  fitting-path k t l = let f = ear-fits .holds t in record {
     walk = k;
     begins = f .begins;
     ends = f .ends;
@@ -101,8 +101,8 @@ module _ (g : Graph) (built : List ℕ) (legs : List Leg) where
     links = λ n m s. elim (links-fit (walk-to k) .holds l) [ inl b ↦ elim b [ inl h ↦ n h | inr h ↦ m h ] | inr h ↦ h (link-bare s) ];
   }
 
-  pub ear-fitting : Stage g built → Ear g built u legs w → T (earFits g built legs) × T (linksFit g built legs)
-  ear-fitting s e = (
+  pub path-fitting : Stage g built → MaderPath g built u legs w → T (earFits g built legs) × T (linksFit g built legs)
+  path-fitting s e = (
     ear-fits .test (record { begins = e .begins; ends = e .ends; fresh = e .fresh; simple = e .simple; closed = e .closed }),
     links-fit (walk-to (e .walk)) .test (elim (T-dec (isBranch g built u)) [
       | yes b ↦ inl (inl (is-branch g built u .holds b))

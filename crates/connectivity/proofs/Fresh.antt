@@ -6,7 +6,7 @@ use Prim.Native.Nat.{ℕ, _≤_}
 use native.Mathlib.Omega.{arith}
 use native.Mathlib.Decide.{ℕ-discrete}
 use lib.ListN.{length}
-use Rattle.connectivity.specs.Lists.{Distinct, none, one}
+use Rattle.connectivity.specs.Lists.{Distinct, no-member, one}
 use Rattle.connectivity.specs.Graph.{Graph}
 use Rattle.connectivity.specs.Walk.{Leg, Walk, last, then, Between, froms, inner, allInner, allEdges, degree, Built}
 use Rattle.connectivity.proofs.Distinct.{head-distinct, tail-distinct, left-distinct, right-distinct, apart-distinct, join-distinct}
@@ -128,6 +128,6 @@ fresh-snoc {g} {built} {u} {v} {legs} e k = (there, back)
 
     back : Fresh g built legs × (In v (froms legs) → ⊥) × (Built g built v → ⊥) → Fresh g built (legs ++ (l ∷ []))
     back (f, n, m) = record {
-      once = subst Distinct (sym (froms-snoc legs l)) (join-distinct (froms legs) (f .once) (one not-in none) (λ x i j. n (Memᴰ·cast (sym (eq-of-singleton j)) i)));
+      once = subst Distinct (sym (froms-snoc legs l)) (join-distinct (froms legs) (f .once) (one not-in no-member) (λ x i j. n (Memᴰ·cast (sym (eq-of-singleton j)) i)));
       new = λ x i. elim (in-cases (inner legs) (subst (In x) (inner-snoc k l) i)) [ inl j ↦ f .new x j | inr j ↦ λ h. m (rw (sym (eq-of-singleton j)) h) ];
     }

@@ -1,4 +1,4 @@
--- The construction never sticks: in a three-edge-connected graph the search for the next ear finds one while an edge is left, and when none
+-- The construction never sticks: in a three-edge-connected graph the search for the next Mader-path finds one while an edge is left, and when none
 -- is left, every vertex is a branch.
 use mathlib.Core.Path.{_≡_, refl, sym, _∙_, subst}
 use mathlib.Core.Logic.{_⊎_, inl, inr}
@@ -8,12 +8,13 @@ use native.Mathlib.Omega.{arith}
 use native.Mathlib.Decide.{ℕ-discrete, decLe}
 use Rattle.connectivity.specs.Lists.{Distinct}
 use Rattle.connectivity.specs.Graph.{Graph, Vertex, Edge, Joins}
-use Rattle.connectivity.specs.Reach.{Reach, here, over, Without, ThreeEdgeConnected, Through, stay, leave}
+use Rattle.connectivity.specs.Reach.{Reach, here, over, Without, ThreeEdgeConnected}
 use Rattle.connectivity.specs.Walk.{Leg, Walk, last, then, froms, inner, edgesOf, hits, degree, Built, Branch}
 use Rattle.connectivity.specs.Link.{SameLink}
-use Rattle.connectivity.specs.Mader.{Ear}
+use Rattle.connectivity.specs.Mader.{MaderPath}
 use Rattle.connectivity.proofs.Lists.{in-dec}
-use Rattle.connectivity.proofs.Reach.{joins-sym, joins-vertex, reach-trans, reach-sym, closed-reach, through-on}
+use Rattle.connectivity.proofs.Reach.{joins-sym, joins-vertex, reach-trans, reach-sym, closed-reach}
+use Rattle.connectivity.proofs.Through.{Through, stay, leave, through-on}
 use Rattle.connectivity.proofs.Degree.{hits-from, hits-on, in-degree, built-vertex, from-first, walk-from, inner-least}
 use Rattle.connectivity.proofs.Stage.{Stage, Bare}
 use Rattle.connectivity.proofs.Link.{lead, some-link, link-full, link-closed, link-bare}
@@ -156,17 +157,17 @@ all-branches {g} {built} t s f v h = elim (decLe 3 (degree g built v)) [
     nowhere stay i m = m i
     nowhere (leave e l p j r) i m = l (f e (j .edge))
 
--- The ears.
+-- The Mader-paths.
 
 -- what lies inside the link of a built vertex is built
 pub inside-built : {g : Graph} {built : List ℕ} {p v : ℕ} → Built g built p → Inside g built p v → Built g built v
 inside-built {g} {built} h r = closed-reach (λ x. Built g built x) (λ e x y l j k. in-degree g y (l .0) (hits-from (joins-sym j))) r h
 
--- a walk over new vertices from a built vertex outside the link of p to one inside it is an ear
-pub ear-from-link : {g : Graph} {built : List ℕ} {p s t : ℕ} {legs : List Leg} → Built g built p → Inside g built p s
+-- a walk over new vertices from a built vertex outside the link of p to one inside it is a Mader-path
+pub path-from-link : {g : Graph} {built : List ℕ} {p s t : ℕ} {legs : List Leg} → Built g built p → Inside g built p s
     → Built g built t → (Inside g built p t → ⊥) → Walk g t legs s → ((v : ℕ) → In v (inner legs) → Built g built v → ⊥)
-    → Distinct (inner legs) → Ear g built t legs s
-ear-from-link {g} {built} {p} h i b n k f d = record {
+    → Distinct (inner legs) → MaderPath g built t legs s
+path-from-link {g} {built} {p} h i b n k f d = record {
   walk = k;
   begins = b;
   ends = inside-built h i;
@@ -176,11 +177,11 @@ ear-from-link {g} {built} {p} h i b n k f d = record {
   links = λ m o l. n (reach-trans i (reach-sym (link-bare l)));
 }
 
--- where every built vertex is a branch, a walk over new vertices between built ones is an ear
-pub ear-from-branch : {g : Graph} {built : List ℕ} {a t : ℕ} {legs : List Leg} → ((v : ℕ) → Built g built v → Branch g built v)
+-- where every built vertex is a branch, a walk over new vertices between built ones is a Mader-path
+pub path-from-branch : {g : Graph} {built : List ℕ} {a t : ℕ} {legs : List Leg} → ((v : ℕ) → Built g built v → Branch g built v)
     → Built g built a → Built g built t → Walk g t legs a → ((v : ℕ) → In v (inner legs) → Built g built v → ⊥)
-    → Distinct (inner legs) → Ear g built t legs a
-ear-from-branch {t = t} all h b k f d = record {
+    → Distinct (inner legs) → MaderPath g built t legs a
+path-from-branch {t = t} all h b k f d = record {
   walk = k;
   begins = b;
   ends = h;

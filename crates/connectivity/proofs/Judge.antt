@@ -10,11 +10,12 @@ use lib.Dec.{T, eqb, leb, leb→le, le→leb}
 use lib.ListN.{length}
 use borrow.Author.Tests.{ne-eqb}
 use Rattle.connectivity.specs.Lists.{Ordered, nil, cons}
-use Rattle.connectivity.specs.Graph.{Graph, Edge, graphOf, isEdge}
+use Rattle.connectivity.specs.Graph.{Graph, Edge, isEdge}
+use Rattle.connectivity.specs.Plan.{Plan, graph, Limits}
 use Rattle.connectivity.specs.Reach.{ThreeEdgeConnected}
 use Rattle.connectivity.specs.Cut.{EdgeSet, Cut, disconnects}
 use Rattle.connectivity.specs.Mader.{Builds}
-use Rattle.connectivity.specs.Admission.{Answer, answer, passed, andThen, Limits, Admitted, admission}
+use Rattle.connectivity.specs.Admission.{Answer, answer, passed, andThen, Admitted, admission}
 use Rattle.connectivity.specs.Judge.{ascending, judgeFirm, judgeWeak, judgeGraph, judge}
 use Rattle.connectivity.proofs.Lists.{Decides, decides, decides-and}
 use Rattle.connectivity.proofs.Search.{is-edge}
@@ -92,52 +93,52 @@ weak-is g list = (to, from)
 
 -- Every plan, kind and list.
 
-module _ (limits : Limits) (n : ℕ) (kept : ℕ → Bool) (ends : List ℕ) where
+module _ (most : Limits) (p : Plan) where
   abbrev g : Graph
-  g = graphOf n kept ends
+  g = graph p
 
   -- the plan's own refusal comes first
-  pub judge-refused : (kind : ℕ) (list : List ℕ) → (Admitted limits n ends → ⊥) → judge limits n kept ends kind list ≡ admission limits n ends
+  pub judge-refused : (kind : ℕ) (list : List ℕ) → (Admitted most p → ⊥) → judge most p kind list ≡ admission most p
   unfolding judge
-  judge-refused kind list h = failed-then (admission limits n ends) _ (λ z. h (admission-number limits n ends .0 z))
+  judge-refused kind list h = failed-then (admission most p) _ (λ z. h (admission-number most p .0 z))
 
-  pub judge-admitted : (kind : ℕ) (list : List ℕ) → Admitted limits n ends → judge limits n kept ends kind list ≡ judgeGraph g kind list
+  pub judge-admitted : (kind : ℕ) (list : List ℕ) → Admitted most p → judge most p kind list ≡ judgeGraph g kind list
   unfolding judge
-  judge-admitted kind list a = passed-then (admission limits n ends) _ (admission-number limits n ends .1 a)
+  judge-admitted kind list a = passed-then (admission most p) _ (admission-number most p .1 a)
 
-  judge-is : (kind : ℕ) (list : List ℕ) → (judge limits n kept ends kind list ≡ passed) ↔ (Admitted limits n ends × (judgeGraph g kind list ≡ passed))
+  judge-is : (kind : ℕ) (list : List ℕ) → (judge most p kind list ≡ passed) ↔ (Admitted most p × (judgeGraph g kind list ≡ passed))
   unfolding judge
   judge-is kind list = (
-    λ h. let p = both-passed _ _ h in (admission-number limits n ends .0 (p .0), p .1),
-    λ (a, p). judge-admitted kind list a ∙ p,
+    λ h. let q = both-passed _ _ h in (admission-number most p .0 (q .0), q .1),
+    λ (a, q). judge-admitted kind list a ∙ q,
   )
 
-  pub firm-passes : (list : List ℕ) → (judge limits n kept ends 0 list ≡ passed) ↔ (Admitted limits n ends × Builds g list)
+  pub firm-passes : (list : List ℕ) → (judge most p 0 list ≡ passed) ↔ (Admitted most p × Builds g list)
   unfolding judgeGraph
   firm-passes list = (
-    λ h. let p = judge-is 0 list .0 h in (p .0, firm-is g list .0 (p .1)),
+    λ h. let q = judge-is 0 list .0 h in (q .0, firm-is g list .0 (q .1)),
     λ (a, b). judge-is 0 list .1 (a, firm-is g list .1 b),
   )
 
-  pub weak-passes : (list : List ℕ) → (judge limits n kept ends 1 list ≡ passed) ↔ (Admitted limits n ends × Cut g list)
+  pub weak-passes : (list : List ℕ) → (judge most p 1 list ≡ passed) ↔ (Admitted most p × Cut g list)
   unfolding judgeGraph
   weak-passes list = (
-    λ h. let p = judge-is 1 list .0 h in (p .0, weak-is g list .0 (p .1)),
+    λ h. let q = judge-is 1 list .0 h in (q .0, weak-is g list .0 (q .1)),
     λ (a, c). judge-is 1 list .1 (a, weak-is g list .1 c),
   )
 
-  pub no-other-passes : (kind : ℕ) (list : List ℕ) → (kind ≡ 0 → ⊥) → (kind ≡ 1 → ⊥) → judge limits n kept ends kind list ≡ passed → ⊥
+  pub no-other-passes : (kind : ℕ) (list : List ℕ) → (kind ≡ 0 → ⊥) → (kind ≡ 1 → ⊥) → judge most p kind list ≡ passed → ⊥
   unfolding judgeGraph
-  no-other-passes kind list h k p =
-      let q = rw (ne-eqb kind 0 h, ne-eqb kind 1 k) at (judge-is kind list .0 p .1) in
+  no-other-passes kind list h k r =
+      let q = rw (ne-eqb kind 0 h, ne-eqb kind 1 k) at (judge-is kind list .0 r .1) in
       let z = ap (λ (a : Answer). a .number) q in omega arith
 
   -- a firm verdict that passes makes the graph 3-edge-connected, a weak one shows that it is not; so never both pass
-  pub firm-three : (list : List ℕ) → judge limits n kept ends 0 list ≡ passed → ThreeEdgeConnected g
+  pub firm-three : (list : List ℕ) → judge most p 0 list ≡ passed → ThreeEdgeConnected g
   firm-three list h = builds-three-edge-connected (firm-passes list .0 h .1)
 
-  pub weak-not-three : (list : List ℕ) → judge limits n kept ends 1 list ≡ passed → ThreeEdgeConnected g → ⊥
+  pub weak-not-three : (list : List ℕ) → judge most p 1 list ≡ passed → ThreeEdgeConnected g → ⊥
   weak-not-three list h t = let c = weak-passes list .0 h .1 in c .disconnects (t .still list (c .small))
 
-  pub never-both : (rows tabs : List ℕ) → judge limits n kept ends 0 rows ≡ passed → judge limits n kept ends 1 tabs ≡ passed → ⊥
-  never-both rows tabs p q = weak-not-three tabs q (firm-three rows p)
+  pub never-both : (rows tabs : List ℕ) → judge most p 0 rows ≡ passed → judge most p 1 tabs ≡ passed → ⊥
+  never-both rows tabs q r = weak-not-three tabs r (firm-three rows q)

@@ -1,5 +1,6 @@
 pub mod Lists
 pub mod Reach
+pub mod Through
 pub mod Search
 pub mod Disconnects
 pub mod CutOff
@@ -21,12 +22,11 @@ pub mod Fresh
 pub mod Stretch
 pub mod Judge
 pub mod Table
-pub mod Label
 pub mod Grow
 pub mod Theta
 pub mod Once
 pub mod Shorten
 pub mod First
-pub mod Ears
+pub mod MaderPaths
 pub mod Find
 pub mod Complete

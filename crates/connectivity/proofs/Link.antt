@@ -5,7 +5,7 @@ use mathlib.Core.List.{List, [], _∷_, List·Memᴰ as In, List·Memᴰ·head a
 use Prim.Native.Nat.{ℕ, _≤_}
 use native.Mathlib.Omega.{arith}
 use native.Mathlib.Decide.{decLe}
-use Rattle.connectivity.specs.Lists.{Distinct, none, one}
+use Rattle.connectivity.specs.Lists.{Distinct, no-member, one}
 use Rattle.connectivity.specs.Graph.{Graph, Joins}
 use Rattle.connectivity.specs.Reach.{Reach, here, over}
 use Rattle.connectivity.specs.Walk.{Leg, Walk, last, then, froms, inner, edgesOf, hits, degree, Built, Branch}
@@ -52,7 +52,7 @@ module _ {g : Graph} {built : List ℕ} {live : ℕ → Type 0} where
   arm-off {u = u} a n f i h = elim (on u (arm-walk a) (in-degree g u i h)) [ inl m ↦ f m | inr p ↦ n (rw p (arm-branch a)) ]
 
   arm-once : {u w : ℕ} {legs : List Leg} → Arm g built live u legs w → Distinct (edgesOf legs)
-  arm-once (end e l j n b) = one not-in none
+  arm-once (end e l j n b) = one not-in no-member
   arm-once (more e l j n f a) = one (λ i. arm-off a n f i (hits-from j)) (arm-once a)
 
   lead-in : {u w : ℕ} {legs : List Leg} → Arm g built live u legs w → In (lead legs) (edgesOf legs)

@@ -10,7 +10,7 @@ use lib.Dec.{T, eqb, eqb→eq, eqb-refl, T-not, not-T}
 use lib.ListN.{length, getD, set}
 use lib.Seq.{getD-set-same, getD-set-other}
 use borrow.Author.Tests.{eq-eqb, ne-eqb}
-use Rattle.connectivity.specs.Lists.{Distinct, none, one, range, any, all, keep, mem, distinct, empty}
+use Rattle.connectivity.specs.Lists.{Distinct, no-member, one, range, any, all, keep, mem, distinct, empty}
 
 -- tests
 pub and-both : (a b : Bool) → T (a && b) → T a × T b
@@ -76,11 +76,11 @@ unfolding distinct
 distinct-is l = (to l, from)
   where
     to : (l : List ℕ) → T (distinct l) → Distinct l
-    to [] t = none
+    to [] t = no-member
     to (x ∷ l) t = let p = and-both (not (mem x l)) (distinct l) t in one (not-mem x l .0 (p .0)) (to l (p .1))
 
     from : {l : List ℕ} → Distinct l → T (distinct l)
-    from none = tt
+    from no-member = tt
     from (one {x = x} {l = l} n d) = both-and (not (mem x l)) (distinct l) (not-mem x l .1 n) (from d)
 
 -- any, all, keep, range, empty

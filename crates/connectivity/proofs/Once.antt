@@ -1,13 +1,13 @@
--- Walks over different vertices have different edges: an ear, and the first three walks if their edges at x are different.
+-- Walks over different vertices have different edges: a Mader-path, and the first three walks if their edges at x are different.
 use mathlib.Core.Path.{_≡_, refl, sym, _∙_}
 use mathlib.Core.Logic.{_⊎_, inl, inr}
 use mathlib.Core.List.{List, [], _∷_, _++_, append-nil, List·Memᴰ as In, List·Memᴰ·head as first, List·Memᴰ·tail as later, List·Memᴰ·not-nil as not-in, List·Memᴰ·cases-cons as in-cons, List·Memᴰ·append-cases as in-cases, List·Memᴰ·eq-of-singleton as eq-of-singleton, Memᴰ·append-left as in-left, Memᴰ·append-right as in-right, Memᴰ·cast}
 use Prim.Native.Nat.{ℕ}
 use native.Mathlib.Omega.{arith}
-use Rattle.connectivity.specs.Lists.{Distinct, none, one}
+use Rattle.connectivity.specs.Lists.{Distinct, no-member, one}
 use Rattle.connectivity.specs.Graph.{Graph}
 use Rattle.connectivity.specs.Walk.{Leg, Walk, last, then, froms, inner, edgesOf, allEdges, hits}
-use Rattle.connectivity.specs.Mader.{Ear}
+use Rattle.connectivity.specs.Mader.{MaderPath}
 use Rattle.connectivity.proofs.Distinct.{head-distinct, tail-distinct, left-distinct, right-distinct, apart-distinct, join-distinct}
 use Rattle.connectivity.proofs.Degree.{hits-from, hits-on, in-degree, from-first, froms-cases, on}
 use Rattle.connectivity.proofs.Link.{lead, walk-edge}
@@ -21,7 +21,7 @@ module _ {g : Graph} where
 
   -- a walk that comes to no vertex twice
   pub walk-once : {u w : ℕ} {legs : List Leg} → Walk g u legs w → Distinct (froms legs) → (In w (froms legs) → ⊥) → Distinct (edgesOf legs)
-  walk-once (last e j) d n = one not-in none
+  walk-once (last e j) d n = one not-in no-member
   walk-once (then e j k) d n = one
       (λ i. elim (ends-on k i (hits-from j)) [ inl m ↦ head-distinct d m | inr p ↦ n (first (sym p)) ])
       (walk-once k (tail-distinct d) (λ i. n (later i)))
@@ -43,10 +43,10 @@ module _ {g : Graph} where
     | inr q ↦ final-at k (λ m. n (later m)) q h ∙ sym (final-cons (leg d u) k)
   ]
 
--- an ear that is not closed, over edges that are not built
-pub ear-once : {g : Graph} {built : List ℕ} {u w : ℕ} {legs : List Leg} → Ear g built u legs w → (u ≡ w → ⊥)
+-- a Mader-path that is not closed, over edges that are not built
+pub path-once : {g : Graph} {built : List ℕ} {u w : ℕ} {legs : List Leg} → MaderPath g built u legs w → (u ≡ w → ⊥)
     → ((e : ℕ) → In e (edgesOf legs) → In e built → ⊥) → Distinct built → Distinct (edgesOf legs ++ built)
-ear-once {u = u} {w = w} {legs = legs} r n f d = join-distinct (edgesOf legs)
+path-once {u = u} {w = w} {legs = legs} r n f d = join-distinct (edgesOf legs)
     (walk-once (r .walk) (froms-distinct (r .walk) (λ i. r .fresh u i (r .begins)) (r .simple))
     (λ i. elim (froms-cases (r .walk) i) [ inl p ↦ n (sym p) | inr m ↦ r .fresh w m (r .ends) ]))
     d f

@@ -5,7 +5,7 @@ use mathlib.Core.Logic.{_⊎_, inl, inr}
 use mathlib.Core.List.{List, List·Memᴰ as In}
 use Prim.Native.Nat.{ℕ}
 use Rattle.connectivity.specs.Graph.{Graph, Vertex, Joins}
-use Rattle.connectivity.specs.Reach.{Reach, here, over, Without, Through, stay, leave}
+use Rattle.connectivity.specs.Reach.{Reach, here, over, Without}
 
 pub joins-sym : {g : Graph} {e u v : ℕ} → Joins g e u v → Joins g e v u
 joins-sym {g} {e} {u} {v} j = record { edge = j .edge; ends = flip (j .ends) }
@@ -49,26 +49,3 @@ reach-edges f (over {u} {v} e l j p) = over e (f e u v j l) j (reach-edges f p)
 pub reach-less : {g : Graph} {cut less : List ℕ} → ((e : ℕ) → In e less → In e cut)
     → {u v : ℕ} → Reach g (Without cut) u v → Reach g (Without less) u v
 reach-less f r = reach-map (λ e w i. w (f e i)) r
-
--- Ways that pass only through some vertices.
-
-module _ {g : Graph} {live pass : ℕ → Type 0} where
-  -- one edge more
-  pub through-on : {u v w e : ℕ} → Through g live pass u v → live e → pass v → Joins g e v w → Through g live pass u w
-  through-on {e = e} stay l p j = leave e l p j stay
-  through-on (leave d k q i r) l p j = leave d k q i (through-on r l p j)
-
-  -- a set that no live edge leaves from a vertex that may be passed through has whatever such a way leads to
-  pub closed-through : (S : ℕ → Type 0) → ((e u v : ℕ) → live e → pass u → Joins g e u v → S u → S v)
-      → {u v : ℕ} → Through g live pass u v → S u → S v
-  closed-through S c stay s = s
-  closed-through S c (leave {u} {v} e l p j r) s = closed-through S c r (c e u v l p j s)
-
-  pub through-reach : {u v : ℕ} → Through g live pass u v → Reach g live u v
-  through-reach stay = here
-  through-reach (leave e l p j r) = over e l j (through-reach r)
-
--- where every vertex may be passed through, it is reach
-pub reach-through : {g : Graph} {live pass : ℕ → Type 0} → ((v : ℕ) → pass v) → {u v : ℕ} → Reach g live u v → Through g live pass u v
-reach-through f here = stay
-reach-through f (over {u} e l j r) = leave e l (f u) j (reach-through f r)

@@ -9,7 +9,7 @@ use native.Mathlib.Decide.{ℕ-discrete}
 use lib.Dec.{T, eqb, eqb→eq, T-not, not-T}
 use lib.ListN.{length}
 use borrow.Author.Tests.{eqb-true, eqb-false, eq-eqb, ne-eqb}
-use Rattle.connectivity.specs.Lists.{Distinct, none, one, mem}
+use Rattle.connectivity.specs.Lists.{Distinct, no-member, one, mem}
 use Rattle.connectivity.specs.Graph.{Graph, Edge, Joins, isEdge}
 use Rattle.connectivity.specs.Walk.{Leg, Walk, last, then, edgesOf, allEdges, far, start, stop}
 use Rattle.connectivity.specs.Admission.{Answer, answer, passed, andThen}
@@ -214,6 +214,6 @@ runs-pass {g} {done} (step {walks = walks} {legs = legs} w d s r) k =
 -- both ways
 pub rows-pass : (g : Graph) (rest : List Row) → (judgeRows g [] [] 0 rest ≡ passed) ↔ ((walks : List (List Leg)) × Runs g [] walks × (rest ≡ rowsFrom 0 walks))
 rows-pass g rest = (
-  λ h. let p = passing g [] [] 0 rest nothing (λ z. refl) none h in (p .walks, p .runs, p .rows),
+  λ h. let p = passing g [] [] 0 rest nothing (λ z. refl) no-member h in (p .walks, p .runs, p .rows),
   λ (walks, r, p). rw p (runs-pass r 0),
 )

@@ -4,13 +4,13 @@ use mathlib.Core.Logic.{_⊎_, inl, inr}
 use mathlib.Core.List.{List, [], _∷_, _++_, List·Memᴰ as In, List·Memᴰ·not-nil as not-in, List·Memᴰ·cases-cons as in-cons}
 use Prim.Native.Nat.{ℕ}
 use native.Mathlib.Decide.{ℕ-discrete}
-use Rattle.connectivity.specs.Lists.{Distinct, none, one}
+use Rattle.connectivity.specs.Lists.{Distinct, no-member, one}
 use Rattle.connectivity.specs.Graph.{Graph, Joins}
-use Rattle.connectivity.specs.Reach.{Through}
 use Rattle.connectivity.specs.Walk.{Leg, Walk, last, then, froms, edgesOf}
 use Rattle.connectivity.proofs.Lists.{in-dec}
 use Rattle.connectivity.proofs.Distinct.{right-distinct}
-use Rattle.connectivity.proofs.Reach.{joins-sym, closed-through}
+use Rattle.connectivity.proofs.Reach.{joins-sym}
+use Rattle.connectivity.proofs.Through.{Through, closed-through}
 use Rattle.connectivity.proofs.Legs.{leg}
 
 -- a walk, or none, over live edges, that leaves only new vertices
@@ -81,7 +81,7 @@ pub record Back (g : Graph) (live new S : ℕ → Type 0) (v : ℕ) : Type 0 whe
 
 module _ {g : Graph} {live new S : ℕ → Type 0} where
   within : {v : ℕ} → S v → Way g live new S v
-  within {v} s = record { legs = []; to = v; path = there; ends = s; once = none }
+  within {v} s = record { legs = []; to = v; path = there; ends = s; once = no-member }
 
   -- without the round where the path comes by v
   shorter : {v : ℕ} → new v → Back g live new S v → Way g live new S v

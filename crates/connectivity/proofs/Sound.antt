@@ -9,18 +9,18 @@ use Rattle.connectivity.specs.Lists.{Distinct}
 use Rattle.connectivity.specs.Graph.{Graph, Vertex}
 use Rattle.connectivity.specs.Reach.{Reach, Without, ThreeEdgeConnected}
 use Rattle.connectivity.specs.Walk.{Leg, Between, edgesOf, allEdges, Branch}
-use Rattle.connectivity.specs.Mader.{Steps, theta, ear, Builds}
+use Rattle.connectivity.specs.Mader.{Steps, theta, mader, Builds}
 use Rattle.connectivity.proofs.Reach.{reach-map}
 use Rattle.connectivity.proofs.Distinct.{head-distinct, right-distinct}
 use Rattle.connectivity.proofs.Degree.{walk-from, walk-to}
-use Rattle.connectivity.proofs.Stage.{Stage, stage-theta, stage-ear}
+use Rattle.connectivity.proofs.Stage.{Stage, stage-theta, stage-path}
 use Rattle.connectivity.proofs.Link.{same-link}
 
 -- every stage of the construction has the invariant
 pub stage : {g : Graph} {walks : List (List Leg)} → Steps g walks → Distinct (allEdges walks) → Stage g (allEdges walks)
 stage (theta t) d = stage-theta t d
-stage (ear {legs = legs} p k) d = let s = stage p (right-distinct (edgesOf legs) d) in
-    stage-ear s k d (λ n m r. k .links n m (same-link s (k .begins) n r))
+stage (mader {legs = legs} p k) d = let s = stage p (right-distinct (edgesOf legs) d) in
+    stage-path s k d (λ n m r. k .links n m (same-link s (k .begins) n r))
 
 -- the members of a list of at most two are one or other of two numbers
 at-most-two : (cut : List ℕ) → length cut ≤ 2 → (c : ℕ) × (d : ℕ) × ((e : ℕ) → In e cut → (e ≡ c) ⊎ (e ≡ d))
@@ -49,7 +49,7 @@ two-vertices {g} (theta {a = a} {b = b} {walks = walks} t) = go walks (t .three)
       | inl k ↦ (a, b, walk-from k, walk-to k, different)
       | inr k ↦ (a, b, walk-to k, walk-from k, different)
     ]
-two-vertices (ear p k) = two-vertices p
+two-vertices (mader p k) = two-vertices p
 
 pub builds-three-edge-connected : {g : Graph} {list : List ℕ} → Builds g list → ThreeEdgeConnected g
 builds-three-edge-connected b = record {

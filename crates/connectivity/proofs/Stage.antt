@@ -1,4 +1,4 @@
--- The invariant of a stage of the construction: three paths between two vertices have it, and an ear keeps it.
+-- The invariant of a stage of the construction: three paths between two vertices have it, and a Mader-path keeps it.
 use mathlib.Core.Path.{_≡_, refl, sym, _∙_, subst}
 use mathlib.Core.Logic.{_⊎_, inl, inr, ⊎-map, ⊎-swap}
 use mathlib.Core.List.{List, [], _∷_, _++_, List·Memᴰ as In, List·Memᴰ·head as first, List·Memᴰ·tail as later, List·Memᴰ·eq-of-singleton as eq-of-singleton, Memᴰ·append-left as in-left, Memᴰ·append-right as in-right, Memᴰ·cast}
@@ -10,7 +10,7 @@ use Rattle.connectivity.specs.Lists.{Distinct}
 use Rattle.connectivity.specs.Graph.{Graph, Joins}
 use Rattle.connectivity.specs.Reach.{Reach, here, over, Without}
 use Rattle.connectivity.specs.Walk.{Leg, Walk, last, then, Between, froms, inner, edgesOf, allInner, allEdges, degree, Built, Branch}
-use Rattle.connectivity.specs.Mader.{Theta, Ear}
+use Rattle.connectivity.specs.Mader.{Theta, MaderPath}
 use Rattle.connectivity.proofs.Reach.{joins-sym, reach-trans, reach-sym, reach-map}
 use Rattle.connectivity.proofs.Distinct.{common, head-distinct, tail-distinct, left-distinct, right-distinct, apart-distinct}
 use Rattle.connectivity.proofs.Degree.{degree-append, hits-from, hits-on, remove, from-first, walk-reach, start-degree, stop-degree, on, on-inner, inner-most}
@@ -106,9 +106,9 @@ meet {g} {built} {u} {w} {c} p q = reach-trans (p .bare) (elim (hits-on (q .at) 
   | inr e ↦ let j : Joins g c (p .at) (q .at) = rw e (p .joins) in over c (bare-edge j (p .edge) (p .stop) (q .stop)) j (reach-sym (q .bare))
 ])
 
--- An ear.
+-- A Mader-path.
 
--- an end u of an ear reaches an old branch past c and d, by the old edges or over the ear to its other end w
+-- an end u of a Mader-path reaches an old branch past c and d, by the old edges or over the Mader-path to its other end w
 leave-end : {g : Graph} {built new : List ℕ} (c d : ℕ) {u w : ℕ} → Stage g built → Built g built u → Built g built w
     → Distinct (new ++ built) → Reach g (λ e. In e new) u w → BareApart g built u w → Exit g built (LessTwo (new ++ built) c d) u
 leave-end {g} {built} {new} c d {u} {w} s hu hw once r apart = elim (leave c d u s hu) [
@@ -146,12 +146,12 @@ walk-exit : {g : Graph} {u w : ℕ} {legs : List Leg} (c x : ℕ) → Walk g u l
     → ToEither g (edgesOf legs) c x u w
 walk-exit c x k d h = elim (on x k h) [ inl i ↦ to-an-end c x k d i | inr p ↦ inr (rw p here) ]
 
-module _ {g : Graph} {built : List ℕ} {u w : ℕ} {legs : List Leg} (s : Stage g built) (k : Ear g built u legs w)
+module _ {g : Graph} {built : List ℕ} {u w : ℕ} {legs : List Leg} (s : Stage g built) (k : MaderPath g built u legs w)
     (once : Distinct (edgesOf legs ++ built)) (apart : BareApart g built u w) where
   sum : (x : ℕ) → degree g (edgesOf legs ++ built) x ≡ degree g (edgesOf legs) x + degree g built x
   sum x = degree-append g (edgesOf legs) built x
 
-  -- a branch is an old one, or an end of the ear
+  -- a branch is an old one, or an end of the Mader-path
   branches : (x : ℕ) → Branch g (edgesOf legs ++ built) x → Branch g built x ⊎ ((x ≡ u) ⊎ (x ≡ w))
   branches x h = elim (ℕ-discrete x u) [
     | yes p ↦ inr (inl p)
@@ -176,14 +176,14 @@ module _ {g : Graph} {built : List ℕ} {u w : ℕ} {legs : List Leg} (s : Stage
       along : Reach g (λ e. In e (edgesOf legs)) u w
       along = walk-reach u (k .walk) (from-first (k .walk))
 
-  -- what comes to an old vertex y over the ear less c goes on from there
+  -- what comes to an old vertex y over the Mader-path less c goes on from there
   exit : (c x y : ℕ) → Reach g (LessOne (edgesOf legs) c) x y → Built g built y
       → Exit g (edgesOf legs ++ built) (LessOne (edgesOf legs ++ built) c) x
   exit c x y r h = exit-via (λ v b. omega (arith, sum v)) (λ e l. (in-right (edgesOf legs) (l .0), l .1))
       (reach-map (λ e l. (in-left built (l .0), l .1)) r) (s .two c y h)
 
-  pub stage-ear : Stage g (edgesOf legs ++ built)
-  stage-ear = record {
+  pub stage-path : Stage g (edgesOf legs ++ built)
+  stage-path = record {
     three = λ c d x y hx hy.
         let p = leave-branch c d x hx in
         let q = leave-branch c d y hy in

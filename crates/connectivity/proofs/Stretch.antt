@@ -6,12 +6,12 @@ use Prim.Native.Nat.{ℕ, zero, suc, _+_, _≤_, _<_}
 use native.Mathlib.Omega.{arith}
 use native.Mathlib.Decide.{ℕ-discrete, decLe}
 use lib.ListN.{length, getD}
-use Rattle.connectivity.specs.Lists.{Distinct, none, one}
+use Rattle.connectivity.specs.Lists.{Distinct, no-member, one}
 use Rattle.connectivity.specs.Graph.{Graph, Joins}
 use Rattle.connectivity.specs.Reach.{Reach, here, over}
 use Rattle.connectivity.specs.Walk.{Leg, Walk, last, then, Between, froms, inner, edgesOf, allInner, allEdges, hits, degree, Built, Branch}
 use Rattle.connectivity.specs.Link.{SameLink}
-use Rattle.connectivity.specs.Mader.{Theta, Ear, Steps, theta, ear}
+use Rattle.connectivity.specs.Mader.{Theta, MaderPath, Steps, theta, mader}
 use Rattle.connectivity.proofs.Reach.{joins-sym, reach-trans, reach-sym, closed-reach}
 use Rattle.connectivity.proofs.Distinct.{head-distinct, tail-distinct, left-distinct, right-distinct}
 use Rattle.connectivity.proofs.Degree.{degree-append, hits-from, in-degree, froms-cases, start-degree, stop-degree, full, inner-least}
@@ -99,7 +99,7 @@ module _ {g : Graph} {a b : ℕ} where
 
 pub walk-in : {g : Graph} {walks : List (List Leg)} {legs : List Leg} → Steps g walks → Distinct (allEdges walks) → In legs walks → WalkIn g (allEdges walks) legs
 walk-in (theta {walks = walks} t) d i = path-in walks t d i
-walk-in {g} {legs = legs} (ear {walks = walks} {u = u} {w = w} {legs = new} p k) d i = elim (in-cons i) [
+walk-in {g} {legs = legs} (mader {walks = walks} {u = u} {w = w} {legs = new} p k) d i = elim (in-cons i) [
   | inl q ↦ subst (WalkIn g (edgesOf new ++ allEdges walks)) (sym q) (record {
     from = u;
     to = w;

@@ -2,23 +2,24 @@
 use mathlib.Core.Path.{_≡_, refl}
 use mathlib.Core.List.{[], map}
 use Rattle.connectivity.specs.Lists.{range, any, all, keep, mem, distinct, empty}
-use Rattle.connectivity.specs.Graph.{graphOf, isVertex, isEdge, vertices, edges}
+use Rattle.connectivity.specs.Graph.{isVertex, isEdge, vertices, edges}
+use Rattle.connectivity.specs.Plan.{plan, graph, limits}
 use Rattle.connectivity.specs.Cut.{near, spread, unreached, unreachedFrom, cutOff, disconnects, singles, pairsWith, pairs, firstOf, lowestCut}
 use Rattle.connectivity.specs.Walk.{hits, isBuilt, isBranch, far, start, stop}
 use Rattle.connectivity.specs.Link.{isBare, sameLink}
-use Rattle.connectivity.specs.Admission.{answer, passed, limits, andThen, edgeNumber, endsAnswer, admission}
+use Rattle.connectivity.specs.Admission.{answer, passed, andThen, edgeNumber, endsAnswer, admission}
 use Rattle.connectivity.specs.Verdict.{verdictOn, verdict}
 use Rattle.connectivity.specs.Judge.{rowsOf, stepFits, edgeFits, comesTo, fromFits, rowNumber, leadsBetween, allBetween, pathsFit, earFits, linksFit, stepNumber, closingNumber, isLast, judgeRows, ascending, judgeFirm, judgeWeak, judgeGraph, judge}
 use Rattle.connectivity.specs.Table.{table, checkedBy, computed, parallel}
 
 pub plans : map computed table ≡ table
-unfolding range any all keep mem distinct empty graphOf isVertex isEdge vertices edges near spread unreached unreachedFrom cutOff disconnects singles pairsWith pairs firstOf lowestCut hits isBuilt isBranch far start stop isBare sameLink andThen edgeNumber endsAnswer admission verdictOn verdict rowsOf stepFits edgeFits comesTo fromFits rowNumber leadsBetween allBetween pathsFit earFits linksFit stepNumber closingNumber isLast judgeRows ascending judgeFirm judgeWeak judgeGraph judge checkedBy computed
+unfolding range any all keep mem distinct empty graph isVertex isEdge vertices edges near spread unreached unreachedFrom cutOff disconnects singles pairsWith pairs firstOf lowestCut hits isBuilt isBranch far start stop isBare sameLink andThen edgeNumber endsAnswer admission verdictOn verdict rowsOf stepFits edgeFits comesTo fromFits rowNumber leadsBetween allBetween pathsFit earFits linksFit stepNumber closingNumber isLast judgeRows ascending judgeFirm judgeWeak judgeGraph judge checkedBy computed
 plans = refl
 
 -- 1,000 pieces and 4,000 tabs are admitted; 1,001 gives 2, 4,001 gives 3; 1 piece gives 2
-pub at-limits : (admission limits 1000 (parallel 4000) ≡ passed)
-    × (admission limits 1001 (parallel 4000) ≡ answer 2 0)
-    × (admission limits 1000 (parallel 4001) ≡ answer 3 0)
-    × (admission limits 1 [] ≡ answer 2 0)
+pub at-limits : (admission limits (plan 1000 (parallel 4000)) ≡ passed)
+    × (admission limits (plan 1001 (parallel 4000)) ≡ answer 2 0)
+    × (admission limits (plan 1000 (parallel 4001)) ≡ answer 3 0)
+    × (admission limits (plan 1 []) ≡ answer 2 0)
 unfolding admission andThen edgeNumber endsAnswer parallel
 at-limits = (refl, refl, refl, refl)

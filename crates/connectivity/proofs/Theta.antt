@@ -9,10 +9,11 @@ use native.Mathlib.Decide.{ℕ-discrete}
 use lib.ListN.{length}
 use Rattle.connectivity.specs.Lists.{Distinct, one}
 use Rattle.connectivity.specs.Graph.{Graph, Edge, Joins}
-use Rattle.connectivity.specs.Reach.{Reach, here, over, Without, ThreeEdgeConnected, Through, stay}
+use Rattle.connectivity.specs.Reach.{Reach, here, over, Without, ThreeEdgeConnected}
 use Rattle.connectivity.specs.Walk.{Leg, Walk, last, then, froms, inner}
 use Rattle.connectivity.specs.Mader.{Theta}
-use Rattle.connectivity.proofs.Reach.{joins-sym, joins-vertex, through-on}
+use Rattle.connectivity.proofs.Reach.{joins-sym, joins-vertex}
+use Rattle.connectivity.proofs.Through.{Through, stay, through-on}
 use Rattle.connectivity.proofs.Distinct.{head-distinct, tail-distinct, left-distinct, right-distinct, apart-distinct, join-distinct}
 
 -- The doors of x.

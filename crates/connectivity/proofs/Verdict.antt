@@ -9,10 +9,11 @@ use native.Mathlib.Omega.{arith}
 use lib.Dec.{eqb, ltb}
 use lib.ListN.{length}
 use borrow.Author.Tests.{le-ltb, lt-ltb, ne-eqb}
-use Rattle.connectivity.specs.Graph.{Graph, Vertex, graphOf, always, edges}
+use Rattle.connectivity.specs.Graph.{Graph, Vertex, edges}
+use Rattle.connectivity.specs.Plan.{Plan, graph, Limits}
 use Rattle.connectivity.specs.Reach.{ThreeEdgeConnected}
 use Rattle.connectivity.specs.Cut.{LowestCut, lowestCut}
-use Rattle.connectivity.specs.Admission.{Limits, Answer, answer, passed, Admitted, admission}
+use Rattle.connectivity.specs.Admission.{Answer, answer, passed, Admitted, admission}
 use Rattle.connectivity.specs.Verdict.{Verdict, refused, weak, firm, verdictOn, verdict}
 use Rattle.connectivity.proofs.LowestCut.{lowest-cut, lowest-found, three-edge-connected}
 use Rattle.connectivity.proofs.Admission.{admission-is, admission-number, admitted-vertex}
@@ -33,33 +34,33 @@ unfolding verdictOn
 on-weak none cut p = absurd (firm-not-weak p)
 on-weak (some c) cut p = ap some (weak-same p)
 
-module _ {limits : Limits} {n : ℕ} {ends : List ℕ} (a : Admitted limits n ends) (space : ℕ) where
+module _ {most : Limits} {p : Plan} (a : Admitted most p) (space : ℕ) where
   abbrev g : Graph
-  g = graphOf n always ends
+  g = graph p
 
   -- too little space
-  pub verdict-short : space < 3 * length (edges g) → verdict limits n always ends space ≡ refused (answer 6 0)
+  pub verdict-short : space < 3 * length (edges g) → verdict most p space ≡ refused (answer 6 0)
   unfolding verdict
-  verdict-short h = rw (admission-is limits n ends .1 a, lt-ltb space (3 * length (edges g)) h)
+  verdict-short h = rw (admission-is most p .1 a, lt-ltb space (3 * length (edges g)) h)
 
   -- enough
   module _ (h : 3 * length (edges g) ≤ space) where
-    pub reaches : verdict limits n always ends space ≡ verdictOn (lowestCut g)
+    pub reaches : verdict most p space ≡ verdictOn (lowestCut g)
     unfolding verdict
-    reaches = rw (admission-is limits n ends .1 a, le-ltb space (3 * length (edges g)) h)
+    reaches = rw (admission-is most p .1 a, le-ltb space (3 * length (edges g)) h)
 
-    pub verdict-firm : (verdict limits n always ends space ≡ firm) ↔ ThreeEdgeConnected g
+    pub verdict-firm : (verdict most p space ≡ firm) ↔ ThreeEdgeConnected g
     unfolding verdictOn
     verdict-firm =
-        let e = three-edge-connected 0 1 (admitted-vertex a 0 (omega (arith, a .two))) (admitted-vertex a 1 (omega (arith, a .two))) (λ p. omega arith) in
-        (λ p. e .0 (on-firm (lowestCut g) (sym reaches ∙ p)), λ t. reaches ∙ ap verdictOn (e .1 t))
+        let e = three-edge-connected 0 1 (admitted-vertex a 0 (omega (arith, a .two))) (admitted-vertex a 1 (omega (arith, a .two))) (λ q. omega arith) in
+        (λ q. e .0 (on-firm (lowestCut g) (sym reaches ∙ q)), λ t. reaches ∙ ap verdictOn (e .1 t))
 
-    pub verdict-weak : (cut : List ℕ) → (verdict limits n always ends space ≡ weak cut) ↔ LowestCut g cut
+    pub verdict-weak : (cut : List ℕ) → (verdict most p space ≡ weak cut) ↔ LowestCut g cut
     unfolding verdictOn
-    verdict-weak cut = (λ p. lowest-cut (on-weak (lowestCut g) cut (sym reaches ∙ p)), λ l. reaches ∙ ap verdictOn (lowest-found l))
+    verdict-weak cut = (λ q. lowest-cut (on-weak (lowestCut g) cut (sym reaches ∙ q)), λ l. reaches ∙ ap verdictOn (lowest-found l))
 
 -- a plan that is not admitted is refused by its own number, whatever the space
-pub verdict-refused : (limits : Limits) (n : ℕ) (ends : List ℕ) (space : ℕ) → (Admitted limits n ends → ⊥)
-    → verdict limits n always ends space ≡ refused (admission limits n ends)
+pub verdict-refused : (most : Limits) (p : Plan) (space : ℕ) → (Admitted most p → ⊥)
+    → verdict most p space ≡ refused (admission most p)
 unfolding verdict
-verdict-refused limits n ends space h = rw (ne-eqb ((admission limits n ends) .number) 0 (λ z. h (admission-number limits n ends .0 z)))
+verdict-refused most p space h = rw (ne-eqb ((admission most p) .number) 0 (λ z. h (admission-number most p .0 z)))

@@ -5,6 +5,7 @@ use mathlib.Core.List.{List, [], _∷_}
 use Prim.Native.Nat.{ℕ, suc, _+_, _*_, _/_, _%_, _≤_, _<_}
 use lib.Dec.{eqb, ltb}
 use lib.ListN.{length, getD}
+use Rattle.connectivity.specs.Plan.{Plan, Limits}
 
 -- 01: an answer is a number and a place; 0 and 0 is success
 pub record Answer : Type 0 where
@@ -17,32 +18,35 @@ answer n p = record { number = n; place = p }
 abbrev pub passed : Answer
 passed = answer 0 0
 
+-- 01: what is handed back: number and place, and the values of a success
+pub record Handed : Type 0 where
+  pub answer : Answer
+  pub values : List ℕ
+
+-- a success with its values, and a refusal, which has none
+abbrev pub served : List ℕ → Handed
+served values = record { answer = passed; values = values }
+
+abbrev pub refusal : Answer → Handed
+refusal a = record { answer = a; values = [] }
+
 -- the first answer, or if it is success the second
 unfoldable pub andThen : Answer → Answer → Answer
 andThen first second = cond (eqb (first .number) 0) second first
 
--- 01: the limits
-pub record Limits : Type 0 where
-  pub vertices : ℕ
-  pub edges : ℕ
-
--- 01: 1,000 pieces and 4,000 tabs
-abbrev pub limits : Limits
-limits = record { vertices = 1000; edges = 4000 }
-
 -- both ends of an edge are below the number of vertices, and they differ
-pub record EndsFit (n : ℕ) (ends : List ℕ) (e : ℕ) : Type 0 where
-  pub left : getD ends (2 * e) 0 < n
-  pub right : getD ends (2 * e + 1) 0 < n
-  pub different : getD ends (2 * e) 0 ≡ getD ends (2 * e + 1) 0 → ⊥
+pub record EndsFit (p : Plan) (e : ℕ) : Type 0 where
+  pub left : getD (p .ends) (2 * e) 0 < p .vertices
+  pub right : getD (p .ends) (2 * e + 1) 0 < p .vertices
+  pub different : getD (p .ends) (2 * e) 0 ≡ getD (p .ends) (2 * e + 1) 0 → ⊥
 
--- 01: admitted, of n vertices and a table of two ends for each edge
-pub record Admitted (most : Limits) (n : ℕ) (ends : List ℕ) : Type 0 where
-  pub even : length ends % 2 ≡ 0
-  pub two : 2 ≤ n
-  pub vertices : n ≤ most .vertices
-  pub edges : length ends / 2 ≤ most .edges
-  pub fit : (e : ℕ) → e < length ends / 2 → EndsFit n ends e
+-- 01: admitted
+pub record Admitted (most : Limits) (p : Plan) : Type 0 where
+  pub even : length (p .ends) % 2 ≡ 0
+  pub two : 2 ≤ p .vertices
+  pub vertices : p .vertices ≤ most .vertices
+  pub edges : length (p .ends) / 2 ≤ most .edges
+  pub fit : (e : ℕ) → e < length (p .ends) / 2 → EndsFit p e
 
 -- 01: 4 where an end is not below the number of vertices, 5 where both ends are the same, 4 before 5; else 0
 unfoldable pub edgeNumber : ℕ → ℕ → ℕ → ℕ
@@ -55,9 +59,9 @@ endsAnswer n e (a ∷ []) = passed
 endsAnswer n e (a ∷ (b ∷ ends)) = andThen (answer (edgeNumber n a b) e) (endsAnswer n (suc e) ends)
 
 -- 01: 1, 2, 3, then the first edge with 4 or 5
-unfoldable pub admission : Limits → ℕ → List ℕ → Answer
-admission most n ends =
-    cond (eqb (length ends % 2) 0)
-    (cond (ltb n 2 || ltb (most .vertices) n) (answer 2 0)
-    (cond (ltb (most .edges) (length ends / 2)) (answer 3 0) (endsAnswer n 0 ends)))
+unfoldable pub admission : Limits → Plan → Answer
+admission most p =
+    cond (eqb (length (p .ends) % 2) 0)
+    (cond (ltb (p .vertices) 2 || ltb (most .vertices) (p .vertices)) (answer 2 0)
+    (cond (ltb (most .edges) (length (p .ends) / 2)) (answer 3 0) (endsAnswer (p .vertices) 0 (p .ends))))
     (answer 1 0)

@@ -1,14 +1,13 @@
 -- A graph: vertices and edges, each a number. Two vertices may be joined by many edges.
 use mathlib.Core.Path.{_≡_}
 use mathlib.Core.Logic.{_⊎_}
-use mathlib.Core.Bool.{Bool, true, _&&_}
+use mathlib.Core.Bool.{Bool, _&&_}
 use mathlib.Core.List.{List}
-use Prim.Native.Nat.{ℕ, _+_, _*_, _/_, _<_}
+use Prim.Native.Nat.{ℕ, _<_}
 use lib.Dec.{T, ltb}
-use lib.ListN.{length, getD}
 use Rattle.connectivity.specs.Lists.{range, keep}
 
--- 01: plan. `bound` is above every vertex, `kept` tells which numbers below it are vertices, `size` is how many entries the table of
+-- `bound` is above every vertex, `kept` tells which numbers below it are vertices, `size` is how many entries the table of
 -- ends has, and `left e` and `right e` are the ends of entry `e`.
 pub record Graph : Type 0 where
   pub bound : ℕ
@@ -32,20 +31,6 @@ pub record Edge (g : Graph) (e : ℕ) : Type 0 where
 pub record Joins (g : Graph) (e u v : ℕ) : Type 0 where
   pub edge : Edge g e
   pub ends : ((g .left e ≡ u) × (g .right e ≡ v)) ⊎ ((g .left e ≡ v) × (g .right e ≡ u))
-
--- the graph with `n` numbers for vertices, of which those that pass `kept` are vertices, and a table of two ends for each edge
-unfoldable pub graphOf : ℕ → (ℕ → Bool) → List ℕ → Graph
-graphOf n kept ends = record {
-  bound = n;
-  kept = kept;
-  size = length ends / 2;
-  left = λ e. getD ends (2 * e) 0;
-  right = λ e. getD ends (2 * e + 1) 0;
-}
-
--- every number is kept
-abbrev pub always : ℕ → Bool
-always v = true
 
 -- the vertices and the edges, ascending
 unfoldable pub isVertex : Graph → ℕ → Bool

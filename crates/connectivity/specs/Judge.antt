@@ -5,11 +5,12 @@ use Prim.Native.Nat.{ℕ, suc, _*_}
 use lib.Dec.{eqb, ltb, leb}
 use lib.ListN.{length}
 use Rattle.connectivity.specs.Lists.{all, mem, distinct}
-use Rattle.connectivity.specs.Graph.{Graph, graphOf, isEdge, vertices, edges}
+use Rattle.connectivity.specs.Graph.{Graph, isEdge, vertices, edges}
+use Rattle.connectivity.specs.Plan.{Plan, graph, Limits}
 use Rattle.connectivity.specs.Cut.{disconnects}
 use Rattle.connectivity.specs.Walk.{Leg, inner, edgesOf, allInner, allEdges, isBuilt, isBranch, start, stop}
 use Rattle.connectivity.specs.Link.{sameLink}
-use Rattle.connectivity.specs.Admission.{Limits, Answer, answer, passed, andThen, admission}
+use Rattle.connectivity.specs.Admission.{Answer, answer, passed, andThen, admission}
 
 -- 01: a row: step, tab, piece
 pub record Row : Type 0 where
@@ -127,7 +128,7 @@ judgeGraph g kind list =
     cond (eqb kind 0) firm (cond (eqb kind 1) weak (answer 9 0))
 
 -- 01: the plan's own 1 to 5, then the verdict's
-unfoldable pub judge : Limits → ℕ → (ℕ → Bool) → List ℕ → ℕ → List ℕ → Answer
-judge limits n kept ends kind list =
-    let found = judgeGraph (graphOf n kept ends) kind list in
-    andThen (admission limits n ends) found
+unfoldable pub judge : Limits → Plan → ℕ → List ℕ → Answer
+judge most p kind list =
+    let found = judgeGraph (graph p) kind list in
+    andThen (admission most p) found

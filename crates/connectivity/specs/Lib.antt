@@ -1,9 +1,8 @@
 pub mod Lists
-pub mod Tells
 pub mod Graph
+pub mod Plan
 pub mod Reach
 pub mod Cut
-pub mod Label
 pub mod Walk
 pub mod Link
 pub mod Mader

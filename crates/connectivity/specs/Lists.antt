@@ -6,7 +6,7 @@ use lib.Dec.{eqb}
 
 -- no member stands twice
 pub data Distinct : List ℕ → Type 0 where
-  none : Distinct []
+  no-member : Distinct []
   one : {x : ℕ} {l : List ℕ} → (In x l → ⊥) → Distinct l → Distinct (x ∷ l)
 
 -- each member stands in a relation to all later ones: for `_<_`, ascending

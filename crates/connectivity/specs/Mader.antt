@@ -1,4 +1,4 @@
--- Mader's steps: three paths between two vertices, then ears; and what it means that a list of numbers builds a graph by them.
+-- Mader's steps: three paths between two vertices, then Mader-paths; and what it means that a list of numbers builds a graph by them.
 use mathlib.Core.Path.{_≡_}
 use mathlib.Core.List.{List, [], _∷_, _++_, List·Memᴰ as In}
 use Prim.Native.Nat.{ℕ}
@@ -16,7 +16,7 @@ pub record Theta (g : Graph) (a b : ℕ) (walks : List (List Leg)) : Type 0 wher
   pub simple : Distinct (a ∷ b ∷ allInner walks)
 
 -- 01: each later step, over the edges that are built before it
-pub record Ear (g : Graph) (built : List ℕ) (u : ℕ) (legs : List Leg) (w : ℕ) : Type 0 where
+pub record MaderPath (g : Graph) (built : List ℕ) (u : ℕ) (legs : List Leg) (w : ℕ) : Type 0 where
   pub walk : Walk g u legs w
   -- it begins and ends on vertices already built
   pub begins : Built g built u
@@ -29,10 +29,10 @@ pub record Ear (g : Graph) (built : List ℕ) (u : ℕ) (legs : List Leg) (w : �
   -- if neither end is a branch, they lie inside different links
   pub links : (Branch g built u → ⊥) → (Branch g built w → ⊥) → SameLink g built u w → ⊥
 
--- the steps taken so far, the latest first: three paths, then ears, each over the edges of those before
+-- the steps taken so far, the latest first: three paths, then Mader-paths, each over the edges of those before
 pub data Steps (g : Graph) : List (List Leg) → Type 0 where
   theta : {a b : ℕ} {walks : List (List Leg)} → Theta g a b walks → Steps g walks
-  ear : {walks : List (List Leg)} {u w : ℕ} {legs : List Leg} → Steps g walks → Ear g (allEdges walks) u legs w
+  mader : {walks : List (List Leg)} {u w : ℕ} {legs : List Leg} → Steps g walks → MaderPath g (allEdges walks) u legs w
       → Steps g (legs ∷ walks)
 
 -- 01: one row for each edge, three numbers to a row: step, edge, vertex. Steps count 0, 1, 2 and so on.

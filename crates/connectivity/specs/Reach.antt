@@ -26,8 +26,3 @@ Disconnects g cut = Connected g cut → ⊥
 pub record ThreeEdgeConnected (g : Graph) : Type 0 where
   pub two : (u : ℕ) × (v : ℕ) × Vertex g u × Vertex g v × (u ≡ v → ⊥)
   pub still : (cut : List ℕ) → length cut ≤ 2 → Connected g cut
-
--- a way over live edges on which every vertex that is left may be passed through
-pub data Through (g : Graph) (live pass : ℕ → Type 0) : ℕ → ℕ → Type 0 where
-  stay : {u : ℕ} → Through g live pass u u
-  leave : {u v w : ℕ} (e : ℕ) → live e → pass u → Joins g e u v → Through g live pass v w → Through g live pass u w

@@ -2,8 +2,8 @@
 -- own for mistakes that those ten would let pass. proofs/Table.antt shows that the definitions compute just this.
 use mathlib.Core.List.{List, [], _∷_, map}
 use Prim.Native.Nat.{ℕ, zero, suc}
-use Rattle.connectivity.specs.Graph.{always}
-use Rattle.connectivity.specs.Admission.{Answer, answer, passed, limits}
+use Rattle.connectivity.specs.Plan.{Plan, plan, limits}
+use Rattle.connectivity.specs.Admission.{Answer, answer, passed}
 use Rattle.connectivity.specs.Verdict.{Verdict, refused, weak, firm, verdict}
 use Rattle.connectivity.specs.Judge.{judge}
 
@@ -15,27 +15,25 @@ pub record Checked : Type 0 where
 
 -- a plan, the space lent for a record, the verdict, and verdicts that were checked
 pub record Case : Type 0 where
-  pub vertices : ℕ
-  pub ends : List ℕ
+  pub drawn : Plan
   pub space : ℕ
   pub verdict : Verdict
   pub checks : List Checked
 
 -- a case as the definitions have it
-unfoldable pub checkedBy : ℕ → List ℕ → Checked → Checked
-checkedBy n ends c = record { kind = c .kind; list = c .list; answer = judge limits n always ends (c .kind) (c .list) }
+unfoldable pub checkedBy : Plan → Checked → Checked
+checkedBy p c = record { kind = c .kind; list = c .list; answer = judge limits p (c .kind) (c .list) }
 
 unfoldable pub computed : Case → Case
 computed c = record {
-  vertices = c .vertices;
-  ends = c .ends;
+  drawn = c .drawn;
   space = c .space;
-  verdict = verdict limits (c .vertices) always (c .ends) (c .space);
-  checks = map (checkedBy (c .vertices) (c .ends)) (c .checks);
+  verdict = verdict limits (c .drawn) (c .space);
+  checks = map (checkedBy (c .drawn)) (c .checks);
 }
 
 abbrev case : ℕ → List ℕ → ℕ → Verdict → List Checked → Case
-case n ends space v checks = record { vertices = n; ends = ends; space = space; verdict = v; checks = checks }
+case n ends space v checks = record { drawn = plan n ends; space = space; verdict = v; checks = checks }
 
 -- a tab's two ends, and a row: step, tab, piece
 abbrev tab : ℕ → ℕ → List ℕ → List ℕ

@@ -9,14 +9,15 @@ use native.Mathlib.Omega.{arith}
 use lib.ListN.{length, getD}
 use borrow.Author.Tests.{lt-ltb, le-ltb}
 use Rattle.connectivity.specs.Lists.{range}
-use Rattle.connectivity.specs.Graph.{Graph, graphOf, always, edges}
+use Rattle.connectivity.specs.Plan.{plan, graph, limits}
+use Rattle.connectivity.specs.Graph.{Graph, edges}
 use Rattle.connectivity.specs.Cut.{disconnects, singles, pairs, firstOf, lowestCut}
-use Rattle.connectivity.specs.Admission.{Admitted, limits}
+use Rattle.connectivity.specs.Admission.{Admitted}
 use Rattle.connectivity.proofs.Lists.{range-is}
 use Rattle.connectivity.proofs.Search.{edges-are}
 use Rattle.connectivity.proofs.Admission.{admitted-edge, admitted-range}
 use Rattle.connectivity.proofs.LowestCut.{singles-in}
-use Rattle.connectivity.proofs.Label.{no-loops, skip-one, skip-two}
+use Rattle.labels.proofs.CutLabels.{no-loops, skip-one, skip-two}
 use Rattle.cuts.specs.Lowest.{Shown, ShownBoth, Whole, oneTold, twoTold, firstOne, firstTwo}
 use Rattle.cuts.proofs.First.{none-some, first-yes, first-no, first-some, first-later}
 
@@ -33,7 +34,7 @@ none-is f (b ∷ l) p c i = go (f b) refl p (in-cons i) (none-is f l)
 
 module _ {n : ℕ} {ends labels : List ℕ} {m : ℕ} (w : Whole n ends labels m) where
   abbrev g : Graph
-  g = graphOf n always ends
+  g = graph (plan n ends)
 
   abbrev label : ℕ → ℕ
   label e = getD labels e 0
@@ -61,25 +62,25 @@ module _ {n : ℕ} {ends labels : List ℕ} {m : ℕ} (w : Whole n ends labels m
       single e h = none-is (disconnects g) (singles (range 0 (m - 0))) p (e ∷ []) (singles-in (range-is e 0 (m - 0) .1 (omega arith, omega (arith, h))))
 
 -- the sets in order
-module _ {n : ℕ} {ends : List ℕ} (a : Admitted limits n ends) (m : ℕ) (p : m ≡ length ends / 2) where
-  abbrev plan : Graph
-  plan = graphOf n always ends
+module _ {n : ℕ} {ends : List ℕ} (a : Admitted limits (plan n ends)) (m : ℕ) (p : m ≡ length ends / 2) where
+  abbrev listed : Graph
+  listed = graph (plan n ends)
 
-  sets : lowestCut plan ≡ firstOf (disconnects plan) ([] ∷ (singles (range 0 (m - 0)) ++ pairs (range 0 (m - 0))))
+  sets : lowestCut listed ≡ firstOf (disconnects listed) ([] ∷ (singles (range 0 (m - 0)) ++ pairs (range 0 (m - 0))))
   unfolding lowestCut
   sets =
       let q : m - 0 ≡ length ends / 2 = omega (arith, p) in
-      ap (λ (l : List ℕ). firstOf (disconnects plan) ([] ∷ (singles l ++ pairs l))) (admitted-range a ∙ ap (range 0) (sym q))
+      ap (λ (l : List ℕ). firstOf (disconnects listed) ([] ∷ (singles l ++ pairs l))) (admitted-range a ∙ ap (range 0) (sym q))
 
-  pub lowest-parted : disconnects plan [] ≡ true → lowestCut plan ≡ some []
-  lowest-parted d = sets ∙ first-yes (disconnects plan) [] _ d
+  pub lowest-parted : disconnects listed [] ≡ true → lowestCut listed ≡ some []
+  lowest-parted d = sets ∙ first-yes (disconnects listed) [] _ d
 
-  module _ (d : disconnects plan [] ≡ false) where
-    pub lowest-one : (e : ℕ) → e < m → firstOne plan m ≡ oneTold m e → lowestCut plan ≡ some (e ∷ [])
-    lowest-one e h q = sets ∙ first-no (disconnects plan) [] _ d ∙ first-some (disconnects plan) (singles (range 0 (m - 0))) (pairs (range 0 (m - 0))) (rw (lt-ltb e m h) at q)
+  module _ (d : disconnects listed [] ≡ false) where
+    pub lowest-one : (e : ℕ) → e < m → firstOne listed m ≡ oneTold m e → lowestCut listed ≡ some (e ∷ [])
+    lowest-one e h q = sets ∙ first-no (disconnects listed) [] _ d ∙ first-some (disconnects listed) (singles (range 0 (m - 0))) (pairs (range 0 (m - 0))) (rw (lt-ltb e m h) at q)
 
-    pub lowest-two : firstOne plan m ≡ none → lowestCut plan ≡ firstTwo plan m
-    lowest-two q = sets ∙ first-no (disconnects plan) [] _ d ∙ first-later (disconnects plan) (singles (range 0 (m - 0))) (pairs (range 0 (m - 0))) q
+    pub lowest-two : firstOne listed m ≡ none → lowestCut listed ≡ firstTwo listed m
+    lowest-two q = sets ∙ first-no (disconnects listed) [] _ d ∙ first-later (disconnects listed) (singles (range 0 (m - 0))) (pairs (range 0 (m - 0))) q
 
 -- an edge m stands for none
 pub none-one : (g : Graph) (m e : ℕ) → m ≤ e → firstOne g m ≡ oneTold m e → firstOne g m ≡ none

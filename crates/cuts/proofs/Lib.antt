@@ -1,3 +1,4 @@
 pub mod First
 pub mod Filter
 pub mod Answers
+pub mod Handing

@@ -7,10 +7,11 @@ use Prim.Native.Nat.{ℕ, suc, _+_, _-_, _/_, _≤_, _<_}
 use lib.Dec.{ltb}
 use lib.ListN.{length, getD}
 use Rattle.connectivity.specs.Lists.{range}
-use Rattle.connectivity.specs.Graph.{Graph, graphOf, always}
+use Rattle.connectivity.specs.Plan.{plan, graph, limits}
+use Rattle.connectivity.specs.Graph.{Graph}
 use Rattle.connectivity.specs.Cut.{disconnects, singles, pairsWith, pairs, firstOf}
-use Rattle.connectivity.specs.Label.{Balanced}
-use Rattle.connectivity.specs.Admission.{Admitted, limits}
+use Rattle.labels.specs.Label.{Balanced}
+use Rattle.connectivity.specs.Admission.{Admitted}
 use Rattle.cuts.specs.declared.lowest.Lowest.{Lowest}
 
 -- the labels hide no cut of one edge, and none of two
@@ -22,14 +23,14 @@ ShowsTwo g m labels = (e d : ℕ) → e < d → d < m → (getD labels e 0 ≡ g
 
 -- what the searches for one edge and for two ask
 pub record Shown (n : ℕ) (ends labels : List ℕ) (m : ℕ) : Type 0 where
-  pub admitted : Admitted limits n ends
+  pub admitted : Admitted limits (plan n ends)
   pub edges : m ≡ length ends / 2
   pub room : m ≤ length labels
-  pub one : ShowsOne (graphOf n always ends) m labels
+  pub one : ShowsOne (graph (plan n ends)) m labels
 
 pub record ShownBoth (n : ℕ) (ends labels : List ℕ) (m : ℕ) : Type 0 where
   pub shown : Shown n ends labels m
-  pub two : ShowsTwo (graphOf n always ends) m labels
+  pub two : ShowsTwo (graph (plan n ends)) m labels
 
 -- an edge below m, or m for none
 abbrev pub oneTold : ℕ → ℕ → Option (List ℕ)
@@ -57,8 +58,8 @@ pub data Told : Lowest → Option (List ℕ) → Type 0 where
 
 -- a connected plan with labels that cancel around every vertex
 pub record Whole (n : ℕ) (ends labels : List ℕ) (m : ℕ) : Type 0 where
-  pub admitted : Admitted limits n ends
+  pub admitted : Admitted limits (plan n ends)
   pub edges : m ≡ length ends / 2
   pub room : m ≤ length labels
-  pub connected : disconnects (graphOf n always ends) [] ≡ false
-  pub balanced : Balanced (graphOf n always ends) (λ (e : ℕ). getD labels e 0)
+  pub connected : disconnects (graph (plan n ends)) [] ≡ false
+  pub balanced : Balanced (graph (plan n ends)) (λ (e : ℕ). getD labels e 0)

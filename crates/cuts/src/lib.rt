@@ -4,8 +4,8 @@ use graph::Graph;
 use labels::Labelling;
 use lowest::Lowest;
 ghost use mathlib.Core.Path.{_≡_};
-ghost use Rattle.connectivity.specs.Admission.{limits};
-ghost use Rattle.cuts.specs.Verdict.{lowestTold, lightest};
+ghost use Rattle.connectivity.specs.Plan.{plan, limits};
+ghost use Rattle.cuts.specs.Verdict.{handed, lowestHanded, lightest};
 
 pub mod lowest; // lowest.rt: the fewest edges that disconnect, the lowest set
 
@@ -18,7 +18,7 @@ pub enum Lightest {
 
 // The plan's own 1 to 5; else its lowest cut of at most two edges, if it has one.
 pub fn lowest_cut(vertices: u16, ends: &[u16]) -> Lightest
-    ensures { λ r. ⌜ r ≡ lowestTold limits vertices (now (ends .entry)) ⌝ }
+    ensures { λ r. ⌜ handed r ≡ lowestHanded limits (plan vertices (now (ends .entry))) ⌝ }
 {
     let mut labels = [0u64; Graph::MAX_EDGES];
     let labelling = labels::label(vertices, ends, &mut labels);

@@ -1,11 +1,12 @@
 // The lowest cut of at most two edges. Labels tell which sets need not be tried; a search tries the others.
+use removal::Split;
 ghost use mathlib.Core.Path.{_≡_};
 ghost use mathlib.Core.Bool.{false};
 ghost use mathlib.Core.List.{[], _∷_};
 ghost use Prim.Native.Nat.{_≤_, _<_};
-ghost use Rattle.connectivity.specs.Graph.{graphOf, always};
+ghost use Rattle.connectivity.specs.Plan.{plan, graph, limits};
 ghost use Rattle.connectivity.specs.Cut.{disconnects, lowestCut};
-ghost use Rattle.connectivity.specs.Admission.{Admitted, limits};
+ghost use Rattle.connectivity.specs.Admission.{Admitted};
 ghost use Rattle.cuts.specs.Lowest.{Shown, ShownBoth, oneTold, twoTold, firstOne, firstWith, firstTwo, Told, Whole};
 
 // A cut of at most two edges: how many, and which; unused places are 0. Three for none.
@@ -24,7 +25,7 @@ pub(crate) struct Pair {
 // The fewest edges, two at most, that disconnect a connected plan whose edges have labels, and of such sets the lowest.
 pub(crate) fn small_cut(vertices: u16, ends: &[u16], labels: &[u64], edges: u16) -> Lowest
     requires { ⌜ Whole vertices (now ends) (now labels) edges ⌝ }
-    ensures { λ r. ⌜ Told r (lowestCut (graphOf vertices always (now (ends .entry)))) ⌝ }
+    ensures { λ r. ⌜ Told r (lowestCut (graph (plan vertices (now (ends .entry))))) ⌝ }
 {
     let e = lowest_one(vertices, ends, labels, edges);
     if e < edges {
@@ -53,7 +54,7 @@ pub(crate) fn small_cut(vertices: u16, ends: &[u16], labels: &[u64], edges: u16)
 // The lowest edge that disconnects, or `edges` for none.
 fn lowest_one(vertices: u16, ends: &[u16], labels: &[u64], edges: u16) -> u16
     requires { ⌜ Shown vertices (now ends) (now labels) edges ⌝ }
-    ensures { λ r. ⌜ (r ≤ edges) × (firstOne (graphOf vertices always (now (ends .entry))) edges ≡ oneTold edges r) ⌝ }
+    ensures { λ r. ⌜ (r ≤ edges) × (firstOne (graph (plan vertices (now (ends .entry)))) edges ≡ oneTold edges r) ⌝ }
 {
     let mut e: u16 = 0;
     while e < edges {
@@ -68,7 +69,7 @@ fn lowest_one(vertices: u16, ends: &[u16], labels: &[u64], edges: u16) -> u16
 // The lowest edge above `e` that disconnects together with it, or `edges` for none.
 fn lowest_with(vertices: u16, ends: &[u16], labels: &[u64], edges: u16, e: u16) -> u16
     requires { ⌜ ShownBoth vertices (now ends) (now labels) edges × (e < edges) ⌝ }
-    ensures { λ r. ⌜ (r ≤ edges) × (firstWith (graphOf vertices always (now (ends .entry))) edges e ≡ twoTold edges e r) ⌝ }
+    ensures { λ r. ⌜ (r ≤ edges) × (firstWith (graph (plan vertices (now (ends .entry)))) edges e ≡ twoTold edges e r) ⌝ }
 {
     let label = labels[e as usize];
     let mut d = e + 1;
@@ -84,7 +85,7 @@ fn lowest_with(vertices: u16, ends: &[u16], labels: &[u64], edges: u16, e: u16) 
 // The lowest pair that disconnects, or twice `edges` for none.
 fn lowest_two(vertices: u16, ends: &[u16], labels: &[u64], edges: u16) -> Pair
     requires { ⌜ ShownBoth vertices (now ends) (now labels) edges ⌝ }
-    ensures { λ r. ⌜ (r .second ≤ edges) × (firstTwo (graphOf vertices always (now (ends .entry))) edges ≡ twoTold edges (r .first) (r .second)) ⌝ }
+    ensures { λ r. ⌜ (r .second ≤ edges) × (firstTwo (graph (plan vertices (now (ends .entry)))) edges ≡ twoTold edges (r .first) (r .second)) ⌝ }
 {
     let mut e: u16 = 0;
     while e < edges {
@@ -105,24 +106,37 @@ fn lowest_two(vertices: u16, ends: &[u16], labels: &[u64], edges: u16) -> Pair
 
 // The edge `e` disconnects. Its label shows that, or a search is asked.
 fn one_cuts(vertices: u16, ends: &[u16], label: u64, e: u16) -> bool
-    requires { ⌜ Admitted limits vertices (now ends) × ((label ≡ 0 → ⊥) → disconnects (graphOf vertices always (now ends)) (e ∷ []) ≡ false) ⌝ }
-    ensures { λ r. ⌜ r ≡ disconnects (graphOf vertices always (now (ends .entry))) (e ∷ []) ⌝ }
+    requires { ⌜ Admitted limits (plan vertices (now ends)) × ((label ≡ 0 → ⊥) → disconnects (graph (plan vertices (now ends))) (e ∷ []) ≡ false) ⌝ }
+    ensures { λ r. ⌜ r ≡ disconnects (graph (plan vertices (now (ends .entry)))) (e ∷ []) ⌝ }
 {
     if label != 0 {
         return false;
     }
     let cut = [e];
-    removal::is_cut(vertices, ends, &cut)
+    is_cut(vertices, ends, &cut)
 }
 
 // The edges `e` and `d` disconnect.
 fn two_cut(vertices: u16, ends: &[u16], label: u64, other: u64, e: u16, d: u16) -> bool
-    requires { ⌜ Admitted limits vertices (now ends) × ((label ≡ other → ⊥) → disconnects (graphOf vertices always (now ends)) (e ∷ (d ∷ [])) ≡ false) ⌝ }
-    ensures { λ r. ⌜ r ≡ disconnects (graphOf vertices always (now (ends .entry))) (e ∷ (d ∷ [])) ⌝ }
+    requires { ⌜ Admitted limits (plan vertices (now ends)) × ((label ≡ other → ⊥) → disconnects (graph (plan vertices (now ends))) (e ∷ (d ∷ [])) ≡ false) ⌝ }
+    ensures { λ r. ⌜ r ≡ disconnects (graph (plan vertices (now (ends .entry)))) (e ∷ (d ∷ [])) ⌝ }
 {
     if label != other {
         return false;
     }
     let cut = [e, d];
-    removal::is_cut(vertices, ends, &cut)
+    is_cut(vertices, ends, &cut)
+}
+
+// The edges of `cut` disconnect: a search is asked.
+fn is_cut(vertices: u16, ends: &[u16], cut: &[u16]) -> bool
+    requires { ⌜ Admitted limits (plan vertices (now ends)) ⌝ }
+    ensures { λ r. ⌜ r ≡ disconnects (graph (plan vertices (now (ends .entry)))) (now (cut .entry)) ⌝ }
+{
+    let split = removal::split_by(vertices, ends, cut);
+    match split {
+        Split::Disconnected => true,
+        Split::Connected => false,
+        Split::Refused(_) => false, // never: the plan is admitted
+    }
 }

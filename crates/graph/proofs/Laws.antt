@@ -1,4 +1,4 @@
--- The judgement of a table of ends, from one edge to the next, and the constructor's answer by its tests.
+-- The judgement of a table of ends, from one edge to the next, and what is handed back of a plan by the constructor's tests.
 use mathlib.Core.Path.{_≡_, refl, sym, ap, _∙_}
 use mathlib.Core.List.{List, [], _∷_}
 use Prim.Native.Nat.{ℕ, suc, _+_, _*_, _/_, _%_, _≤_, _<_}
@@ -6,11 +6,10 @@ use native.Mathlib.Omega.{arith}
 use lib.ListN.{length, getD, drop}
 use lib.Seq.{drop-cons}
 use borrow.Author.Tests.{lt-ltb, le-ltb, eq-eqb, ne-eqb}
-use Rattle.connectivity.specs.Admission.{Limits, answer, passed, andThen, edgeNumber, endsAnswer, admission}
+use Rattle.connectivity.specs.Plan.{Plan, Limits}
+use Rattle.connectivity.specs.Admission.{answer, passed, served, refusal, andThen, edgeNumber, endsAnswer, admission}
 use Rattle.connectivity.proofs.Admission.{passed-then, failed-then}
-use Rattle.graph.specs.declared.Admission.{Admission}
-use Rattle.graph.specs.declared.Admission.the-variants.{Admitted, Refused}
-use Rattle.graph.specs.Admission.{toldBy, constructed}
+use Rattle.graph.specs.Admission.{constructed}
 
 drop-two : (ends : List ℕ) (e : ℕ) → 2 * e + 1 < length ends
     → drop (2 * e) ends ≡ getD ends (2 * e) 0 ∷ (getD ends (2 * e + 1) 0 ∷ drop (2 * (e + 1)) ends)
@@ -40,39 +39,36 @@ ends-over n e [] h = refl
 ends-over n e (a ∷ []) h = refl
 ends-over n e (a ∷ (b ∷ rest)) h = absurd (omega arith)
 
--- What the constructor answers, by its tests.
-module _ (most : Limits) (n : ℕ) (ends : List ℕ) where
-  abbrev refusal : ℕ → Admission
-  refusal k = Refused (record { number = k; place = 0 })
-
-  pub odd : (length ends % 2 ≡ 0 → ⊥) → constructed most n ends ≡ refusal 1
+-- What is handed back of a plan, by the constructor's tests.
+module _ (most : Limits) (p : Plan) where
+  pub odd : (length (p .ends) % 2 ≡ 0 → ⊥) → constructed most p ≡ refusal (answer 1 0)
   unfolding constructed admission
-  odd h = rw (ne-eqb (length ends % 2) 0 h)
+  odd h = rw (ne-eqb (length (p .ends) % 2) 0 h)
 
-  module _ (even : length ends % 2 ≡ 0) where
-    pub too-few : n < 2 → constructed most n ends ≡ refusal 2
+  module _ (even : length (p .ends) % 2 ≡ 0) where
+    pub too-few : p .vertices < 2 → constructed most p ≡ refusal (answer 2 0)
     unfolding constructed admission
-    too-few h = rw (eq-eqb (length ends % 2) 0 even, lt-ltb n 2 h)
+    too-few h = rw (eq-eqb (length (p .ends) % 2) 0 even, lt-ltb (p .vertices) 2 h)
 
-    module _ (two : 2 ≤ n) where
-      pub too-many : most .vertices < n → constructed most n ends ≡ refusal 2
+    module _ (two : 2 ≤ p .vertices) where
+      pub too-many : most .vertices < p .vertices → constructed most p ≡ refusal (answer 2 0)
       unfolding constructed admission
-      too-many h = rw (eq-eqb (length ends % 2) 0 even, le-ltb n 2 two, lt-ltb (most .vertices) n h)
+      too-many h = rw (eq-eqb (length (p .ends) % 2) 0 even, le-ltb (p .vertices) 2 two, lt-ltb (most .vertices) (p .vertices) h)
 
-      module _ (small : n ≤ most .vertices) where
-        pub too-long : most .edges < length ends / 2 → constructed most n ends ≡ refusal 3
+      module _ (small : p .vertices ≤ most .vertices) where
+        pub too-long : most .edges < length (p .ends) / 2 → constructed most p ≡ refusal (answer 3 0)
         unfolding constructed admission
-        too-long h = rw (eq-eqb (length ends % 2) 0 even, le-ltb n 2 two, le-ltb (most .vertices) n small, lt-ltb (most .edges) (length ends / 2) h)
+        too-long h = rw (eq-eqb (length (p .ends) % 2) 0 even, le-ltb (p .vertices) 2 two, le-ltb (most .vertices) (p .vertices) small, lt-ltb (most .edges) (length (p .ends) / 2) h)
 
-        module _ (short : length ends / 2 ≤ most .edges) where
-          to-ends : admission most n ends ≡ endsAnswer n 0 ends
+        module _ (short : length (p .ends) / 2 ≤ most .edges) where
+          to-ends : admission most p ≡ endsAnswer (p .vertices) 0 (p .ends)
           unfolding admission
-          to-ends = rw (eq-eqb (length ends % 2) 0 even, le-ltb n 2 two, le-ltb (most .vertices) n small, le-ltb (most .edges) (length ends / 2) short)
+          to-ends = rw (eq-eqb (length (p .ends) % 2) 0 even, le-ltb (p .vertices) 2 two, le-ltb (most .vertices) (p .vertices) small, le-ltb (most .edges) (length (p .ends) / 2) short)
 
-          pub misfit : ((endsAnswer n 0 ends) .number ≡ 0 → ⊥) → constructed most n ends ≡ Refused (toldBy (endsAnswer n 0 ends))
+          pub misfit : ((endsAnswer (p .vertices) 0 (p .ends)) .number ≡ 0 → ⊥) → constructed most p ≡ refusal (endsAnswer (p .vertices) 0 (p .ends))
           unfolding constructed
-          misfit h = rw (to-ends, ne-eqb ((endsAnswer n 0 ends) .number) 0 h)
+          misfit h = rw (to-ends, ne-eqb ((endsAnswer (p .vertices) 0 (p .ends)) .number) 0 h)
 
-          pub fits : (endsAnswer n 0 ends) .number ≡ 0 → constructed most n ends ≡ Admitted (record { vertices = n; edges = length ends / 2 })
+          pub fits : (endsAnswer (p .vertices) 0 (p .ends)) .number ≡ 0 → constructed most p ≡ served (p .vertices ∷ (length (p .ends) / 2 ∷ []))
           unfolding constructed
-          fits h = rw (to-ends, eq-eqb ((endsAnswer n 0 ends) .number) 0 h)
+          fits h = rw (to-ends, eq-eqb ((endsAnswer (p .vertices) 0 (p .ends)) .number) 0 h)

@@ -2,76 +2,86 @@
 use mathlib.Core.Path.{_≡_, refl, sym, ap, _∙_, subst}
 use mathlib.Core.Logic.{_⊎_, inl, inr, _↔_}
 use mathlib.Core.Bool.{Bool, true, false, cond}
-use mathlib.Core.List.{List}
+use mathlib.Core.List.{List, [], _∷_}
 use Prim.Native.Nat.{ℕ, _/_}
 use native.Mathlib.Omega.{arith}
 use native.Mathlib.Decide.{ℕ-discrete}
 use lib.Dec.{T, eqb}
-use lib.ListN.{length}
+use lib.ListN.{length, getD}
 use borrow.Author.Tests.{eqb-true, eqb-false}
-use Rattle.connectivity.specs.Admission.{Answer, answer, passed, andThen, limits, Admitted, admission}
+use Rattle.connectivity.specs.Plan.{Plan, Limits}
+use Rattle.connectivity.specs.Admission.{Answer, answer, passed, Handed, served, refusal, andThen, Admitted, admission}
 use Rattle.connectivity.proofs.Lists.{T-true, T-false}
 use Rattle.connectivity.proofs.Admission.{passed-then, failed-then, admission-number}
 use Rattle.graph.specs.declared.Answer as code
 use Rattle.graph.specs.declared.Graph.{Graph}
 use Rattle.graph.specs.declared.Admission.{Admission}
 use Rattle.graph.specs.declared.Admission.the-variants as made
-use Rattle.graph.specs.Admission.{toldBy, constructed, lent, RefusedBy}
+use Rattle.graph.specs.Admission.{toldBy, answerOf, handed, constructed, lent}
+
+-- a refusal is not a success with values, and it tells its answer
+pub not-served : {a : Answer} {x : ℕ} {l : List ℕ} → refusal a ≡ served (x ∷ l) → ⊥
+not-served p = let z = ap (λ (h : Handed). length (h .values)) p in omega (arith, z)
+
+pub told-by : {a : code.Answer} {b : Answer} → refusal (answerOf a) ≡ refusal b → a ≡ toldBy b
+told-by p = ap (λ (h : Handed). toldBy (h .answer)) p
 
 -- What the constructor says.
 
-module _ (n : ℕ) (ends : List ℕ) where
-  abbrev told : Bool → Admission
-  told t = cond t (made.Admitted (record { vertices = n; edges = length ends / 2 })) (made.Refused (toldBy (admission limits n ends)))
+module _ (most : Limits) (p : Plan) where
+  abbrev back : Bool → Handed
+  back t = cond t (served (p .vertices ∷ (length (p .ends) / 2 ∷ []))) (refusal (admission most p))
 
-  pub constructed-refused : {a : code.Answer} → constructed limits n ends ≡ made.Refused a → (Admitted limits n ends → ⊥) × (a ≡ toldBy (admission limits n ends))
+  pub constructed-refused : {r : Admission} {a : code.Answer} → handed r ≡ constructed most p → r ≡ made.Refused a → (Admitted most p → ⊥) × (a ≡ toldBy (admission most p))
   unfolding constructed
-  constructed-refused {a} p = go (eqb ((admission limits n ends) .number) 0) refl p
+  constructed-refused {a = a} h q = go (eqb ((admission most p) .number) 0) refl (rw q at h)
     where
-      go : (t : Bool) → eqb ((admission limits n ends) .number) 0 ≡ t → told t ≡ made.Refused a → (Admitted limits n ends → ⊥) × (a ≡ toldBy (admission limits n ends))
-      go true q p = let z : _≡_ {A = ℕ} 0 1 = cc in absurd (omega arith)
-      go false q p = (λ h. eqb-false ((admission limits n ends) .number) 0 q (admission-number limits n ends .1 h), cc)
+      go : (t : Bool) → eqb ((admission most p) .number) 0 ≡ t → refusal (answerOf a) ≡ back t → (Admitted most p → ⊥) × (a ≡ toldBy (admission most p))
+      go true z h = absurd (not-served h)
+      go false z h = (λ m. eqb-false ((admission most p) .number) 0 z (admission-number most p .1 m), told-by h)
 
-  pub constructed-admitted : {g : Graph} → constructed limits n ends ≡ made.Admitted g → Admitted limits n ends × (g .vertices ≡ n) × (g .edges ≡ length ends / 2)
+  pub constructed-admitted : {r : Admission} {g : Graph} → handed r ≡ constructed most p → r ≡ made.Admitted g → Admitted most p × (g .vertices ≡ p .vertices) × (g .edges ≡ length (p .ends) / 2)
   unfolding constructed
-  constructed-admitted {g} p = go (eqb ((admission limits n ends) .number) 0) refl p
+  constructed-admitted {g = g} h q = go (eqb ((admission most p) .number) 0) refl (rw q at h)
     where
-      go : (t : Bool) → eqb ((admission limits n ends) .number) 0 ≡ t → told t ≡ made.Admitted g → Admitted limits n ends × (g .vertices ≡ n) × (g .edges ≡ length ends / 2)
-      go true q p =
-          let same : g ≡ record { vertices = n; edges = length ends / 2 } = cc in
-          (admission-number limits n ends .0 (eqb-true ((admission limits n ends) .number) 0 q), ap (λ (x : Graph). x .vertices) same, ap (λ (x : Graph). x .edges) same)
-      go false q p = let z : _≡_ {A = ℕ} 0 1 = cc in absurd (omega arith)
+      go : (t : Bool) → eqb ((admission most p) .number) 0 ≡ t → served (g .vertices ∷ (g .edges ∷ [])) ≡ back t → Admitted most p × (g .vertices ≡ p .vertices) × (g .edges ≡ length (p .ends) / 2)
+      go true z h = (admission-number most p .0 (eqb-true ((admission most p) .number) 0 z), ap (λ (x : Handed). getD (x .values) 0 0) h, ap (λ (x : Handed). getD (x .values) 1 0) h)
+      go false z h = absurd (not-served (sym h))
 
 -- The refusal.
 
-module _ {n : ℕ} {ends : List ℕ} (enough : Bool) where
-  pub lent-refused : {a : code.Answer} → (Admitted limits n ends → ⊥) → a ≡ toldBy (admission limits n ends) → RefusedBy (lent n ends enough) a
+-- the code's answer is this refusal
+abbrev pub RefusedBy : Answer → code.Answer → Type 0
+RefusedBy b a = (b .number ≡ 0 → ⊥) × (a ≡ toldBy b)
+
+module _ {most : Limits} {p : Plan} (enough : Bool) where
+  pub lent-refused : {a : code.Answer} → (Admitted most p → ⊥) → a ≡ toldBy (admission most p) → RefusedBy (lent most p enough) a
   unfolding lent
-  lent-refused h p =
-      let bad : (admission limits n ends) .number ≡ 0 → ⊥ = λ z. h (admission-number limits n ends .0 z) in
-      let same = failed-then (admission limits n ends) (cond enough passed (answer 6 0)) bad in
-      (rw same bad, p ∙ ap toldBy (sym same))
+  lent-refused h q =
+      let bad : (admission most p) .number ≡ 0 → ⊥ = λ z. h (admission-number most p .0 z) in
+      let same = failed-then (admission most p) (cond enough passed (answer 6 0)) bad in
+      (rw same bad, q ∙ ap toldBy (sym same))
 
-  module _ (a : Admitted limits n ends) where
-    admitted-lent : lent n ends enough ≡ cond enough passed (answer 6 0)
+  module _ (a : Admitted most p) where
+    admitted-lent : lent most p enough ≡ cond enough passed (answer 6 0)
     unfolding lent
-    admitted-lent = passed-then (admission limits n ends) _ (admission-number limits n ends .1 a)
+    admitted-lent = passed-then (admission most p) _ (admission-number most p .1 a)
 
-    pub lent-enough : T enough → lent n ends enough ≡ passed
+    pub lent-enough : T enough → lent most p enough ≡ passed
     lent-enough t = admitted-lent ∙ rw (T-true enough t)
 
-    pub lent-short : (T enough → ⊥) → RefusedBy (lent n ends enough) (record { number = 6; place = 0 })
-    lent-short h = let same : lent n ends enough ≡ answer 6 0 = admitted-lent ∙ rw (T-false enough h) in (rw same (λ z. omega arith), ap toldBy (sym same))
+    pub lent-short : (T enough → ⊥) → RefusedBy (lent most p enough) (record { number = 6; place = 0 })
+    lent-short h = let same : lent most p enough ≡ answer 6 0 = admitted-lent ∙ rw (T-false enough h) in (rw same (λ z. omega arith), ap toldBy (sym same))
 
   -- What an answer to a plan and lent space says of the plan.
 
-  pub lent-passed : (lent n ends enough) .number ≡ 0 → Admitted limits n ends
+  pub lent-passed : (lent most p enough) .number ≡ 0 → Admitted most p
   unfolding lent
-  lent-passed z = elim (ℕ-discrete ((admission limits n ends) .number) 0) [
-    | yes p ↦ admission-number limits n ends .0 p
-    | no h ↦ absurd (h (ap (λ (x : Answer). x .number) (sym (failed-then (admission limits n ends) (cond enough passed (answer 6 0)) h)) ∙ z))
+  lent-passed z = elim (ℕ-discrete ((admission most p) .number) 0) [
+    | yes q ↦ admission-number most p .0 q
+    | no h ↦ absurd (h (ap (λ (x : Answer). x .number) (sym (failed-then (admission most p) (cond enough passed (answer 6 0)) h)) ∙ z))
   ]
 
-  pub refused-own : {a : code.Answer} → (Admitted limits n ends → ⊥) → RefusedBy (lent n ends enough) a → a ≡ toldBy (admission limits n ends)
+  pub refused-own : {a : code.Answer} → (Admitted most p → ⊥) → RefusedBy (lent most p enough) a → a ≡ toldBy (admission most p)
   unfolding lent
-  refused-own h r = r .1 ∙ ap toldBy (failed-then (admission limits n ends) (cond enough passed (answer 6 0)) (λ z. h (admission-number limits n ends .0 z)))
+  refused-own h r = r .1 ∙ ap toldBy (failed-then (admission most p) (cond enough passed (answer 6 0)) (λ z. h (admission-number most p .0 z)))

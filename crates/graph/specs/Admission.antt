@@ -1,35 +1,34 @@
 -- What the constructor of a graph answers.
-use mathlib.Core.Path.{_≡_}
 use mathlib.Core.Bool.{Bool, cond}
-use mathlib.Core.List.{List}
+use mathlib.Core.List.{List, [], _∷_}
 use Prim.Native.Nat.{ℕ, _/_}
 use lib.Dec.{eqb}
 use lib.ListN.{length}
+use Rattle.connectivity.specs.Plan.{Plan, Limits}
 use Rattle.connectivity.specs.Admission as meaning
 use Rattle.graph.specs.declared.Answer.{Answer}
 use Rattle.graph.specs.declared.Graph.{Graph}
 use Rattle.graph.specs.declared.Admission.{Admission}
 use Rattle.graph.specs.declared.Admission.the-variants.{Admitted, Refused}
 
--- an answer of the definitions, as the code's type has it
+-- an answer of the definitions as the code's type has it, and the other way
 abbrev pub toldBy : meaning.Answer → Answer
 toldBy a = record { number = a .number; place = a .place }
 
--- 01's number and place for each case
-abbrev pub answerOf : Admission → meaning.Answer
-answerOf (Admitted g) = meaning.passed
-answerOf (Refused a) = meaning.answer (a .number) (a .place)
+abbrev pub answerOf : Answer → meaning.Answer
+answerOf a = meaning.answer (a .number) (a .place)
 
--- admitted, with its counts, where admission answers 0; else refused by that answer
-unfoldable pub constructed : meaning.Limits → ℕ → List ℕ → Admission
-constructed most n ends =
-    let a = meaning.admission most n ends in
-    cond (eqb (a .number) 0) (Admitted (record { vertices = n; edges = length ends / 2 })) (Refused (toldBy a))
+-- 01's number, place and values for each case; the values of an admitted plan are how many vertices and edges it has
+abbrev pub handed : Admission → meaning.Handed
+handed (Admitted g) = meaning.served (g .vertices ∷ (g .edges ∷ []))
+handed (Refused a) = meaning.refusal (answerOf a)
+
+-- what is handed back of a plan: its two counts where admission answers 0, else that answer
+unfoldable pub constructed : Limits → Plan → meaning.Handed
+constructed most p =
+    let a = meaning.admission most p in
+    cond (eqb (a .number) 0) (meaning.served (p .vertices ∷ (length (p .ends) / 2 ∷ []))) (meaning.refusal a)
 
 -- 01: the plan's own refusals, then 6 where the lent space is too short
-unfoldable pub lent : ℕ → List ℕ → Bool → meaning.Answer
-lent n ends enough = meaning.andThen (meaning.admission meaning.limits n ends) (cond enough meaning.passed (meaning.answer 6 0))
-
--- the code's answer is this refusal
-abbrev pub RefusedBy : meaning.Answer → Answer → Type 0
-RefusedBy refusal a = (refusal .number ≡ 0 → ⊥) × (a ≡ toldBy refusal)
+unfoldable pub lent : Limits → Plan → Bool → meaning.Answer
+lent most p enough = meaning.andThen (meaning.admission most p) (cond enough meaning.passed (meaning.answer 6 0))

@@ -2,8 +2,9 @@
 ghost use mathlib.Core.Path.{_≡_};
 ghost use Prim.Native.Nat.{_/_, _≤_};
 ghost use lib.ListN.{length};
-ghost use Rattle.connectivity.specs.Admission.{edgeNumber, endsAnswer, limits};
-ghost use Rattle.graph.specs.Admission.{toldBy, constructed};
+ghost use Rattle.connectivity.specs.Plan.{plan, limits};
+ghost use Rattle.connectivity.specs.Admission.{edgeNumber, endsAnswer};
+ghost use Rattle.graph.specs.Admission.{toldBy, handed, constructed};
 
 // An answer to every question asked of these crates (01): a number and a place; 0 and 0 is success.
 pub struct Answer {
@@ -23,13 +24,13 @@ pub enum Admission {
 }
 
 impl Graph {
-    pub const MAX_VERTICES: u16 = 1000;
+    pub const MAX_VERTICES: usize = 1000;
 
     pub const MAX_EDGES: usize = 4000;
 
     // The graph with `vertices` vertices whose edges have the ends `ends`, or the first refusal in 01's order.
     pub fn new(vertices: u16, ends: &[u16]) -> Admission
-        ensures { λ r. ⌜ r ≡ constructed limits vertices (now (ends .entry)) ⌝ }
+        ensures { λ r. ⌜ handed r ≡ constructed limits (plan vertices (now (ends .entry))) ⌝ }
     {
         if ends.len() % 2 != 0 {
             return refused(1, 0);
@@ -37,7 +38,7 @@ impl Graph {
         if vertices < 2 {
             return refused(2, 0);
         }
-        if Graph::MAX_VERTICES < vertices {
+        if Graph::MAX_VERTICES < vertices as usize {
             return refused(2, 0);
         }
         let edges = ends.len() / 2;
@@ -67,7 +68,7 @@ fn refused(number: u16, place: u16) -> Admission
 
 // The first edge with an end that is not below `vertices` (4) or with two equal ends (5), 4 before 5.
 fn judge_ends(vertices: u16, ends: &[u16]) -> Answer
-    requires { ⌜ length (now ends) / 2 ≤ 4000 ⌝ }
+    requires { ⌜ length (now ends) / 2 ≤ limits .edges ⌝ }
     ensures { λ r. ⌜ r ≡ toldBy (endsAnswer vertices 0 (now (ends .entry))) ⌝ }
 {
     let edges = ends.len() / 2;

@@ -1,93 +1,84 @@
 -- What `label` answers: refused, not connected or labelled, and what each of these says of the plan.
-use mathlib.Core.Path.{_≡_, refl, sym, ap, _∙_}
+use mathlib.Core.Path.{_≡_, refl, ap}
 use mathlib.Core.Bool.{Bool, true, false, cond}
-use mathlib.Core.List.{List, []}
+use mathlib.Core.List.{List, [], _∷_}
 use Prim.Native.Nat.{ℕ, _/_, _≤_}
 use native.Mathlib.Omega.{arith}
-use lib.Dec.{eqb, le→leb}
+use lib.Dec.{le→leb}
 use lib.ListN.{length, getD}
-use borrow.Author.Tests.{ne-eqb, eqb-true, eqb-false}
-use Rattle.connectivity.specs.Graph.{graphOf, always}
+use Rattle.connectivity.specs.Plan.{plan, graph, limits}
 use Rattle.connectivity.specs.Cut.{disconnects}
-use Rattle.connectivity.specs.Label.{Balanced}
-use Rattle.connectivity.specs.Admission.{limits, Admitted}
-use Rattle.graph.specs.Admission.{toldBy, lent, RefusedBy}
-use Rattle.graph.specs.declared.Answer.{Answer}
-use Rattle.graph.proofs.Lent.{lent-enough, lent-passed}
+use Rattle.connectivity.specs.Admission.{Answer, Handed, served, Admitted}
+use Rattle.graph.specs.Admission.{lent}
+use Rattle.graph.specs.declared.Answer as code
+use Rattle.graph.proofs.Lent.{RefusedBy, not-served, lent-enough, lent-passed}
+use Rattle.search.proofs.Handed.{back-served, back-refused, refused-back, served-back}
 use Rattle.labels.specs.declared.Labelling.{Labelling}
 use Rattle.labels.specs.declared.Labelling.the-variants.{Refused, Disconnected, Labelled}
+use Rattle.labels.specs.Label.{Balanced}
 use Rattle.labels.specs.Labels.{Kept}
-use Rattle.labels.specs.Answered.{enough, labelling, Answered}
+use Rattle.labels.specs.Answered.{handed, enough, labelling, Answered}
 
--- The cases differ.
+-- the value of a graph, by whether it is not connected
+abbrev value : Bool → ℕ
+value d = cond d 0 1
 
-refused-labelled : {a : Answer} → Refused a ≡ Labelled → ⊥
-refused-labelled p = let z : _≡_ {A = ℕ} 0 1 = cc in omega arith
+disconnected-labelled : served (0 ∷ []) ≡ served (1 ∷ []) → ⊥
+disconnected-labelled p = let z = ap (λ (h : Handed). getD (h .values) 0 0) p in omega (arith, z)
 
-refused-disconnected : {a : Answer} → Refused a ≡ Disconnected → ⊥
-refused-disconnected p = let z : _≡_ {A = ℕ} 0 1 = cc in omega arith
+zero-true : (d : Bool) → 0 ≡ value d → d ≡ true
+zero-true true p = refl
+zero-true false p = absurd (omega arith)
 
-disconnected-labelled : Disconnected ≡ Labelled → ⊥
-disconnected-labelled p = let z : _≡_ {A = ℕ} 0 1 = cc in omega arith
-
--- a list that is left as it was
-still : {n : ℕ} {ends labels : List ℕ} {r : Labelling} → r ≡ labelling n ends labels → (r ≡ Labelled → ⊥) → Answered n ends labels labels r
-still p f = record { answer = p; balanced = λ q. absurd (f q); behind = λ k h. refl; unchanged = λ g. refl }
+one-false : (d : Bool) → 1 ≡ value d → d ≡ false
+one-false true p = absurd (omega arith)
+one-false false p = refl
 
 module _ (n : ℕ) (ends labels : List ℕ) where
-  abbrev said : Bool → Bool → Labelling
-  said t d = cond t (cond d Disconnected Labelled) (Refused (toldBy (lent n ends (enough ends labels))))
+  abbrev b : Answer
+  b = lent limits (plan n ends) (enough (plan n ends) labels)
 
-  pub answers-refused : {a : Answer} → RefusedBy (lent n ends (enough ends labels)) a → Answered n ends labels labels (Refused a)
+  abbrev parted : Bool
+  parted = disconnects (graph (plan n ends)) []
+
+  -- a list that is left as it was
+  still : {r : Labelling} → handed r ≡ labelling limits (plan n ends) labels → (handed r ≡ served (1 ∷ []) → ⊥) → Answered limits (plan n ends) labels labels r
+  still p f = record { answer = p; balanced = λ q. absurd (f q); behind = λ k h. refl; unchanged = λ g. refl }
+
+  pub answers-refused : {a : code.Answer} → RefusedBy b a → Answered limits (plan n ends) labels labels (Refused a)
   unfolding labelling
-  answers-refused p = still (rw (p .1, ne-eqb ((lent n ends (enough ends labels)) .number) 0 (p .0))) refused-labelled
+  answers-refused p = still (back-refused b (served (value parted ∷ [])) p) not-served
 
   -- Where there is a place for each edge of an admitted plan.
 
-  module _ (a : Admitted limits n ends) (h : length ends / 2 ≤ length labels) where
-    by-search : labelling n ends labels ≡ said true (disconnects (graphOf n always ends) [])
+  module _ (a : Admitted limits (plan n ends)) (h : length ends / 2 ≤ length labels) where
+    by-search : {d : Bool} → d ≡ parted → served (value d ∷ []) ≡ labelling limits (plan n ends) labels
     unfolding labelling
-    by-search = rw (lent-enough (enough ends labels) a (le→leb (length ends / 2) (length labels) h))
+    by-search q = rw q (back-served b (served (value parted ∷ []))
+        (ap (λ (x : Answer). x .number) (lent-enough (enough (plan n ends) labels) a (le→leb (length ends / 2) (length labels) h))))
 
-    pub answers-disconnected : true ≡ disconnects (graphOf n always ends) [] → Answered n ends labels labels Disconnected
-    answers-disconnected d = still (sym (by-search ∙ ap (said true) (sym d))) disconnected-labelled
+    pub answers-disconnected : true ≡ parted → Answered limits (plan n ends) labels labels Disconnected
+    answers-disconnected d = still (by-search d) disconnected-labelled
 
-    pub answers-labelled : {after : List ℕ} → false ≡ disconnects (graphOf n always ends) [] → Balanced (graphOf n always ends) (λ e. getD after e 0)
-        → Kept (length ends / 2) labels after → Answered n ends labels after Labelled
-    answers-labelled d b k = record { answer = sym (by-search ∙ ap (said true) (sym d)); balanced = λ q. b; behind = k .rest; unchanged = λ f. absurd (f refl) }
+    pub answers-labelled : {after : List ℕ} → false ≡ parted → Balanced (graph (plan n ends)) (λ e. getD after e 0)
+        → Kept (length ends / 2) labels after → Answered limits (plan n ends) labels after Labelled
+    answers-labelled d b k = record { answer = by-search d; balanced = λ q. b; behind = k .rest; unchanged = λ f. absurd (f refl) }
 
   -- What an answer says of the plan.
 
+  said : (v : ℕ) → served (v ∷ []) ≡ labelling limits (plan n ends) labels → Admitted limits (plan n ends) × (v ≡ value parted)
+  unfolding labelling
+  said v q =
+      let s = served-back b (value parted) [] q in
+      (lent-passed (enough (plan n ends) labels) (s .0), ap (λ (l : List ℕ). getD l 0 0) (s .1))
+
   module _ {after : List ℕ} where
-    pub refused-by : {a : Answer} → Answered n ends labels after (Refused a) → RefusedBy (lent n ends (enough ends labels)) a
+    pub refused-by : {a : code.Answer} → Answered limits (plan n ends) labels after (Refused a) → RefusedBy b a
     unfolding labelling
-    refused-by {a} c = go (eqb ((lent n ends (enough ends labels)) .number) 0) (disconnects (graphOf n always ends) []) refl (c .answer)
-      where
-        go : (t d : Bool) → eqb ((lent n ends (enough ends labels)) .number) 0 ≡ t → Refused a ≡ said t d → RefusedBy (lent n ends (enough ends labels)) a
-        go true true q p = absurd (refused-disconnected p)
-        go true false q p = absurd (refused-labelled p)
-        go false d q p = (eqb-false ((lent n ends (enough ends labels)) .number) 0 q, cc)
+    refused-by c = refused-back b (value parted) [] (c .answer)
 
-    not-refused : {r : Labelling} → ((a : Answer) → Refused a ≡ r → ⊥) → Answered n ends labels after r
-        → Admitted limits n ends × (r ≡ said true (disconnects (graphOf n always ends) []))
-    unfolding labelling
-    not-refused {r} f c = go (eqb ((lent n ends (enough ends labels)) .number) 0) refl (c .answer)
-      where
-        go : (t : Bool) → eqb ((lent n ends (enough ends labels)) .number) 0 ≡ t → r ≡ said t (disconnects (graphOf n always ends) [])
-            → Admitted limits n ends × (r ≡ said true (disconnects (graphOf n always ends) []))
-        go true q p = (lent-passed (enough ends labels) (eqb-true ((lent n ends (enough ends labels)) .number) 0 q), p)
-        go false q p = absurd (f _ (sym p))
+    pub plan-disconnected : Answered limits (plan n ends) labels after Disconnected → Admitted limits (plan n ends) × (parted ≡ true)
+    plan-disconnected c = let s = said 0 (c .answer) in (s .0, zero-true parted (s .1))
 
-    pub plan-disconnected : Answered n ends labels after Disconnected → Admitted limits n ends × (disconnects (graphOf n always ends) [] ≡ true)
-    plan-disconnected c = let p = not-refused (λ a. refused-disconnected) c in (p .0, go (disconnects (graphOf n always ends) []) (p .1))
-      where
-        go : (d : Bool) → Disconnected ≡ said true d → d ≡ true
-        go true p = refl
-        go false p = absurd (disconnected-labelled p)
-
-    pub plan-labelled : Answered n ends labels after Labelled → Admitted limits n ends × (disconnects (graphOf n always ends) [] ≡ false)
-    plan-labelled c = let p = not-refused (λ a. refused-labelled) c in (p .0, go (disconnects (graphOf n always ends) []) (p .1))
-      where
-        go : (d : Bool) → Labelled ≡ said true d → d ≡ false
-        go true p = absurd (disconnected-labelled (sym p))
-        go false p = refl
+    pub plan-labelled : Answered limits (plan n ends) labels after Labelled → Admitted limits (plan n ends) × (parted ≡ false)
+    plan-labelled c = let s = said 1 (c .answer) in (s .0, one-false parted (s .1))

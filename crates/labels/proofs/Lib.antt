@@ -1,3 +1,4 @@
+pub mod CutLabels
 pub mod Xor
 pub mod Sums
 pub mod Spanning

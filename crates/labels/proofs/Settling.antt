@@ -9,9 +9,10 @@ use native.Mathlib.Decide.{ℕ-discrete, decLt}
 use lib.Bits.{bitXor, xor-self}
 use lib.Dec.{eqb}
 use lib.ListN.{length, getD}
-use Rattle.connectivity.specs.Graph.{Joins, graphOf, always}
-use Rattle.connectivity.specs.Label.{Balanced}
-use Rattle.connectivity.specs.Admission.{limits, Admitted}
+use Rattle.connectivity.specs.Plan.{plan, graph, limits}
+use Rattle.connectivity.specs.Graph.{Joins}
+use Rattle.labels.specs.Label.{Balanced}
+use Rattle.connectivity.specs.Admission.{Admitted}
 use Rattle.connectivity.proofs.Lists.{T-true, or-left, or-right, eq-T}
 use Rattle.search.proofs.Leads.{joins-edge}
 use Rattle.labels.specs.Labels.{xorAt, Spanning, Summed, Ready, Toggled}
@@ -22,8 +23,8 @@ use Rattle.labels.proofs.Sums.{ready, at-ends, away, summed-toggled}
 abbrev Ends : ℕ → ℕ → ℕ → ℕ → Type 0
 Ends a b u v = ((a ≡ u) × (b ≡ v)) ⊎ ((a ≡ v) × (b ≡ u))
 
-joined : (n : ℕ) (ends : List ℕ) {e u v : ℕ} → Joins (graphOf n always ends) e u v → Ends (getD ends (2 * e) 0) (getD ends (2 * e + 1) 0) u v
-unfolding graphOf
+joined : (n : ℕ) (ends : List ℕ) {e u v : ℕ} → Joins (graph (plan n ends)) e u v → Ends (getD ends (2 * e) 0) (getD ends (2 * e + 1) 0) u v
+unfolding graph
 joined n ends j = j .ends
 
 hit : {a b u v : ℕ} → Ends a b u v → (eqb a v || eqb b v) ≡ true
@@ -46,7 +47,7 @@ pub record Settling (n : ℕ) (ends first order labels sums : List ℕ) (k : ℕ
   pub summed : Summed n ends labels sums
   pub done : (j : ℕ) → k ≤ j → j < n → getD sums (getD order j 0) 0 ≡ 0
 
-module _ {n : ℕ} {ends first order : List ℕ} (a : Admitted limits n ends) (t : Spanning n ends first order) where
+module _ {n : ℕ} {ends first order : List ℕ} (a : Admitted limits (plan n ends)) (t : Spanning n ends first order) where
   pub settling-start : {labels sums : List ℕ} → Summed n ends labels sums → Settling n ends first order labels sums n
   settling-start s = record { below = omega arith; some = omega (arith, a .two); summed = s; done = λ j l h. absurd (omega arith) }
 
@@ -58,7 +59,7 @@ module _ {n : ℕ} {ends first order : List ℕ} (a : Admitted limits n ends) (t
       abbrev e : ℕ
       e = getD first v 0 - 1
 
-      up : (j : ℕ) × (j < k - 1) × Joins (graphOf n always ends) e (getD order j 0) v
+      up : (j : ℕ) × (j < k - 1) × Joins (graph (plan n ends)) e (getD order j 0) v
       up = t .tree (k - 1) (omega arith) (omega (arith, s .below))
 
       edge : e < length ends / 2
@@ -121,5 +122,5 @@ module _ {n : ℕ} {ends first order : List ℕ} (a : Admitted limits n ends) (t
       zero-at : (w : ℕ) → getD sums w 0 ≡ 0
       zero-at w = elim (ℕ-discrete w (getD order 0 0)) [ yes p ↦ ap (λ (x : ℕ). getD sums x 0) p ∙ root | no ne ↦ other w ne ]
 
-      pub settled : Balanced (graphOf n always ends) (λ e. getD labels e 0)
+      pub settled : Balanced (graph (plan n ends)) (λ e. getD labels e 0)
       settled w h = sym (s .summed .sum w) ∙ zero-at w

@@ -9,17 +9,17 @@ use native.Mathlib.Omega.{arith}
 use lib.Dec.{ltb}
 use lib.ListN.{getD, replicate}
 use borrow.Author.Tests.{ltb-false}
-use Rattle.connectivity.specs.Graph.{graphOf, always}
-use Rattle.connectivity.specs.Admission.{limits, Admitted}
+use Rattle.connectivity.specs.Plan.{plan, graph, limits}
+use Rattle.connectivity.specs.Admission.{Admitted}
 use Rattle.search.specs.Search.{Live, Start, Pass, Goal, Found, Whole}
 use Rattle.search.proofs.Tally.{tally-lt, tally-le}
 use Rattle.search.proofs.From0.{zeros, rolesFrom0, only-start}
 use Rattle.search.proofs.Left.{fewer}
 use Rattle.labels.specs.Labels.{Spanning, Searched}
 
-module _ (m k : ℕ) {n : ℕ} {ends : List ℕ} (a : Admitted limits n ends) {first₀ order₀ first order : List ℕ} {count : ℕ}
-    (f : Found (graphOf n always ends) (Live (replicate k 0)) (Pass (rolesFrom0 m)) (Start (rolesFrom0 m)) n first₀ order₀ first order count)
-    (w : Whole (graphOf n always ends) (Live (replicate k 0)) (Pass (rolesFrom0 m)) (Start (rolesFrom0 m)) (Goal (rolesFrom0 m)) n first order count) where
+module _ (m k : ℕ) {n : ℕ} {ends : List ℕ} (a : Admitted limits (plan n ends)) {first₀ order₀ first order : List ℕ} {count : ℕ}
+    (f : Found (graph (plan n ends)) (Live (replicate k 0)) (Pass (rolesFrom0 m)) (Start (rolesFrom0 m)) n first₀ order₀ first order count)
+    (w : Whole (graph (plan n ends)) (Live (replicate k 0)) (Pass (rolesFrom0 m)) (Start (rolesFrom0 m)) (Goal (rolesFrom0 m)) n first order count) where
   module _ (p : ltb count n ≡ false) where
     all : count ≡ n
     all = omega (arith, ltb-false count n p, f .counted, tally-le first n)

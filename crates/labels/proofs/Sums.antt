@@ -10,11 +10,12 @@ use lib.ListN.{length, getD, set, replicate, length-set, length-replicate}
 use lib.Seq.{getD-set-same, getD-set-other}
 use borrow.Author.Count.{below-more}
 use borrow.Author.Tests.{eqb-true, eqb-false}
-use Rattle.connectivity.specs.Lists.{Distinct, none, one}
-use Rattle.connectivity.specs.Graph.{Graph, edges, graphOf, always}
-use Rattle.connectivity.specs.Label.{around}
-use Rattle.connectivity.specs.Admission.{limits, Admitted}
-use Rattle.connectivity.proofs.Label.{xor-cancel}
+use Rattle.connectivity.specs.Lists.{Distinct, no-member, one}
+use Rattle.connectivity.specs.Plan.{plan, graph, limits}
+use Rattle.connectivity.specs.Graph.{Graph, edges}
+use Rattle.labels.specs.Label.{around}
+use Rattle.connectivity.specs.Admission.{Admitted}
+use Rattle.labels.proofs.CutLabels.{xor-cancel}
 use Rattle.connectivity.proofs.Order.{ordered-edges}
 use Rattle.connectivity.proofs.Distinct.{ordered-distinct}
 use Rattle.connectivity.proofs.Search.{edges-are}
@@ -52,7 +53,7 @@ module _ (g : Graph) (labels : List ℕ) (d x v : ℕ) where
   -- the xor of the labels around an end changes by x, around any other vertex it stays
   pub around-xor : d < length labels → {l : List ℕ} → Distinct l → In d l → new l ≡ bitXor (cond (hit d) x 0) (old l)
   unfolding around
-  around-xor h none i = absurd (not-in i)
+  around-xor h no-member i = absurd (not-in i)
   around-xor h (one {x = e} {l = l} n u) (first p) =
       ap₂ (λ (a b : ℕ). cond (hit e) (bitXor a b) b)
       (ap (λ (y : ℕ). getD (xorAt labels d x) y 0) (sym p) ∙ getD-set-same labels d _ 0 h ∙ ap (λ (y : ℕ). bitXor (getD labels y 0) x) p)
@@ -91,30 +92,30 @@ not-both true false x s n = refl
 not-both false true x s n = refl
 not-both false false x s n = refl
 
-ends-of : (n : ℕ) (ends labels : List ℕ) (e x v : ℕ) → hit (graphOf n always ends) labels e x v e ≡ (eqb (getD ends (2 * e) 0) v || eqb (getD ends (2 * e + 1) 0) v)
-unfolding graphOf
+ends-of : (n : ℕ) (ends labels : List ℕ) (e x v : ℕ) → hit (graph (plan n ends)) labels e x v e ≡ (eqb (getD ends (2 * e) 0) v || eqb (getD ends (2 * e + 1) 0) v)
+unfolding graph
 ends-of n ends labels e x v = refl
 
 -- an edge stands among the edges
-in-edges : {n e : ℕ} {ends : List ℕ} → Admitted limits n ends → e < length ends / 2 → In e (edges (graphOf n always ends))
-in-edges {n} {e} {ends} a h = edges-are (graphOf n always ends) e .1 (admitted-edge a e h)
+in-edges : {n e : ℕ} {ends : List ℕ} → Admitted limits (plan n ends) → e < length ends / 2 → In e (edges (graph (plan n ends)))
+in-edges {n} {e} {ends} a h = edges-are (graph (plan n ends)) e .1 (admitted-edge a e h)
 
-edge-below : (n e : ℕ) (ends : List ℕ) → In e (edges (graphOf n always ends)) → e < length ends / 2
-unfolding graphOf
-edge-below n e ends i = edges-are (graphOf n always ends) e .0 i .below
+edge-below : (n e : ℕ) (ends : List ℕ) → In e (edges (graph (plan n ends))) → e < length ends / 2
+unfolding graph
+edge-below n e ends i = edges-are (graph (plan n ends)) e .0 i .below
 
 -- labels and sums that are all 0
-pub summed-start : {n : ℕ} {ends labels : List ℕ} → Admitted limits n ends → length ends / 2 ≤ length labels → ((e : ℕ) → e < length ends / 2 → getD labels e 0 ≡ 0)
-    → Summed n ends labels (replicate 1000 0)
+pub summed-start : {n : ℕ} {ends labels : List ℕ} → Admitted limits (plan n ends) → length ends / 2 ≤ length labels → ((e : ℕ) → e < length ends / 2 → getD labels e 0 ≡ 0)
+    → Summed n ends labels (replicate (limits .vertices) 0)
 summed-start {n} {ends} {labels} a room z = record {
   labels-room = room;
-  sums-room = omega (arith, a .vertices, length-replicate {A = ℕ} 1000 0);
-  sum = λ v. zeros 1000 v ∙ sym (around-zero (graphOf n always ends) (λ e. getD labels e 0) v (edges (graphOf n always ends)) (λ e i. z e (edge-below n e ends i)));
-  rest = λ v l. zeros 1000 v;
-  total = all-zero (replicate 1000 0) (zeros 1000);
+  sums-room = omega (arith, a .vertices, length-replicate {A = ℕ} (limits .vertices) 0);
+  sum = λ v. zeros (limits .vertices) v ∙ sym (around-zero (graph (plan n ends)) (λ e. getD labels e 0) v (edges (graph (plan n ends))) (λ e i. z e (edge-below n e ends i)));
+  rest = λ v l. zeros (limits .vertices) v;
+  total = all-zero (replicate (limits .vertices) 0) (zeros (limits .vertices));
 }
 
-module _ {n e : ℕ} {ends labels sums : List ℕ} (a : Admitted limits n ends) (h : e < length ends / 2) (s : Summed n ends labels sums) where
+module _ {n e : ℕ} {ends labels sums : List ℕ} (a : Admitted limits (plan n ends)) (h : e < length ends / 2) (s : Summed n ends labels sums) where
   pub ready : Ready ends e labels sums
   ready = record {
     edge = h;
@@ -146,7 +147,7 @@ module _ {n e : ℕ} {ends labels sums : List ℕ} (a : Admitted limits n ends) 
         labels-room = omega (arith, s .labels-room, length-set labels e (bitXor (getD labels e 0) x));
         sums-room = omega (arith, s .sums-room, long, length-set (xorAt sums l x) r (bitXor (getD (xorAt sums l x) r 0) x));
         sum = λ v. at-ends x v ∙ ap₂ bitXor (ap (λ (t : Bool). cond t x 0) (sym (ends-of n ends labels e x v))) (s .sum v)
-            ∙ sym (around-xor (graphOf n always ends) labels e x v (ready .label) (ordered-distinct (ordered-edges (graphOf n always ends))) (in-edges a h));
+            ∙ sym (around-xor (graph (plan n ends)) labels e x v (ready .label) (ordered-distinct (ordered-edges (graph (plan n ends)))) (in-edges a h));
         rest = λ v b. away x v (λ q. omega (arith, a .fit e h .left, q)) (λ q. omega (arith, a .fit e h .right, q)) ∙ s .rest v b;
         total = all-xor (xorAt sums l x) r x (omega (arith, ready .right, long)) ∙ ap (bitXor x) (all-xor sums l x (ready .left)) ∙ xor-cancel x (xorAll sums) ∙ s .total;
       }

@@ -6,7 +6,7 @@ use native.Mathlib.Omega.{arith}
 use native.Mathlib.Nat.{le-of-suc-le-suc}
 use lib.Bits.{bitXor, xor-comm, xor-zero-r}
 use lib.ListN.{length, getD}
-use Rattle.connectivity.proofs.Label.{xor-assoc}
+use Rattle.labels.proofs.CutLabels.{xor-assoc}
 use Rattle.labels.specs.Labels.{xorAt, xorAll}
 
 pub xor-swap : (a b c : ℕ) → bitXor a (bitXor b c) ≡ bitXor b (bitXor a c)

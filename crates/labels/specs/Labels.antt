@@ -5,8 +5,9 @@ use mathlib.Core.List.{List, [], _∷_}
 use Prim.Native.Nat.{ℕ, _+_, _-_, _*_, _/_, _≤_, _<_}
 use lib.Bits.{bitXor}
 use lib.ListN.{length, getD, set}
-use Rattle.connectivity.specs.Graph.{Joins, edges, graphOf, always}
-use Rattle.connectivity.specs.Label.{around}
+use Rattle.connectivity.specs.Plan.{plan, graph}
+use Rattle.connectivity.specs.Graph.{Joins, edges}
+use Rattle.labels.specs.Label.{around}
 use Rattle.connectivity.specs.Cut.{disconnects}
 
 -- a list keeps its length, and its numbers from place m on
@@ -20,11 +21,11 @@ pub record Spanning (n : ℕ) (ends first order : List ℕ) : Type 0 where
   pub listed : (v : ℕ) → v < n → (k : ℕ) × (k < n) × (getD order k 0 ≡ v)
   pub once : (j k : ℕ) → j < k → k < n → getD order j 0 ≡ getD order k 0 → ⊥
   pub marked : (k : ℕ) → k < n → 0 < getD first (getD order k 0) 0
-  pub tree : (k : ℕ) → 0 < k → k < n → (j : ℕ) × (j < k) × Joins (graphOf n always ends) (getD first (getD order k 0) 0 - 1) (getD order j 0) (getD order k 0)
+  pub tree : (k : ℕ) → 0 < k → k < n → (j : ℕ) × (j < k) × Joins (graph (plan n ends)) (getD first (getD order k 0) 0 - 1) (getD order j 0) (getD order k 0)
 
 -- what the search says: whether the graph is not connected; if it is, a tree that spans it
 pub record Searched (n : ℕ) (ends first order : List ℕ) (t : Bool) : Type 0 where
-  pub answer : t ≡ disconnects (graphOf n always ends) []
+  pub answer : t ≡ disconnects (graph (plan n ends)) []
   pub tree : t ≡ false → Spanning n ends first order
 
 -- x xored into place i
@@ -40,7 +41,7 @@ xorAll (x ∷ l) = bitXor x (xorAll l)
 pub record Summed (n : ℕ) (ends labels sums : List ℕ) : Type 0 where
   pub labels-room : length ends / 2 ≤ length labels
   pub sums-room : n ≤ length sums
-  pub sum : (v : ℕ) → getD sums v 0 ≡ around (graphOf n always ends) (λ e. getD labels e 0) v (edges (graphOf n always ends))
+  pub sum : (v : ℕ) → getD sums v 0 ≡ around (graph (plan n ends)) (λ e. getD labels e 0) v (edges (graph (plan n ends)))
   pub rest : (v : ℕ) → n ≤ v → getD sums v 0 ≡ 0
   pub total : xorAll sums ≡ 0
 

@@ -1,2 +1,3 @@
+pub mod Label
 pub mod Labels
 pub mod Answered

@@ -7,9 +7,9 @@ ghost use mathlib.Core.Path.{_≡_};
 ghost use Prim.Native.Nat.{ℕ, _/_, _-_, _<_, _≤_};
 ghost use lib.Dec.{ltb};
 ghost use lib.ListN.{length, getD};
-ghost use Rattle.connectivity.specs.Admission.{Admitted, limits};
-ghost use Rattle.connectivity.specs.Graph.{graphOf, always};
-ghost use Rattle.connectivity.specs.Label.{Balanced};
+ghost use Rattle.connectivity.specs.Plan.{plan, graph, limits};
+ghost use Rattle.connectivity.specs.Admission.{Admitted};
+ghost use Rattle.labels.specs.Label.{Balanced};
 ghost use Rattle.labels.specs.Answered.{Answered};
 ghost use Rattle.labels.specs.Labels.{Kept, Searched, Spanning, Summed, Ready, Toggled};
 
@@ -23,13 +23,13 @@ pub enum Labelling {
 // The plan's own 1 to 5; 6 unless `labels` has a place for each edge; then whether the graph is connected, by a search from vertex 0. If
 // it is, each edge gets a label, such that around every vertex they xor to 0.
 pub fn label(vertices: u16, ends: &[u16], labels: &mut [u64]) -> Labelling
-    ensures { λ r. ⌜ Answered vertices (now (ends .entry)) (now (labels .entry)) (now (labels .exit)) r ⌝ }
+    ensures { λ r. ⌜ Answered limits (plan vertices (now (ends .entry))) (now (labels .entry)) (now (labels .exit)) r ⌝ }
 {
-    let mut roles = [0u8; Graph::MAX_VERTICES as usize];
+    let mut roles = [0u8; Graph::MAX_VERTICES];
     roles[0] = 1;
     let dead = [0u8; Graph::MAX_EDGES];
-    let mut first = [0u16; Graph::MAX_VERTICES as usize];
-    let mut order = [0u16; Graph::MAX_VERTICES as usize];
+    let mut first = [0u16; Graph::MAX_VERTICES];
+    let mut order = [0u16; Graph::MAX_VERTICES];
     let found = search::explore(vertices, ends, &roles, &dead, &mut first, &mut order);
     match found {
         Explored::Refused(answer) => Labelling::Refused(answer),
@@ -47,8 +47,8 @@ fn label_seen(
     count: u16,
     labels: &mut [u64],
 ) -> Labelling
-    requires { ⌜ Admitted limits vertices (now ends) × Searched vertices (now ends) (now first) (now order) (ltb count vertices) × (vertices ≤ length (now first)) × (vertices ≤ length (now order)) ⌝ }
-    ensures { λ r. ⌜ Answered vertices (now (ends .entry)) (now (labels .entry)) (now (labels .exit)) r ⌝ }
+    requires { ⌜ Admitted limits (plan vertices (now ends)) × Searched vertices (now ends) (now first) (now order) (ltb count vertices) × (vertices ≤ length (now first)) × (vertices ≤ length (now order)) ⌝ }
+    ensures { λ r. ⌜ Answered limits (plan vertices (now (ends .entry))) (now (labels .entry)) (now (labels .exit)) r ⌝ }
 {
     if labels.len() < ends.len() / 2 {
         return Labelling::Refused(Answer {
@@ -66,10 +66,10 @@ fn label_seen(
 // Labels the edges of a connected graph: any numbers at first; then, from the last vertex found to the second, the label of its first
 // edge is changed such that the labels around it xor to 0.
 fn balance(vertices: u16, ends: &[u16], first: &[u16], order: &[u16], labels: &mut [u64])
-    requires { ⌜ Admitted limits vertices (now ends) × Spanning vertices (now ends) (now first) (now order) × (vertices ≤ length (now first)) × (vertices ≤ length (now order)) × (length (now ends) / 2 ≤ length (now labels)) ⌝ }
-    ensures { λ _. ⌜ Balanced (graphOf vertices always (now (ends .entry))) (λ (e : ℕ). getD (now (labels .exit)) e 0) × Kept (length (now (ends .entry)) / 2) (now (labels .entry)) (now (labels .exit)) ⌝ }
+    requires { ⌜ Admitted limits (plan vertices (now ends)) × Spanning vertices (now ends) (now first) (now order) × (vertices ≤ length (now first)) × (vertices ≤ length (now order)) × (length (now ends) / 2 ≤ length (now labels)) ⌝ }
+    ensures { λ _. ⌜ Balanced (graph (plan vertices (now (ends .entry)))) (λ (e : ℕ). getD (now (labels .exit)) e 0) × Kept (length (now (ends .entry)) / 2) (now (labels .entry)) (now (labels .exit)) ⌝ }
 {
-    let mut sums = [0u64; Graph::MAX_VERTICES as usize];
+    let mut sums = [0u64; Graph::MAX_VERTICES];
     clear(ends.len() / 2, labels);
     scatter(vertices, ends, labels, &mut sums);
     settle(vertices, ends, first, order, labels, &mut sums);
@@ -89,7 +89,7 @@ fn clear(edges: usize, labels: &mut [u64])
 
 // Xors a number into the label of each edge.
 fn scatter(vertices: u16, ends: &[u16], labels: &mut [u64], sums: &mut [u64])
-    requires { ⌜ Admitted limits vertices (now ends) × Summed vertices (now ends) (now labels) (now sums) ⌝ }
+    requires { ⌜ Admitted limits (plan vertices (now ends)) × Summed vertices (now ends) (now labels) (now sums) ⌝ }
     ensures { λ _. ⌜ Summed vertices (now (ends .entry)) (now (labels .exit)) (now (sums .exit)) × Kept (length (now (ends .entry)) / 2) (now (labels .entry)) (now (labels .exit)) ⌝ }
 {
     let edges = ends.len() / 2;
@@ -109,8 +109,8 @@ fn settle(
     labels: &mut [u64],
     sums: &mut [u64],
 )
-    requires { ⌜ Admitted limits vertices (now ends) × Spanning vertices (now ends) (now first) (now order) × (vertices ≤ length (now first)) × (vertices ≤ length (now order)) × Summed vertices (now ends) (now labels) (now sums) ⌝ }
-    ensures { λ _. ⌜ Balanced (graphOf vertices always (now (ends .entry))) (λ (e : ℕ). getD (now (labels .exit)) e 0) × Kept (length (now (ends .entry)) / 2) (now (labels .entry)) (now (labels .exit)) ⌝ }
+    requires { ⌜ Admitted limits (plan vertices (now ends)) × Spanning vertices (now ends) (now first) (now order) × (vertices ≤ length (now first)) × (vertices ≤ length (now order)) × Summed vertices (now ends) (now labels) (now sums) ⌝ }
+    ensures { λ _. ⌜ Balanced (graph (plan vertices (now (ends .entry)))) (λ (e : ℕ). getD (now (labels .exit)) e 0) × Kept (length (now (ends .entry)) / 2) (now (labels .entry)) (now (labels .exit)) ⌝ }
 {
     let mut k = vertices as usize;
     while 1 < k {

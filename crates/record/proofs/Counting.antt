@@ -10,7 +10,8 @@ use lib.Dec.{eqb}
 use borrow.Author.Tests.{eq-eqb, ne-eqb}
 use lib.ListN.{length, getD, set, drop, replicate, length-set, length-replicate, length-append, length-drop}
 use lib.Seq.{getD-set-same, getD-set-other, drop-cons, drop-length}
-use Rattle.connectivity.specs.Graph.{Graph, graphOf, always}
+use Rattle.connectivity.specs.Plan.{plan, graph, limits}
+use Rattle.connectivity.specs.Graph.{Graph}
 use Rattle.connectivity.specs.Walk.{hits, degree}
 use Rattle.connectivity.specs.Admission.{EndsFit}
 use Rattle.connectivity.proofs.Lists.{raised}
@@ -21,19 +22,20 @@ use Rattle.record.specs.Record.{Tables, Adding, Added, Edging, Rowing}
 use Rattle.record.proofs.NeighbourSum.{sum-most}
 
 -- nothing is built
-marks-none : (n : ℕ) (ends : List ℕ) → Marks n ends [] (replicate {A = ℕ} 1000 0) (replicate {A = ℕ} 4000 0)
+marks-none : (n : ℕ) (ends : List ℕ) → Marks n ends [] (replicate {A = ℕ} (limits .vertices) 0) (replicate {A = ℕ} (limits .edges) 0)
 marks-none n ends = record {
-  degrees-long = length-replicate {A = ℕ} 1000 0;
-  used-long = length-replicate {A = ℕ} 4000 0;
-  degrees-are = λ v h. zeros 1000 v;
+  degrees-long = length-replicate {A = ℕ} (limits .vertices) 0;
+  used-long = length-replicate {A = ℕ} (limits .edges) 0;
+  degrees-are = λ v h. zeros (limits .vertices) v;
   used-built = λ e i. absurd (not-in i);
-  used-other = λ e i. zeros 4000 e;
+  used-other = λ e i. zeros (limits .edges) e;
 }
 
-pub tables-none : (n : ℕ) (ends : List ℕ) → Tables n ends [] (replicate {A = ℕ} 1000 0) (replicate {A = ℕ} 4000 0) (replicate {A = ℕ} 1000 0)
+pub tables-none : (n : ℕ) (ends : List ℕ)
+    → Tables n ends [] (replicate {A = ℕ} (limits .vertices) 0) (replicate {A = ℕ} (limits .edges) 0) (replicate {A = ℕ} (limits .vertices) 0)
 tables-none n ends = record {
   marks = marks-none n ends;
-  sums-are = record { long = length-replicate {A = ℕ} 1000 0; are = λ v h. zeros 1000 v };
+  sums-are = record { long = length-replicate {A = ℕ} (limits .vertices) 0; are = λ v h. zeros (limits .vertices) v };
 }
 
 -- What an edge adds, and how much there is at most.
@@ -43,13 +45,13 @@ either-one true t = refl
 either-one false t = refl
 
 table-hits : (n : ℕ) (ends : List ℕ) (e v : ℕ)
-    → hits (graphOf n always ends) e v ≡ cond (eqb (getD ends (2 * e) 0) v) 1 (cond (eqb (getD ends (2 * e + 1) 0) v) 1 0)
-unfolding hits graphOf
+    → hits (graph (plan n ends)) e v ≡ cond (eqb (getD ends (2 * e) 0) v) 1 (cond (eqb (getD ends (2 * e + 1) 0) v) 1 0)
+unfolding hits graph
 table-hits n ends e v = either-one (eqb (getD ends (2 * e) 0) v) (eqb (getD ends (2 * e + 1) 0) v)
 
-table-toward : (n : ℕ) (ends : List ℕ) (e v : ℕ) → toward (graphOf n always ends) e v
+table-toward : (n : ℕ) (ends : List ℕ) (e v : ℕ) → toward (graph (plan n ends)) e v
     ≡ cond (eqb (getD ends (2 * e) 0) v) (getD ends (2 * e + 1) 0) (cond (eqb (getD ends (2 * e + 1) 0) v) (getD ends (2 * e) 0) 0)
-unfolding toward graphOf
+unfolding toward graph
 table-toward n ends e v = refl
 
 degree-most : (g : Graph) (l : List ℕ) (v : ℕ) → degree g l v ≤ length l
@@ -70,7 +72,7 @@ raised-two table l r x y v a b d = let half = set table l (getD table l 0 + x) i
     omega (arith, raised half r y v (omega (arith, b, length-set table l (getD table l 0 + x))), raised table l x v a, either l r x y v d)
 
 module _ {ends : List ℕ} {e : ℕ} {degrees used sums : List ℕ} (b : Edging ends e degrees used sums) where
-  fit : EndsFit (b .n) ends e
+  fit : EndsFit (plan (b .n) ends) e
   fit = b .admitted .fit e (b .edge)
 
   abbrev l : ℕ
@@ -79,16 +81,16 @@ module _ {ends : List ℕ} {e : ℕ} {degrees used sums : List ℕ} (b : Edging 
   abbrev r : ℕ
   r = getD ends (2 * e + 1) 0
 
-  left-long : l < 1000
+  left-long : l < limits .vertices
   left-long = omega (arith, fit .left, b .admitted .vertices)
 
-  right-long : r < 1000
+  right-long : r < limits .vertices
   right-long = omega (arith, fit .right, b .admitted .vertices)
 
-  few : (v : ℕ) → v < b .n → getD degrees v 0 ≤ 4000
-  few v h = omega (arith, b .tables .marks .degrees-are v h, degree-most (graphOf (b .n) always ends) (b .built) v, b .few)
+  few : (v : ℕ) → v < b .n → getD degrees v 0 ≤ limits .edges
+  few v h = omega (arith, b .tables .marks .degrees-are v h, degree-most (graph (plan (b .n) ends)) (b .built) v, b .few)
 
-  small : (v : ℕ) → v < b .n → getD sums v 0 ≤ 3999000
+  small : (v : ℕ) → v < b .n → getD sums v 0 ≤ limits .vertices * (limits .edges - 1)
   small v h = omega (arith, b .tables .sums-are .are v h, sum-most (b .admitted) (b .built) v, b .few)
 
   pub left-adding : Adding degrees sums l r

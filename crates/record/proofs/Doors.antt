@@ -8,15 +8,16 @@ use native.Mathlib.Decide.{ℕ-discrete, decLt}
 use lib.Dec.{ltb}
 use lib.ListN.{length, getD}
 use borrow.Author.Tests.{eq-eqb, ne-eqb}
-use Rattle.connectivity.specs.Graph.{Graph, Edge, Joins, graphOf, always}
+use Rattle.connectivity.specs.Plan.{plan, graph, limits}
+use Rattle.connectivity.specs.Graph.{Graph, Edge, Joins}
 use Rattle.connectivity.specs.Reach.{ThreeEdgeConnected}
-use Rattle.connectivity.specs.Admission.{Admitted, limits}
+use Rattle.connectivity.specs.Admission.{Admitted}
 use Rattle.connectivity.proofs.Admission.{admitted-edge}
 use Rattle.connectivity.proofs.Reach.{joins-sym}
 use Rattle.connectivity.proofs.Theta.{Door, one-door, two-doors}
 use Rattle.search.specs.Search.{Marked}
 use Rattle.search.proofs.Leads.{joins-below, joins-edge}
-use Rattle.connectivity.specs.Tells.{Tells}
+use Rattle.graph.specs.Tells.{Tells}
 use Rattle.record.specs.Opening.{IsDoor, DoorFits, DoorsFit, NextDoor, Rooted, farEnd}
 use Rattle.record.proofs.Paths.{far-end}
 use Rattle.record.proofs.Filling.{tells-less}
@@ -68,33 +69,33 @@ module _ {ends marks : List ℕ} {e : ℕ} (x : ℕ) (f : DoorFits ends marks e)
 pub record Passing (ends marks : List ℕ) (x after edges e : ℕ) : Type 0 where
   pub above : after < e
   pub most : e ≤ edges
-  pub none : (d : ℕ) → after < d → d < e → IsDoor ends marks x d → ⊥
+  pub no-door : (d : ℕ) → after < d → d < e → IsDoor ends marks x d → ⊥
 
 pub passing-start : (ends marks : List ℕ) (x after edges : ℕ) → after < edges → Passing ends marks x after edges (after + 1)
-passing-start ends marks x after edges l = record { above = omega arith; most = omega (arith, l); none = λ d h k. absurd (omega (arith, h, k)) }
+passing-start ends marks x after edges l = record { above = omega arith; most = omega (arith, l); no-door = λ d h k. absurd (omega (arith, h, k)) }
 
 module _ {ends marks : List ℕ} {x after edges e : ℕ} (p : Passing ends marks x after edges e) where
   pub passing-step : e < edges → (IsDoor ends marks x e → ⊥) → Passing ends marks x after edges (e + 1)
   passing-step l n = record {
     above = omega (arith, p .above);
     most = omega (arith, l);
-    none = λ d h k. elim (ℕ-discrete d e) [ yes q ↦ λ i. n (subst (IsDoor ends marks x) q i) | no q ↦ p .none d h (omega (arith, k, q)) ];
+    no-door = λ d h k. elim (ℕ-discrete d e) [ yes q ↦ λ i. n (subst (IsDoor ends marks x) q i) | no q ↦ p .no-door d h (omega (arith, k, q)) ];
   }
 
   pub passing-door : e < edges → IsDoor ends marks x e → NextDoor ends marks x after edges e
-  passing-door l i = record { above = p .above; most = p .most; door = λ h. i; lowest = p .none }
+  passing-door l i = record { above = p .above; most = p .most; door = λ h. i; lowest = p .no-door }
 
   pub passing-end : edges ≤ e → NextDoor ends marks x after edges edges
   passing-end l = record {
     above = omega (arith, p .above, p .most, l);
     most = omega arith;
     door = λ h. absurd (omega (arith, h));
-    lowest = λ d h k. p .none d h (omega (arith, k, l));
+    lowest = λ d h k. p .no-door d h (omega (arith, k, l));
   }
 
 -- The edges of a table that is admitted.
 
-pub doors-fit : {n : ℕ} {ends : List ℕ} (marks : List ℕ) (edges : ℕ) → Admitted limits n ends → n ≤ length marks → edges ≡ length ends / 2 → DoorsFit ends marks edges
+pub doors-fit : {n : ℕ} {ends : List ℕ} (marks : List ℕ) (edges : ℕ) → Admitted limits (plan n ends) → n ≤ length marks → edges ≡ length ends / 2 → DoorsFit ends marks edges
 doors-fit {n} {ends} marks edges a l p = record {
   fit = λ e h. let k = a .fit e (omega (arith, h, p)) in record {
     below = omega (arith, h, p);
@@ -105,37 +106,37 @@ doors-fit {n} {ends} marks edges a l p = record {
   few = omega (arith, a .edges, p);
 }
 
-ends-join : (n : ℕ) (ends : List ℕ) (e : ℕ) → Edge (graphOf n always ends) e
-    → Joins (graphOf n always ends) e (getD ends (2 * e) 0) (getD ends (2 * e + 1) 0)
-unfolding graphOf
+ends-join : (n : ℕ) (ends : List ℕ) (e : ℕ) → Edge (graph (plan n ends)) e
+    → Joins (graph (plan n ends)) e (getD ends (2 * e) 0) (getD ends (2 * e + 1) 0)
+unfolding graph
 ends-join n ends e h = record { edge = h; ends = inl (refl, refl) }
 
-pub edge-joins : (n : ℕ) (ends : List ℕ) (e : ℕ) → Admitted limits n ends → e < length ends / 2
-    → Joins (graphOf n always ends) e (getD ends (2 * e) 0) (getD ends (2 * e + 1) 0)
+pub edge-joins : (n : ℕ) (ends : List ℕ) (e : ℕ) → Admitted limits (plan n ends) → e < length ends / 2
+    → Joins (graph (plan n ends)) e (getD ends (2 * e) 0) (getD ends (2 * e + 1) 0)
 edge-joins n ends e a l = ends-join n ends e (admitted-edge a e l)
 
-joins-ends : (n : ℕ) (ends : List ℕ) (e u v : ℕ) → Joins (graphOf n always ends) e u v
+joins-ends : (n : ℕ) (ends : List ℕ) (e u v : ℕ) → Joins (graph (plan n ends)) e u v
     → ((getD ends (2 * e) 0 ≡ u) × (getD ends (2 * e + 1) 0 ≡ v)) ⊎ ((getD ends (2 * e) 0 ≡ v) × (getD ends (2 * e + 1) 0 ≡ u))
-unfolding graphOf
+unfolding graph
 joins-ends n ends e u v j = j .ends
 
 -- where a door leads
 pub record Leads (n : ℕ) (ends marks : List ℕ) (x e : ℕ) : Type 0 where
-  pub joins : Joins (graphOf n always ends) e x (farEnd ends e x)
+  pub joins : Joins (graph (plan n ends)) e x (farEnd ends e x)
   pub below : farEnd ends e x < n
   pub seen : Marked marks (farEnd ends e x)
   pub off : farEnd ends e x ≡ x → ⊥
 
-pub door-leads : {n e : ℕ} {ends : List ℕ} (marks : List ℕ) (x : ℕ) → Admitted limits n ends → e < length ends / 2 → IsDoor ends marks x e → Leads n ends marks x e
+pub door-leads : {n e : ℕ} {ends : List ℕ} (marks : List ℕ) (x : ℕ) → Admitted limits (plan n ends) → e < length ends / 2 → IsDoor ends marks x e → Leads n ends marks x e
 door-leads {n} {e} {ends} marks x a l d =
     let j = edge-joins n ends e a l in
     let k = a .fit e l in
-    ⊎-elim (λ h. to (getD ends (2 * e + 1) 0) (subst (λ (u : ℕ). Joins (graphOf n always ends) e u (getD ends (2 * e + 1) 0)) (h .0) j) (h .1) (λ p. k .different (h .0 ∙ sym p)))
-    (λ h. to (getD ends (2 * e) 0) (subst (λ (u : ℕ). Joins (graphOf n always ends) e u (getD ends (2 * e) 0)) (h .0) (joins-sym j)) (h .1) (λ p. k .different (p ∙ sym (h .0)))) d
+    ⊎-elim (λ h. to (getD ends (2 * e + 1) 0) (subst (λ (u : ℕ). Joins (graph (plan n ends)) e u (getD ends (2 * e + 1) 0)) (h .0) j) (h .1) (λ p. k .different (h .0 ∙ sym p)))
+    (λ h. to (getD ends (2 * e) 0) (subst (λ (u : ℕ). Joins (graph (plan n ends)) e u (getD ends (2 * e) 0)) (h .0) (joins-sym j)) (h .1) (λ p. k .different (p ∙ sym (h .0)))) d
   where
-    to : (k : ℕ) → Joins (graphOf n always ends) e x k → Marked marks k → (k ≡ x → ⊥) → Leads n ends marks x e
+    to : (k : ℕ) → Joins (graph (plan n ends)) e x k → Marked marks k → (k ≡ x → ⊥) → Leads n ends marks x e
     to k j m o = let p : k ≡ farEnd ends e x = sym (far-end n ends e x k j) in record {
-      joins = subst (λ (u : ℕ). Joins (graphOf n always ends) e x u) p j;
+      joins = subst (λ (u : ℕ). Joins (graph (plan n ends)) e x u) p j;
       below = subst (λ (u : ℕ). u < n) p (joins-below n ends e x k j);
       seen = subst (Marked marks) p m;
       off = subst (λ (u : ℕ). u ≡ x → ⊥) p o;
@@ -143,10 +144,10 @@ door-leads {n} {e} {ends} marks x a l d =
 
 -- There are two.
 
-module _ {n r x edges : ℕ} {ends marks : List ℕ} (t : ThreeEdgeConnected (graphOf n always ends)) (j : Joins (graphOf n always ends) 0 r x) (apart : r ≡ x → ⊥)
+module _ {n r x edges : ℕ} {ends marks : List ℕ} (t : ThreeEdgeConnected (graph (plan n ends))) (j : Joins (graph (plan n ends)) 0 r x) (apart : r ≡ x → ⊥)
     (s : Rooted n ends r x marks) (p : edges ≡ length ends / 2) where
   abbrev g : Graph
-  g = graphOf n always ends
+  g = graph (plan n ends)
 
   -- a door is found by the test
   tested : (e : ℕ) → Door g (Edge g) x r 0 e → IsDoor ends marks x e × (0 < e) × (e < edges)

@@ -7,18 +7,19 @@ use native.Mathlib.Omega.{arith}
 use native.Mathlib.Decide.{ℕ-discrete}
 use lib.ListN.{length, getD}
 use denote.Enum.Declared.{tagOf}
-use Rattle.connectivity.specs.Graph.{Graph, Joins, graphOf, always}
-use Rattle.connectivity.specs.Reach.{Through, stay, leave}
+use Rattle.connectivity.specs.Plan.{plan, graph, limits}
+use Rattle.connectivity.specs.Graph.{Graph, Joins}
+use Rattle.connectivity.proofs.Through.{Through, stay, leave}
 use Rattle.connectivity.specs.Walk.{Leg, Walk, froms, inner, edgesOf}
-use Rattle.connectivity.specs.Admission.{Answer, Admitted, limits}
+use Rattle.connectivity.specs.Admission.{Answer, Admitted}
 use Rattle.connectivity.proofs.Reach.{joins-sym, joins-vertex}
-use Rattle.search.specs.Search.{Live, Pass, Start, Goal, Marked, Reached, Tree, Found, Whole, Stopped, Answered}
+use Rattle.search.specs.Search.{Live, Pass, Start, Goal, Marked, Reached, Tree, Found, Whole, Stopped}
 use Rattle.search.specs.declared.Explored.{Explored}
 use Rattle.search.specs.declared.Explored.the-variants.{Refused, Seen, Met}
 use Rattle.search.proofs.Explored as explored
 use Rattle.search.proofs.Climb as climbs
 use Rattle.search.proofs.Climb.{Climb, top, up}
-use Rattle.search.proofs.Outcomes.{enough-room}
+use Rattle.search.proofs.Outcomes.{enough-room, Cases}
 use Rattle.search.proofs.Leads.{vertex-below, joins-edge}
 use Rattle.search.proofs.Tally.{tally-le}
 use Rattle.record.specs.Step as paths
@@ -71,7 +72,7 @@ module _ {g : Graph} {live pass start : ℕ → Type 0} {n : ℕ} {marks order :
 -- The search for a goal.
 
 -- an edge's number fits
-few-edges : {n : ℕ} {ends : List ℕ} → Admitted limits n ends → (e u v : ℕ) → Joins (graphOf n always ends) e u v → e < 65534
+few-edges : {n : ℕ} {ends : List ℕ} → Admitted limits (plan n ends) → (e u v : ℕ) → Joins (graph (plan n ends)) e u v → e < 65534
 few-edges {n} {ends} a e u v j = omega (arith, a .edges, joins-edge n ends e u v j)
 
 -- a way by other rules for the edges and the vertices
@@ -104,8 +105,8 @@ module _ {n : ℕ} {degrees marks roles : List ℕ} (r : Filled (EarRole degrees
   of-goal : Goal roles v → Outside degrees marks v
   of-goal s = elim (r .at v l) [ ear.start h q ↦ absurd (omega (arith, s, q)) | ear.new h d q ↦ absurd (omega (arith, s, q)) | ear.goal h d q ↦ (h, d) ]
 
-module _ {n : ℕ} {ends degrees marks roles : List ℕ} (a : Admitted limits n ends) (dead : List ℕ) (r : Filled (EarRole degrees marks) n roles)
-    {first₀ order₀ first order : List ℕ} {count : ℕ} (f : Found (graphOf n always ends) (Live dead) (Pass roles) (Start roles) n first₀ order₀ first order count) where
+module _ {n : ℕ} {ends degrees marks roles : List ℕ} (a : Admitted limits (plan n ends)) (dead : List ℕ) (r : Filled (EarRole degrees marks) n roles)
+    {first₀ order₀ first order : List ℕ} {count : ℕ} (f : Found (graph (plan n ends)) (Live dead) (Pass roles) (Start roles) n first₀ order₀ first order count) where
   pub count-most : count ≤ n
   count-most = omega (arith, f .counted, tally-le first n)
 
@@ -134,7 +135,7 @@ module _ {n : ℕ} {ends degrees marks roles : List ℕ} (a : Admitted limits n 
 
   -- it sees a goal
   not-whole : {room : ℕ} → Exiting n ends degrees marks dead room
-      → Whole (graphOf n always ends) (Live dead) (Pass roles) (Start roles) (Goal roles) n first order count → ⊥
+      → Whole (graph (plan n ends)) (Live dead) (Pass roles) (Start roles) (Goal roles) n first order count → ⊥
   not-whole e w = e .some (λ v l h s.
       let x = f .tree .listed v l (w .whole v l (record {
         root = s .root;
@@ -147,7 +148,7 @@ module _ {n : ℕ} {ends degrees marks roles : List ℕ} (a : Admitted limits n 
 -- and so does not end in any other way
 module _ {n room : ℕ} {ends degrees marks roles dead : List ℕ} (e : Exiting n ends degrees marks dead room) (r : Filled (EarRole degrees marks) n roles) where
   pub must-meet : (first₀ order₀ first order : List ℕ) → n ≤ length roles → n ≤ length first₀ → n ≤ length order₀ → (found : Explored)
-      → Answered n ends roles dead first₀ order₀ first order found → (tagOf explored.the-type found ≡ 0) ⊎ (tagOf explored.the-type found ≡ 1) → ⊥
+      → Cases limits (plan n ends) roles dead first₀ order₀ first order found → (tagOf explored.the-type found ≡ 0) ⊎ (tagOf explored.the-type found ≡ 1) → ⊥
   must-meet first₀ order₀ now order l f o (Refused answer) h k =
       h .0 .0 (ap (λ (x : Answer). x .number) (enough-room n ends roles dead first₀ order₀ (e .admitted) (l, (e .dead-room, (f, o)))))
   must-meet first₀ order₀ now order l f o (Seen count) h k = not-whole (e .admitted) dead r (h .1) e (h .2)
@@ -157,7 +158,7 @@ module _ {n room : ℕ} {ends degrees marks roles dead : List ℕ} (e : Exiting 
 
 module _ {n : ℕ} {ends marks : List ℕ} where
   -- it stops at a vertex that it does not leave
-  pub path-apart : {v w x : ℕ} {legs : List Leg} → Admitted limits n ends → Path (graphOf n always ends) marks v legs w → getD marks x 0 ≡ 65535 → In x (froms legs) → ⊥
+  pub path-apart : {v w x : ℕ} {legs : List Leg} → Admitted limits (plan n ends) → Path (graph (plan n ends)) marks v legs w → getD marks x 0 ≡ 65535 → In x (froms legs) → ⊥
   path-apart a paths.there h i = not-in i
   path-apart a (paths.up m j p) h (first q) = omega (arith, rw q at h, few-edges a _ _ _ j)
   path-apart a (paths.up m j p) h (later i) = path-apart a p h i

@@ -13,7 +13,7 @@ use borrow.Author.Count.{below-more}
 use borrow.Author.Tests.{eqb-true, eqb-false, ltb-true, ltb-false}
 use Rattle.search.specs.Search.{Marked}
 use Rattle.record.specs.Growth.{Filled}
-use Rattle.connectivity.specs.Tells.{Tells}
+use Rattle.graph.specs.Tells.{Tells}
 
 -- the first k entries are filled, and the length has stayed
 pub record Filling (R : ℕ → ℕ → Type 0) (list₀ list : List ℕ) (k : ℕ) : Type 0 where

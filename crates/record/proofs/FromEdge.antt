@@ -1,5 +1,5 @@
--- The ear over an edge, where every built vertex is a branch: some edge that is not built has a built end, its other end is built or sees a
--- built vertex, and the way up from there and over the edge is an ear.
+-- The Mader-path over an edge, where every built vertex is a branch: some edge that is not built has a built end, its other end is built or sees a
+-- built vertex, and the way up from there and over the edge is a Mader-path.
 use mathlib.Core.Path.{_≡_, refl, sym, ap, _∙_, subst}
 use mathlib.Core.Logic.{inl, inr}
 use mathlib.Core.List.{List, [], _∷_, _++_, List·Memᴰ as In, List·Memᴰ·not-nil as not-in, Memᴰ·cast}
@@ -7,10 +7,11 @@ use Prim.Native.Nat.{ℕ, _+_, _*_, _/_, _≤_, _<_}
 use native.Mathlib.Omega.{arith}
 use lib.ListN.{length, getD, set, length-append, length-set}
 use lib.Seq.{getD-set-same, getD-set-other}
-use Rattle.connectivity.specs.Lists.{Distinct, none, one}
-use Rattle.connectivity.specs.Graph.{Edge, graphOf, always}
+use Rattle.connectivity.specs.Lists.{Distinct, no-member, one}
+use Rattle.connectivity.specs.Plan.{plan, graph, limits}
+use Rattle.connectivity.specs.Graph.{Edge}
 use Rattle.connectivity.specs.Walk.{Leg, Walk, last, froms, edgesOf, allEdges, Built, Branch}
-use Rattle.connectivity.specs.Mader.{Ear}
+use Rattle.connectivity.specs.Mader.{MaderPath}
 use Rattle.connectivity.proofs.Lists.{in-dec}
 use Rattle.connectivity.proofs.Distinct.{join-distinct}
 use Rattle.connectivity.proofs.Reach.{joins-sym, joins-vertex}
@@ -20,8 +21,8 @@ use Rattle.connectivity.proofs.Fresh.{Fresh, ear-fresh, fresh-snoc}
 use Rattle.connectivity.proofs.Legs.{leg, walk-snoc, edges-snoc, distinct-between}
 use Rattle.connectivity.proofs.Admission.{admitted-edges}
 use Rattle.connectivity.proofs.Once.{walk-once}
-use Rattle.connectivity.proofs.Grow.{branch-exit, next-edge, ear-from-branch}
-use Rattle.connectivity.proofs.Ears.{steps-built}
+use Rattle.connectivity.proofs.Grow.{branch-exit, next-edge, path-from-branch}
+use Rattle.connectivity.proofs.MaderPaths.{steps-built}
 use Rattle.search.specs.Search.{Live, Marked, FromStart}
 use Rattle.search.proofs.Leads.{vertex-below, joins-edge}
 use Rattle.record.specs.Step.{Growing, Grown}
@@ -44,13 +45,13 @@ module _ {n : ℕ} {ends degrees used : List ℕ} {room : ℕ} (c : Growing n en
   abbrev pub grown : List ℕ
   grown = allEdges (c .done)
 
-  vertex-of : (v : ℕ) → Built (graphOf n always ends) grown v → v < n
+  vertex-of : (v : ℕ) → Built (graph (plan n ends)) grown v → v < n
   vertex-of v h = vertex-below n ends v (built-vertex grown (λ e i. steps-edges (c .steps) i) h)
 
   open-some : ((k : ℕ) → k < length ends → OpenEnd ends degrees used k → ⊥) → ⊥
   open-some f =
       let b = steps-built (c .steps) in
-      let every : (e : ℕ) → Edge (graphOf n always ends) e → In e grown = next-edge (c .three)
+      let every : (e : ℕ) → Edge (graph (plan n ends)) e → In e grown = next-edge (c .three)
       (λ e v w j h. elim (in-dec e grown) [
         | yes i ↦ i
         | no m ↦
@@ -83,10 +84,10 @@ module _ {n : ℕ} {ends degrees used : List ℕ} {room : ℕ} (c : Growing n en
 
   -- Where every built vertex is a branch.
   module _ (b : (v : ℕ) → v < n → 1 ≤ getD degrees v 0 → 3 ≤ getD degrees v 0) {e u : ℕ} (x : Across n ends degrees used e u) where
-    all-branches : (v : ℕ) → Built (graphOf n always ends) grown v → Branch (graphOf n always ends) grown v
+    all-branches : (v : ℕ) → Built (graph (plan n ends)) grown v → Branch (graph (plan n ends)) grown v
     all-branches v h = let l = vertex-of v h in omega (arith, b v l (built-is (c .marks) v l h), c .marks .degrees-are v l)
 
-    from-built : Built (graphOf n always ends) grown (x .from)
+    from-built : Built (graph (plan n ends)) grown (x .from)
     from-built = is-built (c .marks) (x .from) (vertex-below n ends (x .from) (joins-vertex (x .joins))) (x .built)
 
     pub u-below : u < n
@@ -105,8 +106,8 @@ module _ {n : ℕ} {ends degrees used : List ℕ} {room : ℕ} (c : Growing n en
       from = u;
       to = x .from;
       legs = leg e u ∷ [];
-      ear = ear-from-branch all-branches from-built (is-built (c .marks) u u-below (omega (arith, h))) (last e (joins-sym (x .joins)))
-          (λ v i. absurd (not-in i)) none;
+      ear = path-from-branch all-branches from-built (is-built (c .marks) u u-below (omega (arith, h))) (last e (joins-sym (x .joins)))
+          (λ v i. absurd (not-in i)) no-member;
       once = edge-once;
       written = written-more step [] e u before before after (written-none step before) (omega (arith, one-room, long)) r;
       count = refl;
@@ -117,7 +118,7 @@ module _ {n : ℕ} {ends degrees used : List ℕ} {room : ℕ} (c : Growing n en
       abbrev pub dead : List ℕ
       dead = set used e 1
 
-      u-new : Built (graphOf n always ends) grown u → ⊥
+      u-new : Built (graph (plan n ends)) grown u → ⊥
       u-new = new-is (c .marks) u u-below new
 
       dead-room : e < length used
@@ -126,9 +127,9 @@ module _ {n : ℕ} {ends degrees used : List ℕ} {room : ℕ} (c : Growing n en
       dead-other : (f : ℕ) → (f ≡ e → ⊥) → getD dead f 0 ≡ getD used f 0
       dead-other f = getD-set-other used e f 1 0
 
-      edge-some : ((v : ℕ) → v < n → Outside degrees marks v → FromStart (graphOf n always ends) (Live dead) (Crosses degrees marks) (Marked marks) n v → ⊥) → ⊥
+      edge-some : ((v : ℕ) → v < n → Outside degrees marks v → FromStart (graph (plan n ends)) (Live dead) (Crosses degrees marks) (Marked marks) n v → ⊥) → ⊥
       edge-some f = branch-exit (c .three) (x .joins) from-built
-          (λ t h w. let l = vertex-of t h in f t l (λ k. u-new (subst (Built (graphOf n always ends) grown) (m .only t k) h), built-is (c .marks) t l h) (record {
+          (λ t h w. let l = vertex-of t h in f t l (λ k. u-new (subst (Built (graph (plan n ends)) grown) (m .only t k) h), built-is (c .marks) t l h) (record {
             root = u;
             below = u-below;
             is-start = m .marked;
@@ -140,8 +141,8 @@ module _ {n : ℕ} {ends degrees used : List ℕ} {room : ℕ} (c : Growing n en
         from-u : y .from ≡ u
         from-u = m .only (y .from) (y .from-start)
 
-        way : Walk (graphOf n always ends) t (y .legs) u
-        way = subst (Walk (graphOf n always ends) t (y .legs)) from-u (y .walk)
+        way : Walk (graph (plan n ends)) t (y .legs) u
+        way = subst (Walk (graph (plan n ends)) t (y .legs)) from-u (y .walk)
 
         off : In u (froms (y .legs)) → ⊥
         off = path-apart (c .admitted) (y .path) (subst (λ (v : ℕ). getD first v 0 ≡ 65535) from-u (y .top))
@@ -149,15 +150,15 @@ module _ {n : ℕ} {ends degrees used : List ℕ} {room : ℕ} (c : Growing n en
         abbrev pub long : List Leg
         long = y .legs ++ (leg e u ∷ [])
 
-        fresh : Fresh (graphOf n always ends) grown long
+        fresh : Fresh (graph (plan n ends)) grown long
         fresh = fresh-snoc e way .1 (record { once = y .once; new = λ v i. let q = y .through v i in new-is (c .marks) v (q .0) (q .2) }, off, u-new)
 
-        long-ear : Ear (graphOf n always ends) grown t long (x .from)
+        long-ear : MaderPath (graph (plan n ends)) grown t long (x .from)
         long-ear =
             let h = is-built (c .marks) t (y .below) (y .goal .1) in
             let w = walk-snoc way (joins-sym (x .joins)) in
             let f = ear-fresh w h .1 fresh in
-            ear-from-branch all-branches from-built h w (f .1) (f .0)
+            path-from-branch all-branches from-built h w (f .1) (f .0)
 
         -- its edges are live, so neither built nor e
         not-e : In e (edgesOf (y .legs)) → ⊥
@@ -197,7 +198,7 @@ module _ {n : ℕ} {ends degrees used : List ℕ} {room : ℕ} (c : Growing n en
         pub edge-room : 3 * count + 3 ≤ room
         edge-room = omega (arith, w .count, long-fits (w .way))
 
-        pub edge-few : count ≤ 1000
+        pub edge-few : count ≤ limits .vertices
         edge-few = omega (arith, w .count, w .way .short, c .admitted .vertices)
 
         pub long-grown : {after : List ℕ} → length before ≡ room → after ≡ withRow mid count step e u → Grown n ends grown step before after (count + 1)

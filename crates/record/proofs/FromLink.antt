@@ -1,4 +1,4 @@
--- The ear out of a link: the search from its inside, which is marked, sees a built vertex outside it, and the way up from there is an ear.
+-- The Mader-path out of a link: the search from its inside, which is marked, sees a built vertex outside it, and the way up from there is a Mader-path.
 use mathlib.Core.Path.{_≡_, sym, subst}
 use mathlib.Core.Logic.{inl, inr}
 use mathlib.Core.List.{List, _++_, List·Memᴰ as In}
@@ -6,17 +6,18 @@ use Prim.Native.Nat.{ℕ, _*_, _≤_, _<_}
 use native.Mathlib.Omega.{arith}
 use lib.ListN.{length, getD}
 use Rattle.connectivity.specs.Lists.{Distinct}
-use Rattle.connectivity.specs.Graph.{Graph, graphOf, always}
+use Rattle.connectivity.specs.Plan.{plan, graph}
+use Rattle.connectivity.specs.Graph.{Graph}
 use Rattle.connectivity.specs.Walk.{Leg, Walk, last, then, froms, inner, edgesOf, allEdges, Built, Branch}
-use Rattle.connectivity.specs.Mader.{Ear}
+use Rattle.connectivity.specs.Mader.{MaderPath}
 use Rattle.connectivity.proofs.Distinct.{tail-distinct}
 use Rattle.connectivity.proofs.Reach.{joins-vertex}
 use Rattle.connectivity.proofs.Degree.{built-vertex}
 use Rattle.connectivity.proofs.Sound.{stage}
 use Rattle.connectivity.proofs.Link.{some-link}
 use Rattle.connectivity.proofs.Build.{steps-edges, walk-edges}
-use Rattle.connectivity.proofs.Once.{ear-once}
-use Rattle.connectivity.proofs.Grow.{Inside, link-exit, inside-built, ear-from-link}
+use Rattle.connectivity.proofs.Once.{path-once}
+use Rattle.connectivity.proofs.Grow.{Inside, link-exit, inside-built, path-from-link}
 use Rattle.search.specs.Search.{Live, Marked, FromStart}
 use Rattle.search.proofs.Leads.{vertex-below}
 use Rattle.record.specs.Step.{Marks, Grown}
@@ -28,7 +29,7 @@ use Rattle.record.proofs.Rooms.{most-edges}
 
 module _ {n : ℕ} {ends built degrees used : List ℕ} (m : Marks n ends built degrees used) where
   abbrev g : Graph
-  g = graphOf n always ends
+  g = graph (plan n ends)
 
   pub unused-new : (e : ℕ) → getD used e 0 ≡ 0 → In e built → ⊥
   unused-new e p i = omega (arith, m .used-built e i)
@@ -58,13 +59,13 @@ module _ {n : ℕ} {ends degrees used sums : List ℕ} {p room : ℕ} (c : Growi
   abbrev pub grown : List ℕ
   grown = allEdges (c .ready .growing .done)
 
-  pub vertex-of : (v : ℕ) → Built (graphOf n always ends) grown v → v < n
+  pub vertex-of : (v : ℕ) → Built (graph (plan n ends)) grown v → v < n
   vertex-of v h = vertex-below n ends v (built-vertex grown (λ e i. steps-edges (c .ready .growing .steps) i) h)
 
-  pub p-built : Built (graphOf n always ends) grown p
+  pub p-built : Built (graph (plan n ends)) grown p
   p-built = is-built (c .ready .growing .marks) p (c .below) (c .built)
 
-  pub p-plain : Branch (graphOf n always ends) grown p → ⊥
+  pub p-plain : Branch (graph (plan n ends)) grown p → ⊥
   p-plain = is-plain (c .ready .growing .marks) p (c .below) (c .plain)
 
   -- what the marking of the link's inside asks
@@ -86,9 +87,9 @@ module _ {n : ℕ} {ends degrees used sums : List ℕ} {p room : ℕ} (c : Growi
     blank = blank;
   }
 
-  module _ {marks : List ℕ} (k : Marking (graphOf n always ends) grown p marks) where
+  module _ {marks : List ℕ} (k : Marking (graph (plan n ends)) grown p marks) where
     -- it sees a built vertex outside
-    link-some : ((v : ℕ) → v < n → Outside degrees marks v → FromStart (graphOf n always ends) (Live used) (Crosses degrees marks) (Marked marks) n v → ⊥) → ⊥
+    link-some : ((v : ℕ) → v < n → Outside degrees marks v → FromStart (graph (plan n ends)) (Live used) (Crosses degrees marks) (Marked marks) n v → ⊥) → ⊥
     link-some f = link-exit (c .ready .growing .three) (stage (c .ready .growing .steps) (c .ready .growing .once)) p-built p-plain
         (λ s t i b o h w. let l = vertex-below n ends t h in f t l (λ m. o (k .sound t m), built-is (c .ready .growing .marks) t l b) (record {
           root = s;
@@ -98,20 +99,20 @@ module _ {n : ℕ} {ends degrees used sums : List ℕ} {p room : ℕ} (c : Growi
               (λ e u v j y. elim y [ inl q ↦ inl (k .whole u q) | inr q ↦ inr (is-new (c .ready .growing .marks) u (vertex-below n ends u (joins-vertex j)) q) ]) w;
         }))
 
-    -- and the way up from there is an ear
+    -- and the way up from there is a Mader-path
     module _ {first : List ℕ} {t : ℕ} (x : Exited n ends degrees marks used first t) where
-      from-in : Inside (graphOf n always ends) grown p (x .from)
+      from-in : Inside (graph (plan n ends)) grown p (x .from)
       from-in = k .sound (x .from) (x .from-start)
 
-      out : Inside (graphOf n always ends) grown p t → ⊥
+      out : Inside (graph (plan n ends)) grown p t → ⊥
       out i = x .goal .0 (k .whole t i)
 
-      link-ear : Ear (graphOf n always ends) grown t (x .legs) (x .from)
-      link-ear = ear-from-link p-built from-in (is-built (c .ready .growing .marks) t (x .below) (x .goal .1)) out (x .walk)
+      link-ear : MaderPath (graph (plan n ends)) grown t (x .legs) (x .from)
+      link-ear = path-from-link p-built from-in (is-built (c .ready .growing .marks) t (x .below) (x .goal .1)) out (x .walk)
           (λ v i. let q = x .through v i in new-is (c .ready .growing .marks) v (q .0) (q .2)) (inner-once (x .walk) (x .once))
 
       link-once : Distinct (edgesOf (x .legs) ++ grown)
-      link-once = ear-once link-ear (λ q. out (subst (Inside (graphOf n always ends) grown p) (sym q) from-in))
+      link-once = path-once link-ear (λ q. out (subst (Inside (graph (plan n ends)) grown p) (sym q) from-in))
           (λ e i. unused-new (c .ready .growing .marks) e (x .live e i)) (c .ready .growing .once)
 
       link-fits : 3 * length (x .legs) ≤ room

@@ -5,7 +5,8 @@ use mathlib.Core.List.{List, [], _∷_, List·Memᴰ as In, List·Memᴰ·head a
 use Prim.Native.Nat.{ℕ, _-_, _*_, _/_, _+_, _≤_, _<_}
 use native.Mathlib.Omega.{arith}
 use lib.ListN.{length, getD, set, length-set}
-use Rattle.connectivity.specs.Graph.{Graph, Joins, graphOf, always}
+use Rattle.connectivity.specs.Plan.{plan, graph}
+use Rattle.connectivity.specs.Graph.{Graph, Joins}
 use Rattle.connectivity.specs.Reach.{here, over}
 use Rattle.connectivity.specs.Walk.{hits, Branch}
 use Rattle.connectivity.proofs.Lists.{in-dec}
@@ -38,13 +39,13 @@ inside-plain h (over e l j r) b = inside-plain (bare-from (joins-sym j) l) r b
 
 -- The ends of an edge in the table.
 
-table-at : (n : ℕ) (ends : List ℕ) (e v : ℕ) → hits (graphOf n always ends) e v ≡ 1 → (getD ends (2 * e) 0 ≡ v) ⊎ (getD ends (2 * e + 1) 0 ≡ v)
-unfolding graphOf
-table-at n ends e v h = hits-ends (graphOf n always ends) e v (omega (arith, h))
+table-at : (n : ℕ) (ends : List ℕ) (e v : ℕ) → hits (graph (plan n ends)) e v ≡ 1 → (getD ends (2 * e) 0 ≡ v) ⊎ (getD ends (2 * e + 1) 0 ≡ v)
+unfolding graph
+table-at n ends e v h = hits-ends (graph (plan n ends)) e v (omega (arith, h))
 
-at-table : (n : ℕ) (ends : List ℕ) (e v : ℕ) → (getD ends (2 * e) 0 ≡ v) ⊎ (getD ends (2 * e + 1) 0 ≡ v) → hits (graphOf n always ends) e v ≡ 1
-unfolding graphOf
-at-table n ends e v h = elim h [ inl p ↦ hits-left (graphOf n always ends) e v p | inr p ↦ hits-right (graphOf n always ends) e v p ]
+at-table : (n : ℕ) (ends : List ℕ) (e v : ℕ) → (getD ends (2 * e) 0 ≡ v) ⊎ (getD ends (2 * e + 1) 0 ≡ v) → hits (graph (plan n ends)) e v ≡ 1
+unfolding graph
+at-table n ends e v h = elim h [ inl p ↦ hits-left (graph (plan n ends)) e v p | inr p ↦ hits-right (graph (plan n ends)) e v p ]
 
 -- One mark more.
 
@@ -61,7 +62,7 @@ module _ (marks : List ℕ) {i : ℕ} (l : i < length marks) where
 
 module _ {ends degrees used sums : List ℕ} {p : ℕ} (c : Linked ends degrees used sums p) where
   abbrev g : Graph
-  g = graphOf (c .n) always ends
+  g = graph (plan (c .n) ends)
 
   abbrev built : List ℕ
   built = c .built
@@ -204,7 +205,7 @@ module _ {ends degrees used sums : List ℕ} {p : ℕ} (c : Linked ends degrees 
 abbrev pub Going : List ℕ → List ℕ → ℕ → ℕ → List ℕ → List ℕ → ℕ → ℕ → Type 0
 Going degrees sums from to before now last at =
     (length now ≡ length before)
-    × ((c : Following degrees sums from to before) → Onward (graphOf (c .link .n) always (c .ends)) (c .link .built) (c .p) last at (c .rest) now)
+    × ((c : Following degrees sums from to before) → Onward (graph (plan (c .link .n) (c .ends))) (c .link .built) (c .p) last at (c .rest) now)
 
 module _ {degrees sums before now : List ℕ} {from to last at : ℕ} (k : Going degrees sums from to before now last at) where
   pub at-fits : Following degrees sums from to before → at < length now
@@ -220,7 +221,7 @@ module _ {degrees sums before now : List ℕ} {from to last at : ℕ} (k : Going
   going-met m c = onward-end (c .link) (k .1 c) (inr m)
 
   module _ (h : getD degrees at 0 < 3) where
-    plain : (c : Following degrees sums from to before) → Branch (graphOf (c .link .n) always (c .ends)) (c .link .built) at → ⊥
+    plain : (c : Following degrees sums from to before) → Branch (graph (plan (c .link .n) (c .ends))) (c .link .built) at → ⊥
     plain c = is-plain (c .link .marks) at (to-below (c .link) (k .1 c)) h
 
     pub going-halved : Following degrees sums from to before → Halved sums last at
@@ -247,7 +248,7 @@ module _ {ends degrees used sums marks : List ℕ} {p : ℕ} (c : Linking ends d
   }
 
   abbrev pub second-following : {b : ℕ} {now : List ℕ} → b ≡ getD sums p 0 - a → length now ≡ length marks
-      → Open (graphOf (c .link .n) always ends) (c .link .built) p ((getD sums p 0 - a) ∷ []) now → Following degrees sums p b now
+      → Open (graph (plan (c .link .n) ends)) (c .link .built) p ((getD sums p 0 - a) ∷ []) now → Following degrees sums p b now
   second-following {now = now} q l o = record {
     ends = ends;
     used = used;
@@ -255,6 +256,6 @@ module _ {ends degrees used sums marks : List ℕ} {p : ℕ} (c : Linking ends d
     link = c .link;
     fits = omega (arith, c .fits, l);
     rest = [];
-    onward = subst (λ (x : ℕ). Onward (graphOf (c .link .n) always ends) (c .link .built) p p x [] now) (sym q)
+    onward = subst (λ (x : ℕ). Onward (graph (plan (c .link .n) ends)) (c .link .built) p p x [] now) (sym q)
         (second-way (c .link) (found-built (c .link) k) (found-joins (c .link) k) o);
   }

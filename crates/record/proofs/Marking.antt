@@ -9,7 +9,7 @@ use lib.Dec.{eqb, ltb}
 use lib.ListN.{length, getD, set, length-set}
 use lib.Seq.{getD-set-same, getD-set-other}
 use borrow.Author.Tests.{eq-eqb, ne-eqb, lt-ltb, le-ltb}
-use Rattle.connectivity.specs.Graph.{graphOf, always}
+use Rattle.connectivity.specs.Plan.{plan, graph, limits}
 use Rattle.connectivity.specs.Walk.{Leg, froms}
 use Rattle.connectivity.proofs.Reach.{joins-sym}
 use Rattle.search.proofs.Leads.{joins-below}
@@ -27,9 +27,9 @@ stays marks i u h p = elim (ℕ-discrete u i) [
 -- the legs passed have their marks, the others lead up to the end
 pub record Marking (n : ℕ) (ends marks before : List ℕ) (stop : ℕ) (legs : List Leg) (now : List ℕ) (at : ℕ) : Type 0 where
   pub rest : List Leg
-  pub path : Path (graphOf n always ends) marks at rest stop
+  pub path : Path (graph (plan n ends)) marks at rest stop
   pub apart : In stop (froms rest) → ⊥
-  pub short : length rest ≤ 1000
+  pub short : length rest ≤ limits .vertices
   pub same-long : length now ≡ length before
   pub part : (u : ℕ) → In u (froms rest) → In u (froms legs)
   pub on : (u : ℕ) → In u (froms legs) → In u (froms rest) ⊎ (getD now u 0 ≡ 1)
@@ -52,11 +52,11 @@ marking-start ends marks before v stop = λ c. record {
 
 -- how many vertices are left to mark
 abbrev pub left : List ℕ → List ℕ → ℕ → ℕ → ℕ
-left ends marks stop at = steps (λ u. eqb u stop) (nextUp ends marks) 1000 at
+left ends marks stop at = steps (λ u. eqb u stop) (nextUp ends marks) (limits .vertices) at
 
 module _ {n stop at : ℕ} {ends marks before now : List ℕ} {legs : List Leg} (m : Marking n ends marks before stop legs now at) where
   left-is : left ends marks stop at ≡ length (m .rest)
-  left-is = steps-path n ends (λ u. eqb u stop) 1000 (m .path) (λ u i. ne-eqb u stop (λ p. m .apart (Memᴰ·cast (sym p) i))) (eq-eqb stop stop refl) (m .short)
+  left-is = steps-path n ends (λ u. eqb u stop) (limits .vertices) (m .path) (λ u i. ne-eqb u stop (λ p. m .apart (Memᴰ·cast (sym p) i))) (eq-eqb stop stop refl) (m .short)
 
   pub marking-end : at ≡ stop → stop < length before → MarkedOn legs stop before (set now stop 1)
   marking-end p l =
@@ -104,11 +104,11 @@ marking-less m d l = omega (arith, left-is m, left-is (marking-step m d l), ap l
 -- a way up from `at` to the first marked vertex on it
 pub record Heading (n : ℕ) (ends marks found : List ℕ) (to at : ℕ) : Type 0 where
   pub rest : List Leg
-  pub path : Path (graphOf n always ends) marks at rest to
+  pub path : Path (graph (plan n ends)) marks at rest to
   pub plain : (u : ℕ) → In u (froms rest) → getD found u 0 ≡ 0
   pub met : getD found to 0 ≡ 0 → ⊥
   pub below : to < n
-  pub short : length rest ≤ 1000
+  pub short : length rest ≤ limits .vertices
 
 abbrev pub HeadingAll : List ℕ → List ℕ → List ℕ → ℕ → ℕ → Type 0
 HeadingAll ends marks found v at = (c : Toward ends marks found v) → Heading (c .n) ends marks found (c .to) at
@@ -116,22 +116,22 @@ HeadingAll ends marks found v at = (c : Toward ends marks found v) → Heading (
 pub heading-start : (ends marks found : List ℕ) (v : ℕ) → HeadingAll ends marks found v v
 heading-start ends marks found v = λ c. record { rest = c .legs; path = c .path; plain = c .plain; met = c .met; below = c .below; short = c .short }
 
-path-below : (n : ℕ) (ends : List ℕ) {marks : List ℕ} {v w : ℕ} {legs : List Leg} → Path (graphOf n always ends) marks v legs w → w < n → v < n
+path-below : (n : ℕ) (ends : List ℕ) {marks : List ℕ} {v w : ℕ} {legs : List Leg} → Path (graph (plan n ends)) marks v legs w → w < n → v < n
 path-below n ends there l = l
 path-below n ends (up {v = v} {p = p} h j k) l = joins-below n ends _ p v (joins-sym j)
 
-found-end : (n : ℕ) (ends found : List ℕ) {marks : List ℕ} {v w : ℕ} {legs : List Leg} → Path (graphOf n always ends) marks v legs w
+found-end : (n : ℕ) (ends found : List ℕ) {marks : List ℕ} {v w : ℕ} {legs : List Leg} → Path (graph (plan n ends)) marks v legs w
     → ((u : ℕ) → In u (froms legs) → getD found u 0 ≡ 0) → (getD found v 0 ≡ 0 → ⊥) → v ≡ w
 found-end n ends found there f d = refl
 found-end n ends found (up {v = v} h j k) f d = absurd (d (f v (first refl)))
 
 -- how many vertices are left to pass
 abbrev pub ahead : List ℕ → List ℕ → List ℕ → ℕ → ℕ
-ahead ends marks found at = steps (λ u. ltb 0 (getD found u 0)) (nextUp ends marks) 1000 at
+ahead ends marks found at = steps (λ u. ltb 0 (getD found u 0)) (nextUp ends marks) (limits .vertices) at
 
 module _ {n to at : ℕ} {ends marks found : List ℕ} (m : Heading n ends marks found to at) where
   ahead-is : ahead ends marks found at ≡ length (m .rest)
-  ahead-is = steps-path n ends (λ u. ltb 0 (getD found u 0)) 1000 (m .path)
+  ahead-is = steps-path n ends (λ u. ltb 0 (getD found u 0)) (limits .vertices) (m .path)
       (λ u i. le-ltb 0 (getD found u 0) (omega (arith, m .plain u i))) (lt-ltb 0 (getD found to 0) (omega (arith, m .met))) (m .short)
 
   pub heading-below : at < n

@@ -6,7 +6,7 @@ use Prim.Native.Nat.{ℕ, _≤_, _<_}
 use native.Mathlib.Omega.{arith}
 use native.Mathlib.Decide.{ℕ-discrete}
 use lib.ListN.{length, getD, length-append}
-use Rattle.connectivity.specs.Graph.{graphOf, always}
+use Rattle.connectivity.specs.Plan.{plan, graph}
 use Rattle.connectivity.specs.Walk.{Leg, froms}
 use Rattle.connectivity.proofs.Lists.{in-dec}
 use Rattle.connectivity.proofs.Reach.{joins-sym}
@@ -15,7 +15,7 @@ use Rattle.record.specs.Step.{Path, there, up}
 use Rattle.record.specs.Opening.{Way, MarkedOn, Toward, Meets, Meeting}
 use Rattle.record.proofs.Paths.{FirstOn, first-on, Parted, part-at}
 
-pub from-below : (n : ℕ) (ends : List ℕ) {marks : List ℕ} {v w u : ℕ} {legs : List Leg} → Path (graphOf n always ends) marks v legs w → In u (froms legs) → u < n
+pub from-below : (n : ℕ) (ends : List ℕ) {marks : List ℕ} {v w u : ℕ} {legs : List Leg} → Path (graph (plan n ends)) marks v legs w → In u (froms legs) → u < n
 from-below n ends there i = absurd (not-in i)
 from-below n ends (up {v = v} {p = p} h j k) i = elim (in-cons i) [
   | inl q ↦ subst (λ (u : ℕ). u < n) (sym q) (joins-below n ends _ p v (joins-sym j))
@@ -37,7 +37,7 @@ way-of found c h = record {
 
 module _ {ends marks blank found : List ℕ} {k l r : ℕ} (c : Meets ends marks k l r) (m : MarkedOn (c .one) r blank found) where
   -- the second, parted at its first mark
-  pub at-mark : FirstOn (graphOf (c .n) always ends) marks found l (c .two) r
+  pub at-mark : FirstOn (graph (plan (c .n) ends)) marks found l (c .two) r
   at-mark = first-on found (c .path-two) (λ z. omega (arith, m .end, z))
 
   abbrev pub toward-of : c .n ≤ length found → Toward ends marks found l
@@ -62,9 +62,9 @@ module _ {ends marks blank found : List ℕ} {k l r : ℕ} (c : Meets ends marks
     | no n ↦ elim (ℕ-discrete u r) [ yes p ↦ inr p | no o ↦ absurd (d (m .off u n o ∙ z u)) ]
   ]
 
-  met-at : ((u : ℕ) → getD blank u 0 ≡ 0) → Meeting (graphOf (c .n) always ends) marks k l r (c .one) (c .two) (at-mark .to)
+  met-at : ((u : ℕ) → getD blank u 0 ≡ 0) → Meeting (graph (plan (c .n) ends)) marks k l r (c .one) (c .two) (at-mark .to)
   met-at z =
-      let p : Parted (graphOf (c .n) always ends) marks k (c .one) r (at-mark .to) = part-at (c .path-one) (on-first z (at-mark .to) (at-mark .met)) in
+      let p : Parted (graph (plan (c .n) ends)) marks k (c .one) r (at-mark .to) = part-at (c .path-one) (on-first z (at-mark .to) (at-mark .met)) in
       record {
         low = p .low;
         high = p .high;
@@ -80,5 +80,5 @@ module _ {ends marks blank found : List ℕ} {k l r : ℕ} (c : Meets ends marks
         off-y = λ i. at-mark .met (at-mark .plain (at-mark .to) i);
       }
 
-  pub meeting-at : {y : ℕ} → ((u : ℕ) → getD blank u 0 ≡ 0) → y ≡ at-mark .to → Meeting (graphOf (c .n) always ends) marks k l r (c .one) (c .two) y
-  meeting-at z p = subst (Meeting (graphOf (c .n) always ends) marks k l r (c .one) (c .two)) (sym p) (met-at z)
+  pub meeting-at : {y : ℕ} → ((u : ℕ) → getD blank u 0 ≡ 0) → y ≡ at-mark .to → Meeting (graph (plan (c .n) ends)) marks k l r (c .one) (c .two) y
+  meeting-at z p = subst (Meeting (graph (plan (c .n) ends)) marks k l r (c .one) (c .two)) (sym p) (met-at z)

@@ -8,9 +8,10 @@ use native.Mathlib.Decide.{ℕ-discrete, decLt}
 use lib.Dec.{eqb}
 use lib.ListN.{length, getD, List·getD-eq-default}
 use borrow.Author.Tests.{eq-eqb, ne-eqb}
-use Rattle.connectivity.specs.Graph.{Graph, Edge, Joins, graphOf, always}
+use Rattle.connectivity.specs.Plan.{plan, graph, limits}
+use Rattle.connectivity.specs.Graph.{Graph, Edge, Joins}
 use Rattle.connectivity.specs.Walk.{hits, degree}
-use Rattle.connectivity.specs.Admission.{Admitted, limits}
+use Rattle.connectivity.specs.Admission.{Admitted}
 use Rattle.connectivity.proofs.Admission.{cond-both}
 use Rattle.connectivity.proofs.Degree.{hits-cases, in-degree}
 use Rattle.record.specs.Step.{toward, neighbourSum}
@@ -133,7 +134,7 @@ sum-append g (e ∷ l) r v = omega (arith, sum-append g l r v)
 
 -- How much a sum is at most.
 
-module _ {n : ℕ} {ends : List ℕ} (a : Admitted limits n ends) where
+module _ {n : ℕ} {ends : List ℕ} (a : Admitted limits (plan n ends)) where
   end-below : (k : ℕ) → getD ends k 0 < n
   end-below k = elim (decLt k (length ends)) [
     | yes h ↦ elim (ℕ-discrete (k % 2) 0) [
@@ -143,11 +144,11 @@ module _ {n : ℕ} {ends : List ℕ} (a : Admitted limits n ends) where
     | no h ↦ omega (arith, List·getD-eq-default ends 0 {n = k} (omega (arith, h)), a .two)
   ]
 
-  toward-most : (e v : ℕ) → toward (graphOf n always ends) e v ≤ 1000
-  unfolding toward graphOf
-  toward-most e v = cond-both (λ x. x ≤ 1000) (eqb (getD ends (2 * e) 0) v) (omega (arith, end-below (2 * e + 1), a .vertices))
-      (cond-both (λ x. x ≤ 1000) (eqb (getD ends (2 * e + 1) 0) v) (omega (arith, end-below (2 * e), a .vertices)) (omega arith))
+  toward-most : (e v : ℕ) → toward (graph (plan n ends)) e v ≤ limits .vertices
+  unfolding toward graph
+  toward-most e v = cond-both (λ x. x ≤ limits .vertices) (eqb (getD ends (2 * e) 0) v) (omega (arith, end-below (2 * e + 1), a .vertices))
+      (cond-both (λ x. x ≤ limits .vertices) (eqb (getD ends (2 * e + 1) 0) v) (omega (arith, end-below (2 * e), a .vertices)) (omega arith))
 
-  pub sum-most : (l : List ℕ) (v : ℕ) → neighbourSum (graphOf n always ends) l v ≤ 1000 * length l
+  pub sum-most : (l : List ℕ) (v : ℕ) → neighbourSum (graph (plan n ends)) l v ≤ limits .vertices * length l
   sum-most [] v = omega arith
   sum-most (e ∷ l) v = omega (arith, toward-most e v, sum-most l v)

@@ -5,8 +5,9 @@ use mathlib.Core.List.{List, [], _∷_, _++_, append-nil, append-assoc, List·Me
 use Prim.Native.Nat.{ℕ, _+_, _/_, _≤_, _<_}
 use native.Mathlib.Omega.{arith}
 use lib.ListN.{length, getD, length-append}
-use Rattle.connectivity.specs.Lists.{Distinct, none, one}
-use Rattle.connectivity.specs.Graph.{Graph, Joins, edges, graphOf, always}
+use Rattle.connectivity.specs.Lists.{Distinct, no-member, one}
+use Rattle.connectivity.specs.Plan.{plan, graph}
+use Rattle.connectivity.specs.Graph.{Graph, Joins, edges}
 use Rattle.connectivity.specs.Reach.{Reach, here, over}
 use Rattle.connectivity.specs.Walk.{Leg, Walk, froms, edgesOf, allEdges}
 use Rattle.connectivity.specs.Mader.{Theta, theta}
@@ -40,7 +41,7 @@ path-begins (up h j k) = inl (first refl)
 
 -- A graph without cuts of at most two edges has an edge.
 
-way-edge : (n : ℕ) (ends : List ℕ) {u v : ℕ} {live : ℕ → Type 0} → Reach (graphOf n always ends) live u v → (u ≡ v → ⊥) → 1 ≤ length ends / 2
+way-edge : (n : ℕ) (ends : List ℕ) {u v : ℕ} {live : ℕ → Type 0} → Reach (graph (plan n ends)) live u v → (u ≡ v → ⊥) → 1 ≤ length ends / 2
 way-edge n ends here d = absurd (d refl)
 way-edge n ends (over {u = u} {v = v} e l j k) d = omega (arith, joins-edge n ends e u v j)
 
@@ -49,7 +50,7 @@ has-edge {n} {room} {ends} s = let (u, v, a, b, d) = s .three .two in way-edge n
 
 module _ {n room : ℕ} {ends : List ℕ} (s : Sturdy n ends room) where
   abbrev g : Graph
-  g = graphOf n always ends
+  g = graph (plan n ends)
 
   abbrev r : ℕ
   r = getD ends 0 0
@@ -142,7 +143,7 @@ module _ {n room : ℕ} {ends : List ℕ} (s : Sturdy n ends room) where
 
         round : Distinct (x ∷ (froms (m .low) ++ froms (m .high ++ (leg 0 r ∷ []))))
         round = subst (λ (z : List ℕ). Distinct (x ∷ z)) (sym whole) (one off-round
-            (join-distinct (froms (up-one .legs)) (up-one .once) (one not-in none)
+            (join-distinct (froms (up-one .legs)) (up-one .once) (one not-in no-member)
             (λ v i j. up-one .apart (Memᴰ·cast (sym (eq-of-singleton j)) i))))
 
         side-once : Distinct (froms (m .side))
@@ -223,7 +224,7 @@ module _ {n e d k l y : ℕ} {ends marks : List ℕ} (before : List ℕ) (s : St
     (t : Rooted n ends (getD ends 0 0) (getD ends 1 0) marks) (f : NextDoor ends marks (getD ends 1 0) 0 (length ends / 2) e)
     (h : NextDoor ends marks (getD ends 1 0) e (length ends / 2) d) (to-k : k ≡ farEnd ends e (getD ends 1 0)) (to-l : l ≡ farEnd ends d (getD ends 1 0))
     (m : Met ends marks k l (getD ends 0 0) y) where
-  abbrev met : Meeting (graphOf n always ends) marks k l (getD ends 0 0) (up-one s t f h to-k to-l .legs) (up-two s t f h to-k to-l .legs) y
+  abbrev met : Meeting (graph (plan n ends)) marks k l (getD ends 0 0) (up-one s t f h to-k to-l .legs) (up-two s t f h to-k to-l .legs) y
   met = m (meets s t f h to-k to-l)
 
   pub three-ready : Three ends marks (getD ends 0 0) k l y (length before)

@@ -7,7 +7,8 @@ use Prim.Native.Nat.{ℕ, zero, suc, _-_, _/_, _≤_, _<_}
 use native.Mathlib.Omega.{arith}
 use native.Mathlib.Decide.{ℕ-discrete}
 use lib.ListN.{length, getD}
-use Rattle.connectivity.specs.Graph.{Graph, Joins, graphOf, always}
+use Rattle.connectivity.specs.Plan.{plan, graph}
+use Rattle.connectivity.specs.Graph.{Graph, Joins}
 use Rattle.connectivity.specs.Walk.{Leg, Walk, last, then, far, froms}
 use Rattle.connectivity.proofs.Reach.{joins-sym}
 use Rattle.connectivity.proofs.Legs.{far-is}
@@ -16,11 +17,11 @@ use Rattle.record.specs.Step.{Path, there, up}
 use Rattle.record.specs.Opening.{farEnd, Rises, leg}
 
 -- the far end, as the code has it
-far-same : (n : ℕ) (ends : List ℕ) (e v : ℕ) → far (graphOf n always ends) e v ≡ farEnd ends e v
-unfolding far graphOf
+far-same : (n : ℕ) (ends : List ℕ) (e v : ℕ) → far (graph (plan n ends)) e v ≡ farEnd ends e v
+unfolding far graph
 far-same n ends e v = refl
 
-pub far-end : (n : ℕ) (ends : List ℕ) (e v p : ℕ) → Joins (graphOf n always ends) e v p → farEnd ends e v ≡ p
+pub far-end : (n : ℕ) (ends : List ℕ) (e v p : ℕ) → Joins (graph (plan n ends)) e v p → farEnd ends e v ≡ p
 far-end n ends e v p j = sym (far-same n ends e v) ∙ far-is j
 
 -- the next leg of a way up that is not at its end
@@ -30,9 +31,9 @@ pub record OneUp (n : ℕ) (ends marks : List ℕ) (v : ℕ) (legs : List Leg) (
   pub seen : 1 ≤ getD marks v 0
   pub edge : getD marks v 0 - 1 < length ends / 2
   pub below : v < n
-  pub path : Path (graphOf n always ends) marks (farEnd ends (getD marks v 0 - 1) v) rest stop
+  pub path : Path (graph (plan n ends)) marks (farEnd ends (getD marks v 0 - 1) v) rest stop
 
-pub one-up : {n v stop : ℕ} {ends marks : List ℕ} {legs : List Leg} → Path (graphOf n always ends) marks v legs stop → (v ≡ stop → ⊥)
+pub one-up : {n v stop : ℕ} {ends marks : List ℕ} {legs : List Leg} → Path (graph (plan n ends)) marks v legs stop → (v ≡ stop → ⊥)
     → OneUp n ends marks v legs stop
 one-up there d = absurd (d refl)
 one-up {n = n} {ends = ends} {marks = marks} (up {v = v} {p = p} {w = w} {legs = legs} h j k) d = record {
@@ -41,7 +42,7 @@ one-up {n = n} {ends = ends} {marks = marks} (up {v = v} {p = p} {w = w} {legs =
   seen = h;
   edge = joins-edge n ends _ v p j;
   below = joins-below n ends _ p v (joins-sym j);
-  path = subst (λ (x : ℕ). Path (graphOf n always ends) marks x legs w) (sym (far-end n ends _ v p j)) k;
+  path = subst (λ (x : ℕ). Path (graph (plan n ends)) marks x legs w) (sym (far-end n ends _ v p j)) k;
 }
 
 pub rises : {n v stop : ℕ} {ends marks : List ℕ} {legs : List Leg} → n ≤ length marks → OneUp n ends marks v legs stop → Rises ends marks v
@@ -151,7 +152,7 @@ steps-on done next k v p = rw p
 abbrev pub nextUp : List ℕ → List ℕ → ℕ → ℕ
 nextUp ends marks v = farEnd ends (getD marks v 0 - 1) v
 
-pub steps-path : (n : ℕ) (ends : List ℕ) {v stop : ℕ} {marks : List ℕ} {legs : List Leg} (done : ℕ → Bool) (k : ℕ) → Path (graphOf n always ends) marks v legs stop
+pub steps-path : (n : ℕ) (ends : List ℕ) {v stop : ℕ} {marks : List ℕ} {legs : List Leg} (done : ℕ → Bool) (k : ℕ) → Path (graph (plan n ends)) marks v legs stop
     → ((u : ℕ) → In u (froms legs) → done u ≡ false) → done stop ≡ true → length legs ≤ k → steps done (nextUp ends marks) k v ≡ length legs
 steps-path n ends {v = v} {marks = marks} done k there f t l = steps-done done (nextUp ends marks) k v t
 steps-path n ends done zero (up h j q) f t l = absurd (omega (arith, l))

@@ -6,24 +6,25 @@ use Prim.Native.Nat.{ℕ, _+_, _*_, _/_, _<_}
 use native.Mathlib.Omega.{arith}
 use native.Mathlib.Decide.{ℕ-discrete}
 use lib.ListN.{length, getD}
-use Rattle.connectivity.specs.Graph.{Edge, Joins, graphOf, always}
-use Rattle.connectivity.specs.Admission.{Admitted, limits}
+use Rattle.connectivity.specs.Plan.{plan, graph, limits}
+use Rattle.connectivity.specs.Graph.{Edge, Joins}
+use Rattle.connectivity.specs.Admission.{Admitted}
 use Rattle.connectivity.proofs.Reach.{joins-sym}
 use Rattle.connectivity.proofs.Admission.{admitted-edge}
 use Rattle.record.specs.Opening.{farEnd}
 use Rattle.record.proofs.Paths.{far-end}
 
-pub edge-below : (n : ℕ) (ends : List ℕ) (e : ℕ) → Edge (graphOf n always ends) e → e < length ends / 2
-unfolding graphOf
+pub edge-below : (n : ℕ) (ends : List ℕ) (e : ℕ) → Edge (graph (plan n ends)) e → e < length ends / 2
+unfolding graph
 edge-below n ends e h = h .below
 
-pub table-ends : (n : ℕ) (ends : List ℕ) {e u v : ℕ} → Joins (graphOf n always ends) e u v → (getD ends (2 * e) 0 ≡ u) ⊎ (getD ends (2 * e + 1) 0 ≡ u)
-unfolding graphOf
+pub table-ends : (n : ℕ) (ends : List ℕ) {e u v : ℕ} → Joins (graph (plan n ends)) e u v → (getD ends (2 * e) 0 ≡ u) ⊎ (getD ends (2 * e + 1) 0 ≡ u)
+unfolding graph
 table-ends n ends j = elim (j .ends) [ inl p ↦ inl (p .0) | inr p ↦ inr (p .1) ]
 
-table-joins : {n : ℕ} {ends : List ℕ} → Admitted limits n ends → (e : ℕ) → e < length ends / 2
-    → Joins (graphOf n always ends) e (getD ends (2 * e) 0) (getD ends (2 * e + 1) 0)
-unfolding graphOf
+table-joins : {n : ℕ} {ends : List ℕ} → Admitted limits (plan n ends) → (e : ℕ) → e < length ends / 2
+    → Joins (graph (plan n ends)) e (getD ends (2 * e) 0) (getD ends (2 * e + 1) 0)
+unfolding graph
 table-joins a e h = record { edge = admitted-edge a e h; ends = inl (refl, refl) }
 
 half : (k : ℕ) → (2 * (k / 2) ≡ k) ⊎ (2 * (k / 2) + 1 ≡ k)
@@ -39,7 +40,7 @@ place-of ends e v h (inr q) = (2 * e + 1, omega (arith, h), omega arith, q)
 pub place-at : (ends : List ℕ) (k v : ℕ) → getD ends k 0 ≡ v → (getD ends (2 * (k / 2)) 0 ≡ v) ⊎ (getD ends (2 * (k / 2) + 1) 0 ≡ v)
 place-at ends k v h = elim (half k) [ inl p ↦ inl (ap (λ (i : ℕ). getD ends i 0) p ∙ h) | inr p ↦ inr (ap (λ (i : ℕ). getD ends i 0) p ∙ h) ]
 
-module _ {n : ℕ} {ends : List ℕ} (a : Admitted limits n ends) (k : ℕ) (l : k < length ends) where
+module _ {n : ℕ} {ends : List ℕ} (a : Admitted limits (plan n ends)) (k : ℕ) (l : k < length ends) where
   pub place-edge : k / 2 < length ends / 2
   place-edge = omega (arith, l, a .even)
 
@@ -49,11 +50,11 @@ module _ {n : ℕ} {ends : List ℕ} (a : Admitted limits n ends) (k : ℕ) (l :
     | inr p ↦ subst (λ (v : ℕ). v < n) p (a .fit (k / 2) place-edge .right)
   ]
 
-  pub place-joins : Joins (graphOf n always ends) (k / 2) (getD ends k 0) (farEnd ends (k / 2) (getD ends k 0))
+  pub place-joins : Joins (graph (plan n ends)) (k / 2) (getD ends k 0) (farEnd ends (k / 2) (getD ends k 0))
   place-joins = elim (place-at ends k (getD ends k 0) refl) [
-    | inl p ↦ on _ (subst (λ (v : ℕ). Joins (graphOf n always ends) (k / 2) v (getD ends (2 * (k / 2) + 1) 0)) p (table-joins a (k / 2) place-edge))
-    | inr p ↦ on _ (subst (λ (v : ℕ). Joins (graphOf n always ends) (k / 2) v (getD ends (2 * (k / 2)) 0)) p (joins-sym (table-joins a (k / 2) place-edge)))
+    | inl p ↦ on _ (subst (λ (v : ℕ). Joins (graph (plan n ends)) (k / 2) v (getD ends (2 * (k / 2) + 1) 0)) p (table-joins a (k / 2) place-edge))
+    | inr p ↦ on _ (subst (λ (v : ℕ). Joins (graph (plan n ends)) (k / 2) v (getD ends (2 * (k / 2)) 0)) p (joins-sym (table-joins a (k / 2) place-edge)))
   ]
     where
-      on : (w : ℕ) → Joins (graphOf n always ends) (k / 2) (getD ends k 0) w → Joins (graphOf n always ends) (k / 2) (getD ends k 0) (farEnd ends (k / 2) (getD ends k 0))
-      on w j = subst (Joins (graphOf n always ends) (k / 2) (getD ends k 0)) (sym (far-end n ends (k / 2) (getD ends k 0) w j)) j
+      on : (w : ℕ) → Joins (graph (plan n ends)) (k / 2) (getD ends k 0) w → Joins (graph (plan n ends)) (k / 2) (getD ends k 0) (farEnd ends (k / 2) (getD ends k 0))
+      on w j = subst (Joins (graph (plan n ends)) (k / 2) (getD ends k 0)) (sym (far-end n ends (k / 2) (getD ends k 0) w j)) j

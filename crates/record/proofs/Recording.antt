@@ -1,4 +1,4 @@
--- The record grows by three walks and then ears; when every edge is built it builds the plan.
+-- The record grows by three walks and then Mader-paths; when every edge is built it builds the plan.
 use mathlib.Core.Path.{_≡_, refl, sym, ap, subst, _∙_}
 use mathlib.Core.Logic.{inl, inr}
 use mathlib.Core.List.{List, [], _∷_, _++_, append-nil, append-assoc, List·Memᴰ as In, List·Memᴰ·head as first, List·Memᴰ·tail as later, List·Memᴰ·append-cases as in-cases, Memᴰ·append-left as in-left, Memᴰ·append-right as in-right, List·Memᴰ·cases-cons as in-cons, Memᴰ·cast}
@@ -8,10 +8,11 @@ use native.Mathlib.Decide.{decLt}
 use lib.ListN.{length, getD, drop, take, length-append, List·getD-append}
 use lib.Seq.{drop-append-seam, drop-append-add, drop-drop}
 use Rattle.connectivity.specs.Lists.{Distinct, one}
-use Rattle.connectivity.specs.Graph.{Graph, Edge, graphOf, always, edges}
+use Rattle.connectivity.specs.Plan.{plan, graph, limits}
+use Rattle.connectivity.specs.Graph.{Graph, Edge, edges}
 use Rattle.connectivity.specs.Walk.{Leg, Walk, last, then, edgesOf, allEdges, degree}
-use Rattle.connectivity.specs.Mader.{Steps, theta, ear, stepRows, rows}
-use Rattle.connectivity.specs.Admission.{Admitted, limits}
+use Rattle.connectivity.specs.Mader.{Steps, theta, mader, stepRows, rows}
+use Rattle.connectivity.specs.Admission.{Admitted}
 use Rattle.connectivity.proofs.Lists.{in-dec}
 use Rattle.connectivity.proofs.Search.{edges-are}
 use Rattle.connectivity.proofs.Degree.{degree-append, part-length}
@@ -95,9 +96,9 @@ in-at [] k h = absurd (omega (arith, h))
 in-at (x ∷ l) zero h = first refl
 in-at (x ∷ l) (suc k) h = later (in-at l k (omega (arith, h)))
 
-module _ {n : ℕ} {ends : List ℕ} (a : Admitted limits n ends) {done : List (List Leg)} (p : Steps (graphOf n always ends) done) (d : Distinct (allEdges done)) where
+module _ {n : ℕ} {ends : List ℕ} (a : Admitted limits (plan n ends)) {done : List (List Leg)} (p : Steps (graph (plan n ends)) done) (d : Distinct (allEdges done)) where
   abbrev g : Graph
-  g = graphOf n always ends
+  g = graph (plan n ends)
 
   pub done-most : length (allEdges done) ≤ length ends / 2
   done-most = omega (arith, part-length g (allEdges done) (edges g) d (λ e i. edges-are g e .1 (steps-edges p i)), admitted-edges a)
@@ -137,7 +138,7 @@ written-long : (numbers before after : List ℕ) → Written numbers before afte
 written-long numbers before after w = omega (arith, ap length w, length-append numbers (drop (length numbers) before))
 
 module _ {n : ℕ} {ends before after : List ℕ} {r : ℕ} (s : Sturdy n ends (length before)) (o : Opened n ends before after r) where
-  opened-steps : Steps (graphOf n always ends) (o .walks)
+  opened-steps : Steps (graph (plan n ends)) (o .walks)
   opened-steps = theta (o .theta)
 
   opened-rows : {degrees used sums : List ℕ} → Tables n ends [] degrees used sums → Rowing ends after 0 r degrees used sums
@@ -204,7 +205,7 @@ module _ {n : ℕ} {ends before after : List ℕ} {r : ℕ} (s : Sturdy n ends (
           ∙ drop-drop k (length (rows (o .walks))) before
           ∙ ap (λ (j : ℕ). drop j before) (sym split)
 
--- One ear more.
+-- One Mader-path more.
 
 walk-some : {g : Graph} {u w : ℕ} {legs : List Leg} → Walk g u legs w → 1 ≤ length legs
 walk-some (last e j) = omega arith
@@ -216,7 +217,7 @@ walks-most (legs ∷ done) f = omega (arith, f legs (first refl), walks-most don
 
 steps-most : {g : Graph} {done : List (List Leg)} → Steps g done → length done ≤ length (allEdges done)
 steps-most (theta {walks = walks} t) = walks-most walks (λ legs i. elim (t .between legs i) [ inl k ↦ walk-some k | inr k ↦ walk-some k ])
-steps-most (ear {walks = walks} {legs = legs} p k) = omega (arith, steps-most p, walk-some (k .walk), legs-edges legs, length-append (edgesOf legs) (allEdges walks))
+steps-most (mader {walks = walks} {legs = legs} p k) = omega (arith, steps-most p, walk-some (k .walk), legs-edges legs, length-append (edgesOf legs) (allEdges walks))
 
 module _ {n : ℕ} {ends before now degrees used sums : List ℕ} {first-row row step : ℕ} (s : Sturdy n ends (length before))
     (c : Recording n ends before now degrees used sums first-row row step) where
@@ -258,8 +259,8 @@ module _ {n : ℕ} {ends before now degrees used sums : List ℕ} {first-row row
     abbrev after : List ℕ
     after = take (3 * row) now ++ (part ++ drop (length now - 3 * row) (drop (3 * row) now))
 
-    steps-then : Steps (graphOf n always ends) (e .legs ∷ c .done)
-    steps-then = ear (c .steps) (e .ear)
+    steps-then : Steps (graph (plan n ends)) (e .legs ∷ c .done)
+    steps-then = mader (c .steps) (e .ear)
 
     written-then : Written (rows (e .legs ∷ c .done)) before after
     written-then = written-part (rows (c .done)) (stepRows (length (c .done)) (e .legs)) before now part (3 * row) (c .written) rows-long
@@ -305,7 +306,7 @@ module _ {n : ℕ} {ends before now degrees used sums : List ℕ} {first-row row
     ear-some : 1 ≤ count
     ear-some = omega (arith, e .count, walk-some (e .ear .walk))
 
-  -- one ear more
+  -- one Mader-path more
   pub recording-on : row < length ends / 2 → {degrees' used' sums' : List ℕ} → Rowed ends now first-row row degrees used sums degrees' used' sums'
       → {count : ℕ} {part : List ℕ} → GrownFrom n ends degrees' used' sums' step (take (length now - 3 * row) (drop (3 * row) now)) part count
       → Recording n ends before (take (3 * row) now ++ (part ++ drop (length now - 3 * row) (drop (3 * row) now))) degrees' used' sums' row (row + count) (step + 1)
@@ -328,5 +329,5 @@ module _ {n : ℕ} {ends before now degrees used sums : List ℕ} {first-row row
     written = c .written;
   }
     where
-      all : (e : ℕ) → Edge (graphOf n always ends) e → In e (allEdges (c .done))
+      all : (e : ℕ) → Edge (graph (plan n ends)) e → In e (allEdges (c .done))
       all = done-all (s .admitted) (c .steps) (c .once) (omega (arith, h, recording-most, c .row-is))

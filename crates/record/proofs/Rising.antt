@@ -4,7 +4,7 @@ use mathlib.Core.List.{List, [], _∷_, _++_, append-nil, append-assoc, List·Me
 use Prim.Native.Nat.{ℕ, _+_, _*_, _-_, _≤_}
 use native.Mathlib.Omega.{arith}
 use lib.ListN.{length, getD, length-append}
-use Rattle.connectivity.specs.Graph.{graphOf, always}
+use Rattle.connectivity.specs.Plan.{plan, graph}
 use Rattle.connectivity.specs.Walk.{Leg, froms}
 use Rattle.connectivity.specs.Mader.{stepRows}
 use Rattle.record.specs.Step.{Path, Written, Climbing}
@@ -16,7 +16,7 @@ pub record Rising (n : ℕ) (ends marks before : List ℕ) (stop step : ℕ) (le
   pub done : List Leg
   pub rest : List Leg
   pub whole : legs ≡ done ++ rest
-  pub path : Path (graphOf n always ends) marks at rest stop
+  pub path : Path (graph (plan n ends)) marks at rest stop
   pub apart : In stop (froms rest) → ⊥
   pub counted : count ≡ length done
   pub written : Written (stepRows step done) before now

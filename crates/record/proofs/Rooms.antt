@@ -7,10 +7,11 @@ use native.Mathlib.Omega.{arith}
 use lib.ListN.{length, getD, set, drop, length-append}
 use lib.Seq.{drop-cons}
 use Rattle.connectivity.specs.Lists.{Distinct}
-use Rattle.connectivity.specs.Graph.{Edge, edges, graphOf, always}
+use Rattle.connectivity.specs.Plan.{plan, graph, limits}
+use Rattle.connectivity.specs.Graph.{Edge, edges}
 use Rattle.connectivity.specs.Walk.{Leg, edgesOf}
 use Rattle.connectivity.specs.Mader.{stepRows}
-use Rattle.connectivity.specs.Admission.{Admitted, limits}
+use Rattle.connectivity.specs.Admission.{Admitted}
 use Rattle.connectivity.proofs.Search.{edges-are}
 use Rattle.connectivity.proofs.Degree.{part-length}
 use Rattle.connectivity.proofs.Admission.{admitted-edges}
@@ -25,11 +26,11 @@ pub legs-edges : (legs : List Leg) → length (edgesOf legs) ≡ length legs
 legs-edges [] = refl
 legs-edges (l ∷ legs) = ap suc (legs-edges legs)
 
-pub most-edges : {n : ℕ} {ends : List ℕ} (legs : List Leg) (built : List ℕ) → Admitted limits n ends → Distinct (edgesOf legs ++ built)
-    → ((e : ℕ) → In e (edgesOf legs) → Edge (graphOf n always ends) e) → ((e : ℕ) → In e built → Edge (graphOf n always ends) e)
+pub most-edges : {n : ℕ} {ends : List ℕ} (legs : List Leg) (built : List ℕ) → Admitted limits (plan n ends) → Distinct (edgesOf legs ++ built)
+    → ((e : ℕ) → In e (edgesOf legs) → Edge (graph (plan n ends)) e) → ((e : ℕ) → In e built → Edge (graph (plan n ends)) e)
     → length legs + length built ≤ length ends / 2
 most-edges {n} {ends} legs built a d f h =
-    let g = graphOf n always ends in
+    let g = graph (plan n ends) in
     let p = part-length g (edgesOf legs ++ built) (edges g) d (λ e i. edges-are g e .1 (elim (in-cases (edgesOf legs) i) [ inl j ↦ f e j | inr j ↦ h e j ])) in
     omega (arith, p, length-append (edgesOf legs) built, legs-edges legs, admitted-edges a)
 

@@ -7,15 +7,16 @@ use native.Mathlib.Omega.{arith}
 use native.Mathlib.Decide.{ℕ-discrete}
 use lib.ListN.{length, getD, set, length-set}
 use lib.Seq.{getD-set-same, getD-set-other}
-use Rattle.connectivity.specs.Graph.{Graph, graphOf, always}
-use Rattle.connectivity.specs.Reach.{Through, stay, leave}
+use Rattle.connectivity.specs.Plan.{plan, graph, limits}
+use Rattle.connectivity.specs.Graph.{Graph}
+use Rattle.connectivity.proofs.Through.{Through, stay, leave}
 use Rattle.connectivity.specs.Walk.{Leg, froms}
-use Rattle.connectivity.specs.Admission.{Answer, Admitted, limits}
-use Rattle.search.specs.Search.{Live, Pass, Start, Goal, Marked, Tree, Found, Whole, Answered}
+use Rattle.connectivity.specs.Admission.{Answer, Admitted}
+use Rattle.search.specs.Search.{Live, Pass, Start, Goal, Marked, Tree, Found, Whole}
 use Rattle.search.specs.declared.Explored.{Explored}
 use Rattle.search.specs.declared.Explored.the-variants.{Refused, Seen, Met}
 use Rattle.search.proofs.Climb as trees
-use Rattle.search.proofs.Outcomes.{enough-room}
+use Rattle.search.proofs.Outcomes.{enough-room, Cases}
 use Rattle.search.proofs.Leads.{joins-edge}
 use Rattle.search.proofs.Tally.{tally-le}
 use Rattle.record.specs.Step.{Path, there, up}
@@ -30,7 +31,7 @@ climb-off f (trees.top h) n i = not-in i
 climb-off f (trees.up r u) n i = elim (in-cons i) [ inl p ↦ n (sym p) | inr m ↦ climb-off f u (f _ (r .from-pass)) m ]
 
 -- a vertex that a way up leaves was reached by an edge
-path-edge : (n : ℕ) (ends : List ℕ) {marks : List ℕ} {v w u : ℕ} {legs : List Leg} → Path (graphOf n always ends) marks v legs w → In u (froms legs)
+path-edge : (n : ℕ) (ends : List ℕ) {marks : List ℕ} {v w u : ℕ} {legs : List Leg} → Path (graph (plan n ends)) marks v legs w → In u (froms legs)
     → getD marks u 0 ≤ length ends / 2
 path-edge n ends there i = absurd (not-in i)
 path-edge n ends {marks} {u = u} (up {v = v} {p = p} h j k) i = elim (in-cons i) [
@@ -48,10 +49,10 @@ through-map f h (leave e l p j k) = leave e (f e l) (h _ p) j (through-map f h k
 abbrev pub rolesOf : List ℕ → ℕ → ℕ → List ℕ
 rolesOf blank r x = set (set blank r 1) x 2
 
-module _ (n r x : ℕ) (ends blank dead : List ℕ) (a : Admitted limits n ends) (root : r < n) (other : x < n) (different : r ≡ x → ⊥)
+module _ (n r x : ℕ) (ends blank dead : List ℕ) (a : Admitted limits (plan n ends)) (root : r < n) (other : x < n) (different : r ≡ x → ⊥)
     (room : n ≤ length blank) (plain : (k : ℕ) → getD blank k 0 ≡ 0) (alive : (k : ℕ) → getD dead k 0 ≡ 0) where
   abbrev g : Graph
-  g = graphOf n always ends
+  g = graph (plan n ends)
 
   abbrev roles : List ℕ
   roles = rolesOf blank r x
@@ -117,7 +118,7 @@ module _ (n r x : ℕ) (ends blank dead : List ℕ) (a : Admitted limits n ends)
 
   -- the answer of the search
   module _ (first₀ order₀ marks order : List ℕ) (edges : length ends / 2 ≤ length dead) (first-room : n ≤ length first₀) (order-room : n ≤ length order₀) where
-    pub rooted-by : n ≤ length marks → (found : Explored) → Answered n ends roles dead first₀ order₀ marks order found → Rooted n ends r x marks
+    pub rooted-by : n ≤ length marks → (found : Explored) → Cases limits (plan n ends) roles dead first₀ order₀ marks order found → Rooted n ends r x marks
     rooted-by long (Refused answer) h = absurd (h .0 .0 (ap (λ (z : Answer). z .number) (enough-room n ends roles dead first₀ order₀ a (roles-room, (edges, (first-room, order-room))))))
     rooted-by long (Seen count) h = rooted (h .1) (h .2) long
     rooted-by long (Met count) h = absurd (no-goal _ (h .2 .met))

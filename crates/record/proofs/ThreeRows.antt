@@ -4,6 +4,7 @@ use mathlib.Core.List.{List, [], _∷_, _++_}
 use Prim.Native.Nat.{ℕ, _+_, _*_, _-_, _≤_}
 use native.Mathlib.Omega.{arith}
 use lib.ListN.{length, take, drop, length-append}
+use Rattle.connectivity.specs.Plan.{limits}
 use Rattle.connectivity.specs.Walk.{Leg}
 use Rattle.connectivity.specs.Mader.{stepRows, rows}
 use Rattle.record.specs.Step.{Written, Climbing, Climbed}
@@ -35,7 +36,7 @@ module _ {ends marks : List ℕ} {y r : ℕ} (before now : List ℕ) (count : �
       let w = u rise in
       omega (arith, w .1, c .fits, h, written-length (stepRows 0 (c .legs)) before now (w .0) (omega (arith, rows-length 0 (c .legs), c .fits, h)))
 
-  pub up-few : count ≤ 1000
+  pub up-few : count ≤ limits .vertices
   up-few = omega (arith, u rise .1, c .short)
 
   pub up-over : Written (stepRows 0 (c .legs ++ (leg 0 r ∷ []))) before (withRow now count 0 0 r) × (count + 1 ≡ length (c .legs) + 1)
@@ -61,7 +62,7 @@ module _ {ends marks : List ℕ} {k y : ℕ} (before : List ℕ) (e x step : ℕ
   abbrev pub onward : Climbing ends marks k y (length (take (length opened - 3) (drop 3 opened)))
   onward = roomier (length before - 3) (length (take (length opened - 3) (drop 3 opened))) (omega (arith, part-long opened 3, long)) c
 
-  pub over-few : (part : List ℕ) (count : ℕ) → Climbed ends marks k y step (take (length opened - 3) (drop 3 opened)) part count → count ≤ 1000
+  pub over-few : (part : List ℕ) (count : ℕ) → Climbed ends marks k y step (take (length opened - 3) (drop 3 opened)) part count → count ≤ limits .vertices
   over-few part count u = omega (arith, u onward .1, c .short)
 
   pub over-up : (part : List ℕ) (count : ℕ) → Climbed ends marks k y step (take (length opened - 3) (drop 3 opened)) part count

@@ -1,13 +1,14 @@
--- What the parts of the search for the next ear answer.
+-- What the parts of the search for the next Mader-path answer.
 use mathlib.Core.Path.{_≡_}
 use mathlib.Core.Logic.{_⊎_}
 use mathlib.Core.List.{List, _∷_, List·Memᴰ as In}
 use Prim.Native.Nat.{ℕ, _-_, _*_, _/_, _≤_, _<_}
 use lib.ListN.{length, getD}
 use Rattle.connectivity.specs.Lists.{Distinct}
-use Rattle.connectivity.specs.Graph.{Graph, Edge, Joins, graphOf, always}
+use Rattle.connectivity.specs.Plan.{plan, graph, limits}
+use Rattle.connectivity.specs.Graph.{Graph, Edge, Joins}
 use Rattle.connectivity.specs.Walk.{Leg, Walk, froms, inner, edgesOf, degree, Built, Branch}
-use Rattle.connectivity.specs.Admission.{Admitted, limits}
+use Rattle.connectivity.specs.Admission.{Admitted}
 use Rattle.connectivity.proofs.Grow.{Inside}
 use Rattle.search.specs.Search.{Live, Marked, FromStart}
 use Rattle.connectivity.specs.Mader.{stepRows}
@@ -21,7 +22,7 @@ pub record Filled (R : ℕ → ℕ → Type 0) (k : ℕ) (list : List ℕ) : Typ
 -- a built vertex that is no branch, or n if every built vertex is one
 pub record PlainVertex (n : ℕ) (degrees : List ℕ) (r : ℕ) : Type 0 where
   pub found : r < n → (1 ≤ getD degrees r 0) × (getD degrees r 0 < 3)
-  pub none : n ≤ r → (v : ℕ) → v < n → 1 ≤ getD degrees v 0 → 3 ≤ getD degrees v 0
+  pub no-plain : n ≤ r → (v : ℕ) → v < n → 1 ≤ getD degrees v 0 → 3 ≤ getD degrees v 0
 
 -- roles for the search from what is marked, through what is not built, to any other that is
 pub data EarRole (degrees marks : List ℕ) (v r : ℕ) : Type 0 where
@@ -34,15 +35,15 @@ pub data EarRole (degrees marks : List ℕ) (v r : ℕ) : Type 0 where
 -- what the tables say of it: p is built and no branch, and each such vertex has two built edges
 pub record Linked (ends degrees used sums : List ℕ) (p : ℕ) : Type 0 where
   pub n : ℕ
-  pub admitted : Admitted limits n ends
+  pub admitted : Admitted limits (plan n ends)
   pub built : List ℕ
-  pub edges : (e : ℕ) → In e built → Edge (graphOf n always ends) e
+  pub edges : (e : ℕ) → In e built → Edge (graph (plan n ends)) e
   pub marks : Marks n ends built degrees used
   pub sums-are : Sums n ends built sums
-  pub two : (v : ℕ) → Built (graphOf n always ends) built v → (Branch (graphOf n always ends) built v → ⊥) → degree (graphOf n always ends) built v ≡ 2
+  pub two : (v : ℕ) → Built (graph (plan n ends)) built v → (Branch (graph (plan n ends)) built v → ⊥) → degree (graph (plan n ends)) built v ≡ 2
   pub below : p < n
-  pub start : Built (graphOf n always ends) built p
-  pub plain : Branch (graphOf n always ends) built p → ⊥
+  pub start : Built (graph (plan n ends)) built p
+  pub plain : Branch (graph (plan n ends)) built p → ⊥
 
 -- the vertices inside are marked, and no other
 pub record Marking (g : Graph) (built : List ℕ) (p : ℕ) (marks : List ℕ) : Type 0 where
@@ -71,17 +72,17 @@ pub record Following (degrees sums : List ℕ) (from to : ℕ) (marks : List ℕ
   pub link : Linked ends degrees used sums p
   pub fits : link .n ≤ length marks
   pub rest : List ℕ
-  pub onward : Onward (graphOf (link .n) always ends) (link .built) p from to rest marks
+  pub onward : Onward (graph (plan (link .n) ends)) (link .built) p from to rest marks
 
 abbrev pub Followed : List ℕ → List ℕ → ℕ → ℕ → List ℕ → List ℕ → Type 0
 Followed degrees sums from to before after =
-    (c : Following degrees sums from to before) → Open (graphOf (c .link .n) always (c .ends)) (c .link .built) (c .p) (c .rest) after
+    (c : Following degrees sums from to before) → Open (graph (plan (c .link .n) (c .ends))) (c .link .built) (c .p) (c .rest) after
 
 -- what `beyond` asks: one of the two neighbours that a sum is made of
 pub record Halved (sums : List ℕ) (u v : ℕ) : Type 0 where
   pub long : v < length sums
   pub least : u ≤ getD sums v 0
-  pub most : getD sums v 0 - u < 1000
+  pub most : getD sums v 0 - u < limits .vertices
 
 -- the end at place k is v, and its edge is built
 pub record BuiltAt (ends used : List ℕ) (v k : ℕ) : Type 0 where
@@ -90,7 +91,7 @@ pub record BuiltAt (ends used : List ℕ) (v k : ℕ) : Type 0 where
 
 -- what the search for one asks: there is one; and the vertex that its edge leads to
 pub record Neighbouring (ends used : List ℕ) (v : ℕ) : Type 0 where
-  pub few : length ends / 2 ≤ 4000
+  pub few : length ends / 2 ≤ limits .edges
   pub even : length ends ≡ 2 * (length ends / 2)
   pub used-room : length ends / 2 ≤ length used
   pub some : ((k : ℕ) → k < length ends → BuiltAt ends used v k → ⊥) → ⊥
@@ -109,7 +110,7 @@ pub record Linking (ends degrees used sums : List ℕ) (p : ℕ) (marks : List �
 
 abbrev pub MarkedBy : List ℕ → List ℕ → List ℕ → List ℕ → ℕ → List ℕ → List ℕ → Type 0
 MarkedBy ends degrees used sums p before after =
-    (c : Linking ends degrees used sums p before) → Marking (graphOf (c .link .n) always ends) (c .link .built) p after
+    (c : Linking ends degrees used sums p before) → Marking (graph (plan (c .link .n) ends)) (c .link .built) p after
 
 -- what the search from what is marked for a built vertex asks: it can't but see one
 abbrev pub Outside : List ℕ → List ℕ → ℕ → Type 0
@@ -119,12 +120,12 @@ abbrev pub Crosses : List ℕ → List ℕ → ℕ → Type 0
 Crosses degrees marks v = Marked marks v ⊎ (getD degrees v 0 ≡ 0)
 
 pub record Exiting (n : ℕ) (ends degrees marks dead : List ℕ) (room : ℕ) : Type 0 where
-  pub admitted : Admitted limits n ends
+  pub admitted : Admitted limits (plan n ends)
   pub degrees-room : n ≤ length degrees
   pub marks-room : n ≤ length marks
   pub dead-room : length ends / 2 ≤ length dead
   pub fits : n ≤ room
-  pub some : ((v : ℕ) → v < n → Outside degrees marks v → FromStart (graphOf n always ends) (Live dead) (Crosses degrees marks) (Marked marks) n v → ⊥) → ⊥
+  pub some : ((v : ℕ) → v < n → Outside degrees marks v → FromStart (graph (plan n ends)) (Live dead) (Crosses degrees marks) (Marked marks) n v → ⊥) → ⊥
 
 -- and what it leaves: a way up from such a vertex to one that is marked, over live edges, through vertices that are not built
 pub record Exited (n : ℕ) (ends degrees marks dead first : List ℕ) (t : ℕ) : Type 0 where
@@ -135,8 +136,8 @@ pub record Exited (n : ℕ) (ends degrees marks dead first : List ℕ) (t : ℕ)
   pub from-start : Marked marks from
   pub top : getD first from 0 ≡ 65535
   pub legs : List Leg
-  pub path : Path (graphOf n always ends) first t legs from
-  pub walk : Walk (graphOf n always ends) t legs from
+  pub path : Path (graph (plan n ends)) first t legs from
+  pub walk : Walk (graph (plan n ends)) t legs from
   pub once : Distinct (froms legs)
   pub through : (v : ℕ) → In v (inner legs) → (v < n) × (Marked marks v → ⊥) × (getD degrees v 0 ≡ 0)
   pub live : (e : ℕ) → In e (edgesOf legs) → Live dead e
@@ -144,7 +145,7 @@ pub record Exited (n : ℕ) (ends degrees marks dead first : List ℕ) (t : ℕ)
 
 -- what the writing of this way asks, and what it leaves
 pub record Leaving (n : ℕ) (ends degrees marks dead : List ℕ) (room : ℕ) : Type 0 where
-  pub exiting : Exiting n ends degrees marks dead 1000
+  pub exiting : Exiting n ends degrees marks dead (limits .vertices)
   pub space : {first : List ℕ} {t : ℕ} (x : Exited n ends degrees marks dead first t) → 3 * length (x .legs) ≤ room
 
 pub record WalkedOut (n : ℕ) (ends degrees marks dead : List ℕ) (step : ℕ) (before after : List ℕ) (r : ℕ) : Type 0 where
@@ -177,7 +178,7 @@ pub record OpenAt (ends degrees used : List ℕ) (k : ℕ) : Type 0 where
 pub record Across (n : ℕ) (ends degrees used : List ℕ) (e u : ℕ) : Type 0 where
   pub unused : getD used e 0 ≡ 0
   pub from : ℕ
-  pub joins : Joins (graphOf n always ends) e from u
+  pub joins : Joins (graph (plan n ends)) e from u
   pub built : 1 ≤ getD degrees from 0
 
 -- u and no other is marked
@@ -185,7 +186,7 @@ pub record Alone (u : ℕ) (marks : List ℕ) : Type 0 where
   pub marked : Marked marks u
   pub only : (v : ℕ) → Marked marks v → v ≡ u
 
--- the state from which an ear grows out of a link, and where every built vertex is a branch
+-- the state from which a Mader-path grows out of a link, and where every built vertex is a branch
 pub record GrowingLink (n : ℕ) (ends degrees used sums : List ℕ) (p room : ℕ) : Type 0 where
   pub ready : Ready n ends degrees used sums room
   pub below : p < n

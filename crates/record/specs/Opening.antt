@@ -7,11 +7,12 @@ use Prim.Native.Nat.{ℕ, _+_, _-_, _*_, _/_, _≤_, _<_}
 use lib.Dec.{eqb}
 use lib.ListN.{length, getD, set}
 use Rattle.connectivity.specs.Lists.{Distinct}
-use Rattle.connectivity.specs.Graph.{Graph, Edge, graphOf, always}
-use Rattle.connectivity.specs.Reach.{Through}
+use Rattle.connectivity.specs.Plan.{plan, graph, limits}
+use Rattle.connectivity.specs.Graph.{Graph, Edge}
+use Rattle.connectivity.proofs.Through.{Through}
 use Rattle.connectivity.specs.Walk.{Leg, froms}
 use Rattle.connectivity.specs.Mader.{stepRows, rows}
-use Rattle.connectivity.specs.Admission.{Admitted, limits}
+use Rattle.connectivity.specs.Admission.{Admitted}
 use Rattle.search.specs.Search.{Marked}
 use Rattle.record.specs.Step.{Path, Written, Climbing, Sturdy, Opened}
 
@@ -32,7 +33,7 @@ pub record Rises (ends first : List ℕ) (v : ℕ) : Type 0 where
 -- The search from r that does not pass through x.
 
 pub record Around (n : ℕ) (ends : List ℕ) (r x : ℕ) (first : List ℕ) : Type 0 where
-  pub admitted : Admitted limits n ends
+  pub admitted : Admitted limits (plan n ends)
   pub root : r < n
   pub other : x < n
   pub different : r ≡ x → ⊥
@@ -45,12 +46,12 @@ pub record Up (g : Graph) (first : List ℕ) (r x v : ℕ) : Type 0 where
   pub once : Distinct (froms legs)
   pub apart : In r (froms legs) → ⊥
   pub off : In x (froms legs) → ⊥
-  pub short : length legs ≤ 1000
+  pub short : length legs ≤ limits .vertices
 
 pub record Rooted (n : ℕ) (ends : List ℕ) (r x : ℕ) (first : List ℕ) : Type 0 where
   pub long : n ≤ length first
-  pub ways : (v : ℕ) → v < n → Marked first v → (v ≡ x → ⊥) → Up (graphOf n always ends) first r x v
-  pub whole : (v : ℕ) → v < n → Through (graphOf n always ends) (Edge (graphOf n always ends)) (λ u. u ≡ x → ⊥) r v → Marked first v
+  pub ways : (v : ℕ) → v < n → Marked first v → (v ≡ x → ⊥) → Up (graph (plan n ends)) first r x v
+  pub whole : (v : ℕ) → v < n → Through (graph (plan n ends)) (Edge (graph (plan n ends))) (λ u. u ≡ x → ⊥) r v → Marked first v
 
 -- what the three walks ask after the search from one end of edge 0 around the other
 pub record Searched (ends first : List ℕ) (room : ℕ) : Type 0 where
@@ -75,7 +76,7 @@ pub record DoorFits (ends first : List ℕ) (e : ℕ) : Type 0 where
 
 pub record DoorsFit (ends first : List ℕ) (edges : ℕ) : Type 0 where
   pub fit : (e : ℕ) → e < edges → DoorFits ends first e
-  pub few : edges ≤ 4000
+  pub few : edges ≤ limits .edges
 
 -- the lowest above `after`, or `edges` for none
 pub record NextDoor (ends first : List ℕ) (x after edges r : ℕ) : Type 0 where
@@ -89,14 +90,14 @@ pub record NextDoor (ends first : List ℕ) (x after edges r : ℕ) : Type 0 whe
 -- a way up that comes to `stop` once, and a mark for each vertex
 pub record Way (ends first : List ℕ) (v stop marks : ℕ) : Type 0 where
   pub n : ℕ
-  pub admitted : Admitted limits n ends
+  pub admitted : Admitted limits (plan n ends)
   pub long : n ≤ length first
   pub room : n ≤ marks
   pub to : stop < n
   pub legs : List Leg
-  pub path : Path (graphOf n always ends) first v legs stop
+  pub path : Path (graph (plan n ends)) first v legs stop
   pub apart : In stop (froms legs) → ⊥
-  pub short : length legs ≤ 1000
+  pub short : length legs ≤ limits .vertices
 
 -- its vertices have the mark 1, the marks of all others stay
 pub record MarkedOn (legs : List Leg) (stop : ℕ) (before after : List ℕ) : Type 0 where
@@ -111,16 +112,16 @@ MarkedUp ends first v stop before after = (c : Way ends first v stop (length bef
 -- a way up to the first marked vertex on it
 pub record Toward (ends first marks : List ℕ) (v : ℕ) : Type 0 where
   pub n : ℕ
-  pub admitted : Admitted limits n ends
+  pub admitted : Admitted limits (plan n ends)
   pub long : n ≤ length first
   pub room : n ≤ length marks
   pub to : ℕ
   pub below : to < n
   pub legs : List Leg
-  pub path : Path (graphOf n always ends) first v legs to
+  pub path : Path (graph (plan n ends)) first v legs to
   pub plain : (u : ℕ) → In u (froms legs) → getD marks u 0 ≡ 0
   pub met : Marked marks to
-  pub short : length legs ≤ 1000
+  pub short : length legs ≤ limits .vertices
 
 abbrev pub MetFirst : List ℕ → List ℕ → List ℕ → ℕ → ℕ → Type 0
 MetFirst ends first marks v r = (c : Toward ends first marks v) → r ≡ c .to
@@ -128,16 +129,16 @@ MetFirst ends first marks v r = (c : Toward ends first marks v) → r ≡ c .to
 -- two ways up to r
 pub record Meets (ends first : List ℕ) (k l r : ℕ) : Type 0 where
   pub n : ℕ
-  pub admitted : Admitted limits n ends
+  pub admitted : Admitted limits (plan n ends)
   pub long : n ≤ length first
   pub to : r < n
   pub one : List Leg
-  pub path-one : Path (graphOf n always ends) first k one r
+  pub path-one : Path (graph (plan n ends)) first k one r
   pub apart-one : In r (froms one) → ⊥
-  pub short-one : length one ≤ 1000
+  pub short-one : length one ≤ limits .vertices
   pub two : List Leg
-  pub path-two : Path (graphOf n always ends) first l two r
-  pub short-two : length two ≤ 1000
+  pub path-two : Path (graph (plan n ends)) first l two r
+  pub short-two : length two ≤ limits .vertices
 
 -- y parts the first; the second comes to y before it comes to any other vertex of the first
 pub record Meeting (g : Graph) (first : List ℕ) (k l r : ℕ) (one two : List Leg) (y : ℕ) : Type 0 where
@@ -155,7 +156,7 @@ pub record Meeting (g : Graph) (first : List ℕ) (k l r : ℕ) (one two : List 
   pub off-y : In y (froms side) → ⊥
 
 abbrev pub Met : List ℕ → List ℕ → ℕ → ℕ → ℕ → ℕ → Type 0
-Met ends first k l r y = (c : Meets ends first k l r) → Meeting (graphOf (c .n) always ends) first k l r (c .one) (c .two) y
+Met ends first k l r y = (c : Meets ends first k l r) → Meeting (graph (plan (c .n) ends)) first k l r (c .one) (c .two) y
 
 -- The rows.
 
@@ -177,20 +178,20 @@ OverUp ends first e x k y step before after q =
 -- the three ways up, and room for their rows
 pub record Three (ends first : List ℕ) (r k l y room : ℕ) : Type 0 where
   pub n : ℕ
-  pub admitted : Admitted limits n ends
+  pub admitted : Admitted limits (plan n ends)
   pub long : n ≤ length first
   pub high : List Leg
-  pub path-high : Path (graphOf n always ends) first y high r
+  pub path-high : Path (graph (plan n ends)) first y high r
   pub apart-high : In r (froms high) → ⊥
-  pub short-high : length high ≤ 1000
+  pub short-high : length high ≤ limits .vertices
   pub low : List Leg
-  pub path-low : Path (graphOf n always ends) first k low y
+  pub path-low : Path (graph (plan n ends)) first k low y
   pub apart-low : In y (froms low) → ⊥
-  pub short-low : length low ≤ 1000
+  pub short-low : length low ≤ limits .vertices
   pub side : List Leg
-  pub path-side : Path (graphOf n always ends) first l side y
+  pub path-side : Path (graph (plan n ends)) first l side y
   pub apart-side : In y (froms side) → ⊥
-  pub short-side : length side ≤ 1000
+  pub short-side : length side ≤ limits .vertices
   pub fits : 3 * (length high + length low + length side + 3) ≤ room
 
 -- the three walks, the latest first

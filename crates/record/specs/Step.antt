@@ -1,4 +1,4 @@
--- What is written of a step: the rows along first edges, the first three walks, and an ear.
+-- What is written of a step: the rows along first edges, the first three walks, and a Mader-path.
 use mathlib.Core.Path.{_≡_}
 use mathlib.Core.Bool.{cond}
 use mathlib.Core.List.{List, [], _∷_, _++_, List·Memᴰ as In}
@@ -6,11 +6,12 @@ use Prim.Native.Nat.{ℕ, _+_, _-_, _*_, _/_, _≤_, _<_}
 use lib.Dec.{eqb}
 use lib.ListN.{length, getD, drop}
 use Rattle.connectivity.specs.Lists.{Distinct}
-use Rattle.connectivity.specs.Graph.{Graph, Joins, graphOf, always}
+use Rattle.connectivity.specs.Plan.{plan, graph, limits}
+use Rattle.connectivity.specs.Graph.{Graph, Joins}
 use Rattle.connectivity.specs.Reach.{ThreeEdgeConnected}
 use Rattle.connectivity.specs.Walk.{Leg, froms, edgesOf, allEdges, degree}
-use Rattle.connectivity.specs.Mader.{Theta, Ear, Steps, stepRows, rows}
-use Rattle.connectivity.specs.Admission.{Admitted, limits}
+use Rattle.connectivity.specs.Mader.{Theta, MaderPath, Steps, stepRows, rows}
+use Rattle.connectivity.specs.Admission.{Admitted}
 
 -- from v up to w: each leg leaves a vertex over its first edge
 pub data Path (g : Graph) (first : List ℕ) : ℕ → List Leg → ℕ → Type 0 where
@@ -25,13 +26,13 @@ Written numbers before after = after ≡ numbers ++ drop (length numbers) before
 -- what `climb` asks: a way up along first edges that comes to `stop` once, and room for its rows
 pub record Climbing (ends first : List ℕ) (v stop room : ℕ) : Type 0 where
   pub n : ℕ
-  pub admitted : Admitted limits n ends
+  pub admitted : Admitted limits (plan n ends)
   pub long : n ≤ length first
   pub legs : List Leg
-  pub path : Path (graphOf n always ends) first v legs stop
+  pub path : Path (graph (plan n ends)) first v legs stop
   pub apart : In stop (froms legs) → ⊥
   pub fits : 3 * length legs ≤ room
-  pub short : length legs ≤ 1000
+  pub short : length legs ≤ limits .vertices
 
 abbrev pub Climbed : List ℕ → List ℕ → ℕ → ℕ → ℕ → List ℕ → List ℕ → ℕ → Type 0
 Climbed ends first v stop step before after r =
@@ -39,8 +40,8 @@ Climbed ends first v stop step before after r =
 
 -- a plan with no cut of at most two edges, and a list with room for its rows
 pub record Sturdy (n : ℕ) (ends : List ℕ) (room : ℕ) : Type 0 where
-  pub admitted : Admitted limits n ends
-  pub three : ThreeEdgeConnected (graphOf n always ends)
+  pub admitted : Admitted limits (plan n ends)
+  pub three : ThreeEdgeConnected (graph (plan n ends))
   pub fits : 3 * (length ends / 2) ≤ room
 
 -- the first three walks, the latest first
@@ -48,16 +49,16 @@ pub record Opened (n : ℕ) (ends before after : List ℕ) (r : ℕ) : Type 0 wh
   pub a : ℕ
   pub b : ℕ
   pub walks : List (List Leg)
-  pub theta : Theta (graphOf n always ends) a b walks
+  pub theta : Theta (graph (plan n ends)) a b walks
   pub once : Distinct (allEdges walks)
   pub written : Written (rows walks) before after
   pub count : r ≡ length (allEdges walks)
 
 -- the marks say what is built: how many built edges each vertex has, and 1 for each built edge, 0 for any other
 pub record Marks (n : ℕ) (ends built degrees used : List ℕ) : Type 0 where
-  pub degrees-long : length degrees ≡ 1000
-  pub used-long : length used ≡ 4000
-  pub degrees-are : (v : ℕ) → v < n → getD degrees v 0 ≡ degree (graphOf n always ends) built v
+  pub degrees-long : length degrees ≡ limits .vertices
+  pub used-long : length used ≡ limits .edges
+  pub degrees-are : (v : ℕ) → v < n → getD degrees v 0 ≡ degree (graph (plan n ends)) built v
   pub used-built : (e : ℕ) → In e built → getD used e 0 ≡ 1
   pub used-other : (e : ℕ) → (In e built → ⊥) → getD used e 0 ≡ 0
 
@@ -72,15 +73,15 @@ neighbourSum g (e ∷ built) v = toward g e v + neighbourSum g built v
 
 -- a table of these sums
 pub record Sums (n : ℕ) (ends built sums : List ℕ) : Type 0 where
-  pub long : length sums ≡ 1000
-  pub are : (v : ℕ) → v < n → getD sums v 0 ≡ neighbourSum (graphOf n always ends) built v
+  pub long : length sums ≡ limits .vertices
+  pub are : (v : ℕ) → v < n → getD sums v 0 ≡ neighbourSum (graph (plan n ends)) built v
 
--- what an ear asks: Mader's steps so far, an edge that is not built, and room for the rows that are left
+-- what a Mader-path asks: Mader's steps so far, an edge that is not built, and room for the rows that are left
 pub record Growing (n : ℕ) (ends degrees used : List ℕ) (room : ℕ) : Type 0 where
-  pub admitted : Admitted limits n ends
-  pub three : ThreeEdgeConnected (graphOf n always ends)
+  pub admitted : Admitted limits (plan n ends)
+  pub three : ThreeEdgeConnected (graph (plan n ends))
   pub done : List (List Leg)
-  pub steps : Steps (graphOf n always ends) done
+  pub steps : Steps (graph (plan n ends)) done
   pub once : Distinct (allEdges done)
   pub marks : Marks n ends (allEdges done) degrees used
   pub left : length (allEdges done) < length ends / 2
@@ -91,12 +92,12 @@ pub record Ready (n : ℕ) (ends degrees used sums : List ℕ) (room : ℕ) : Ty
   pub growing : Growing n ends degrees used room
   pub sums-are : Sums n ends (allEdges (growing .done)) sums
 
--- what is written: an ear over the built edges
+-- what is written: a Mader-path over the built edges
 pub record Grown (n : ℕ) (ends built : List ℕ) (step : ℕ) (before after : List ℕ) (r : ℕ) : Type 0 where
   pub from : ℕ
   pub to : ℕ
   pub legs : List Leg
-  pub ear : Ear (graphOf n always ends) built from legs to
+  pub ear : MaderPath (graph (plan n ends)) built from legs to
   pub once : Distinct (edgesOf legs ++ built)
   pub written : Written (stepRows step legs) before after
   pub count : r ≡ length legs

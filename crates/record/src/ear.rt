@@ -1,15 +1,15 @@
-// The next ear: out of a link while some built vertex is no branch, then over the lowest edge that is not built and has a built end.
+// The next Mader-path: out of a link while some built vertex is no branch, then over the lowest edge that is not built and has a built end.
 use crate::walk;
 use graph::Graph;
 use search::Explored;
 ghost use mathlib.Core.Path.{_≡_};
 ghost use Prim.Native.Nat.{_-_, _/_, _≤_, _<_};
 ghost use lib.ListN.{length, getD};
-ghost use Rattle.connectivity.specs.Tells.{Tells};
+ghost use Rattle.graph.specs.Tells.{Tells};
 ghost use Rattle.record.specs.Step.{Ready, GrownBy, GrownFrom};
 ghost use Rattle.record.specs.Growth.{Filled, PlainVertex, EarRole, Linking, MarkedBy, Following, Followed, Halved, BuiltAt, Neighbouring, Neighbour, Exiting, Exited, Leaving, WalkedOut, OpenEnd, EndFits, Opening, OpenAt, GrowingLink, GrowingBranch, GrowingEdge};
 
-// Writes the rows of the next ear at the front of `rows`; how many there are. `degree` counts the built edges at each vertex, `used` is 1
+// Writes the rows of the next Mader-path at the front of `rows`; how many there are. `degree` counts the built edges at each vertex, `used` is 1
 // for each built edge and 0 for any other, `sums` has for each vertex the sum of the vertices that its built edges lead to.
 pub(crate) fn next_ear(
     vertices: u16,
@@ -54,7 +54,7 @@ fn is_plain(d: u16) -> bool
     d < 3
 }
 
-// An ear out of the link of `p`, a built vertex that is no branch: from the first built vertex outside that link that is seen from inside
+// A Mader-path out of the link of `p`, a built vertex that is no branch: from the first built vertex outside that link that is seen from inside
 // it.
 fn link_ear(
     vertices: u16,
@@ -69,7 +69,7 @@ fn link_ear(
     requires { ⌜ GrowingLink vertices (now ends) (now degree) (now used) (now sums) p (length (now rows)) ⌝ }
     ensures { λ r. ⌜ GrownFrom vertices (now (ends .entry)) (now (degree .entry)) (now (used .entry)) (now (sums .entry)) step (now (rows .entry)) (now (rows .exit)) r ⌝ }
 {
-    let mut marks = [0u8; Graph::MAX_VERTICES as usize];
+    let mut marks = [0u8; Graph::MAX_VERTICES];
     mark_link(ends, degree, used, sums, p, &mut marks);
     exit_walk(vertices, ends, degree, &marks, used, step, rows)
 }
@@ -152,7 +152,7 @@ fn exit_walk(
     requires { ⌜ Leaving vertices (now ends) (now degree) (now marks) (now dead) (length (now rows)) ⌝ }
     ensures { λ r. ⌜ WalkedOut vertices (now (ends .entry)) (now (degree .entry)) (now (marks .entry)) (now (dead .entry)) step (now (rows .entry)) (now (rows .exit)) r ⌝ }
 {
-    let mut first = [0u16; Graph::MAX_VERTICES as usize];
+    let mut first = [0u16; Graph::MAX_VERTICES];
     let t = exit(vertices, ends, degree, marks, dead, &mut first);
     let s = walk::first_marked(ends, &first, marks, t);
     walk::climb(ends, &first, t, s, step, rows)
@@ -170,9 +170,9 @@ fn exit(
     requires { ⌜ Exiting vertices (now ends) (now degree) (now marks) (now dead) (length (now first)) ⌝ }
     ensures { λ r. ⌜ Exited vertices (now (ends .entry)) (now (degree .entry)) (now (marks .entry)) (now (dead .entry)) (now (first .exit)) r ⌝ }
 {
-    let mut roles = [0u8; Graph::MAX_VERTICES as usize];
+    let mut roles = [0u8; Graph::MAX_VERTICES];
     ear_roles(vertices, degree, marks, &mut roles);
-    let mut order = [0u16; Graph::MAX_VERTICES as usize];
+    let mut order = [0u16; Graph::MAX_VERTICES];
     let found = search::explore(vertices, ends, &roles, dead, first, &mut order);
     let Explored::Met(count) = found else {
         return 0;
@@ -207,7 +207,7 @@ fn ear_role(degree: &[u16], marks: &[u8], v: u16) -> u8
     3
 }
 
-// An ear where every built vertex is a branch: over the lowest edge that is not built and has a built end.
+// A Mader-path where every built vertex is a branch: over the lowest edge that is not built and has a built end.
 fn branch_ear(
     vertices: u16,
     ends: &[u16],
@@ -255,7 +255,7 @@ fn is_open(ends: &[u16], degree: &[u16], used: &[u8], k: usize) -> bool
     0 < degree[ends[k] as usize]
 }
 
-// An ear over `e`, whose end `u` is not built: from the first built vertex that is seen from `u` without `e`.
+// A Mader-path over `e`, whose end `u` is not built: from the first built vertex that is seen from `u` without `e`.
 fn edge_ear(
     vertices: u16,
     ends: &[u16],
@@ -269,7 +269,7 @@ fn edge_ear(
     requires { ⌜ GrowingEdge vertices (now ends) (now degree) (now used) e u (length (now rows)) ⌝ }
     ensures { λ r. ⌜ GrownBy vertices (now (ends .entry)) (now (degree .entry)) (now (used .entry)) step (now (rows .entry)) (now (rows .exit)) r ⌝ }
 {
-    let mut marks = [0u8; Graph::MAX_VERTICES as usize];
+    let mut marks = [0u8; Graph::MAX_VERTICES];
     marks[u as usize] = 1;
     let mut dead = *used;
     dead[e as usize] = 1;

@@ -3,7 +3,7 @@ use crate::walk;
 use graph::Graph;
 ghost use Prim.Native.Nat.{_<_};
 ghost use lib.ListN.{length};
-ghost use Rattle.connectivity.specs.Tells.{Tells};
+ghost use Rattle.graph.specs.Tells.{Tells};
 ghost use Rattle.record.specs.Step.{Sturdy, Opened};
 ghost use Rattle.record.specs.Opening.{Around, Rooted, Searched, OpenedBy, IsDoor, DoorFits, DoorsFit, NextDoor, Way, MarkedUp, Meets, Met, OneMore, UpOver, OverUp, Three, ThreeWritten};
 
@@ -12,7 +12,7 @@ pub(crate) fn first_walks(vertices: u16, ends: &[u16], rows: &mut [u16]) -> u16
     requires { ⌜ Sturdy vertices (now ends) (length (now rows)) ⌝ }
     ensures { λ r. ⌜ Opened vertices (now (ends .entry)) (now (rows .entry)) (now (rows .exit)) r ⌝ }
 {
-    let mut first = [0u16; Graph::MAX_VERTICES as usize];
+    let mut first = [0u16; Graph::MAX_VERTICES];
     search_around(vertices, ends, ends[0], ends[1], &mut first);
     three_walks(ends, &first, rows)
 }
@@ -38,11 +38,11 @@ fn search_around(vertices: u16, ends: &[u16], r: u16, x: u16, first: &mut [u16])
     requires { ⌜ Around vertices (now ends) r x (now first) ⌝ }
     ensures { λ _. ⌜ Rooted vertices (now (ends .entry)) r x (now (first .exit)) ⌝ }
 {
-    let mut roles = [0u8; Graph::MAX_VERTICES as usize];
+    let mut roles = [0u8; Graph::MAX_VERTICES];
     roles[r as usize] = 1;
     roles[x as usize] = 2;
     let dead = [0u8; Graph::MAX_EDGES];
-    let mut order = [0u16; Graph::MAX_VERTICES as usize];
+    let mut order = [0u16; Graph::MAX_VERTICES];
     search::explore(vertices, ends, &roles, &dead, first, &mut order);
 }
 
@@ -79,7 +79,7 @@ fn meeting(ends: &[u16], first: &[u16], k2: u16, k3: u16, r: u16) -> u16
     requires { ⌜ Meets (now ends) (now first) k2 k3 r ⌝ }
     ensures { λ y. ⌜ Met (now (ends .entry)) (now (first .entry)) k2 k3 r y ⌝ }
 {
-    let mut marks = [0u8; Graph::MAX_VERTICES as usize];
+    let mut marks = [0u8; Graph::MAX_VERTICES];
     mark_climb(ends, first, k2, r, &mut marks);
     walk::first_marked(ends, first, &marks, k3)
 }

@@ -1,47 +1,60 @@
 -- What is said of a set of edges: whether it disconnects the graph, and which vertices the lowest one then reaches.
 use mathlib.Core.Path.{_≡_}
-use mathlib.Core.Bool.{Bool, true, false, not, _&&_}
-use mathlib.Core.List.{List, List·Memᴰ as In}
+use mathlib.Core.Bool.{Bool, false, cond, not}
+use mathlib.Core.List.{List, [], _∷_, List·Memᴰ as In}
 use Prim.Native.Nat.{ℕ, _≤_, _<_}
 use lib.Dec.{eqb, leb, ltb}
 use lib.ListN.{length, getD}
 use Rattle.connectivity.specs.Lists.{mem}
-use Rattle.connectivity.specs.Graph.{graphOf, always}
+use Rattle.connectivity.specs.Plan.{Plan, plan, graph, limits, Limits}
 use Rattle.connectivity.specs.Cut.{cutOff, disconnects}
-use Rattle.connectivity.specs.Admission as meaning
+use Rattle.connectivity.specs.Admission.{Answer, passed, Handed, served, refusal, Admitted, admission}
 use Rattle.removal.specs.declared.Split.{Split}
 use Rattle.removal.specs.declared.Split.the-variants.{Refused, Connected, Disconnected}
-use Rattle.graph.specs.Admission.{toldBy, lent, RefusedBy}
+use Rattle.graph.specs.Admission.{toldBy, answerOf, lent}
 use Rattle.search.specs.declared.Explored.{Explored}
 use Rattle.search.specs.declared.Explored.the-variants as found
 
--- the answer t, and of each vertex whether the lowest one reaches it; what lies behind stays
-pub record Parted (n : ℕ) (ends cut : List ℕ) (reached₀ reached : List Bool) (t : Bool) : Type 0 where
-  pub answer : t ≡ disconnects (graphOf n always ends) cut
-  pub marks : (v : ℕ) → v < n → getD reached v false ≡ not (mem v (cutOff (graphOf n always ends) cut))
-  pub rest : (k : ℕ) → n ≤ k → getD reached k false ≡ getD reached₀ k false
+-- 01's number, place and values for each case; the value is 1 where the set parts the sheet, else 0
+abbrev pub handed : Split → Handed
+handed (Refused a) = refusal (answerOf a)
+handed Connected = served (0 ∷ [])
+handed Disconnected = served (1 ∷ [])
 
--- the whole answer: one place is needed for each vertex
-abbrev pub Answered : ℕ → List ℕ → List ℕ → List Bool → List Bool → Split → Type 0
-Answered n ends cut reached₀ reached (Refused a) = RefusedBy (lent n ends (leb n (length reached₀))) a × (reached ≡ reached₀)
-Answered n ends cut reached₀ reached Connected =
-    (lent n ends (leb n (length reached₀)) ≡ meaning.passed) × Parted n ends cut reached₀ reached false
-Answered n ends cut reached₀ reached Disconnected =
-    (lent n ends (leb n (length reached₀)) ≡ meaning.passed) × Parted n ends cut reached₀ reached true
+-- a refusal; else 1 where the set parts the sheet (01: the plan without it is not one body), and 0 where it does not
+unfoldable pub splitAfter : Answer → Plan → List ℕ → Handed
+splitAfter a p cut =
+    let found = served (cond (disconnects (graph p) cut) 1 0 ∷ []) in
+    cond (eqb (a .number) 0) found (refusal a)
 
--- an admitted plan, and a set that disconnects it
-unfoldable pub isCut : meaning.Limits → ℕ → List ℕ → List ℕ → Bool
-isCut limits n ends cut = eqb ((meaning.admission limits n ends) .number) 0 && disconnects (graphOf n always ends) cut
+-- 01: the plan's own refusals, then whether the set parts the sheet
+abbrev pub splitBy : Limits → Plan → List ℕ → Handed
+splitBy most p cut = splitAfter (admission most p) p cut
+
+-- the lent space has a place for each vertex
+abbrev pub enough : Plan → List Bool → Bool
+enough p reached = leb (p .vertices) (length reached)
+
+-- the whole answer where a place is lent for each vertex
+pub record Answered (most : Limits) (p : Plan) (cut : List ℕ) (reached₀ reached : List Bool) (r : Split) : Type 0 where
+  -- 01: the plan's own refusals, then 6 where the lent space is too short, then whether the set parts the sheet
+  pub answer : handed r ≡ splitAfter (lent most p (enough p reached₀)) p cut
+  -- not refused: of each vertex whether the lowest one reaches it
+  pub marks : (handed r) .answer ≡ passed → (v : ℕ) → v < p .vertices → getD reached v false ≡ not (mem v (cutOff (graph p) cut))
+  -- what lies behind stays
+  pub behind : (k : ℕ) → p .vertices ≤ k → getD reached k false ≡ getD reached₀ k false
+  -- refused: all of it stays
+  pub unchanged : ((handed r) .answer ≡ passed → ⊥) → reached ≡ reached₀
 
 -- what a search has left of an admitted plan without the cut: `count` vertices were seen, and those that were not are cut off
 pub record Left (n : ℕ) (ends cut first : List ℕ) (count : ℕ) : Type 0 where
-  pub admitted : meaning.Admitted meaning.limits n ends
-  pub fewer : ltb count n ≡ disconnects (graphOf n always ends) cut
-  pub unseen : (v : ℕ) → v < n → eqb (getD first v 0) 0 ≡ mem v (cutOff (graphOf n always ends) cut)
+  pub admitted : Admitted limits (plan n ends)
+  pub fewer : ltb count n ≡ disconnects (graph (plan n ends)) cut
+  pub unseen : (v : ℕ) → v < n → eqb (getD first v 0) 0 ≡ mem v (cutOff (graph (plan n ends)) cut)
 
 -- `without`: the plan's own refusal, or what is left
 abbrev pub Searched : ℕ → List ℕ → List ℕ → List ℕ → Explored → Type 0
-Searched n ends cut first (found.Refused a) = (meaning.Admitted meaning.limits n ends → ⊥) × (a ≡ toldBy (meaning.admission meaning.limits n ends))
+Searched n ends cut first (found.Refused a) = (Admitted limits (plan n ends) → ⊥) × (a ≡ toldBy (admission limits (plan n ends)))
 Searched n ends cut first (found.Seen count) = Left n ends cut first count
 Searched n ends cut first (found.Met count) = ⊥
 

@@ -7,10 +7,11 @@ use Prim.Native.Nat.{ℕ, zero, suc, _-_, _≤_, _<_}
 use native.Mathlib.Omega.{arith}
 use native.Mathlib.Decide.{decLt}
 use lib.ListN.{getD}
-use Rattle.connectivity.specs.Lists.{Distinct, none, one}
+use Rattle.connectivity.specs.Lists.{Distinct, no-member, one}
 use Rattle.connectivity.specs.Graph.{Graph, Joins}
 use Rattle.connectivity.specs.Walk.{Leg, Walk, last, then, froms}
-use Rattle.connectivity.proofs.Reach.{joins-sym, through-on}
+use Rattle.connectivity.proofs.Reach.{joins-sym}
+use Rattle.connectivity.proofs.Through.{through-on}
 use Rattle.search.specs.Search.{Marked, Reached, Tree, FromStart, Found, Whole}
 
 -- from place k of the order up to a start: each leg leaves a vertex over the edge by which it was first reached
@@ -38,7 +39,7 @@ module _ {g : Graph} {live pass start : ℕ → Type 0} {n : ℕ} {marks order :
 
   -- and so each once
   pub climb-once : {k s : ℕ} {legs : List Leg} → Climb g live pass start marks order k legs s → k < count → Distinct (froms legs)
-  climb-once (top h) c = none
+  climb-once (top h) c = no-member
   climb-once (up {k = k} r u) c = one
       (λ i. let q = places u (omega (arith, r .earlier)) (getD order k 0) i in t .once (q .0) k (omega (arith, q .1, r .earlier)) c (q .2))
       (climb-once u (omega (arith, r .earlier)))

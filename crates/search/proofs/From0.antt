@@ -4,7 +4,8 @@ use mathlib.Core.List.{List}
 use Prim.Native.Nat.{ℕ, zero, suc, _-_}
 use native.Mathlib.Omega.{arith}
 use lib.ListN.{length, getD, set, replicate, length-set, length-replicate}
-use Rattle.connectivity.specs.Admission.{Answer, limits, Admitted}
+use Rattle.connectivity.specs.Plan.{plan, limits}
+use Rattle.connectivity.specs.Admission.{Answer, Admitted}
 use Rattle.graph.specs.Admission.{lent}
 use Rattle.search.specs.Search.{Start, Pass, Goal, Stopped, enough}
 use Rattle.search.proofs.Outcomes.{enough-room}
@@ -29,10 +30,11 @@ pub no-goal : (m : ℕ) {order : List ℕ} {count : ℕ} → Stopped (Goal (role
 no-goal m {order} {count} s = omega (arith, s .met, all-pass m (getD order (count - 1) 0))
 
 -- with arrays as long as the limits are, such a search is refused only where the plan is
-pub not-admitted : {n : ℕ} {ends : List ℕ} (dead first order : List ℕ) → length dead ≡ 4000 → length first ≡ 1000 → length order ≡ 1000
-    → ((lent n ends (enough n ends (rolesFrom0 999) dead first order)) .number ≡ 0 → ⊥) → Admitted limits n ends → ⊥
+pub not-admitted : {n : ℕ} {ends : List ℕ} (dead first order : List ℕ) → length dead ≡ limits .edges
+    → length first ≡ limits .vertices → length order ≡ limits .vertices
+    → ((lent limits (plan n ends) (enough (plan n ends) (rolesFrom0 (limits .vertices - 1)) dead first order)) .number ≡ 0 → ⊥) → Admitted limits (plan n ends) → ⊥
 not-admitted {n} {ends} dead first order ld lf lo h a =
-    let thousand = length-replicate {A = ℕ} 1000 0 in
-    let roles = length-set {A = ℕ} (replicate 1000 0) 0 1 in
-    h (ap (λ (x : Answer). x .number) (enough-room n ends (rolesFrom0 999) dead first order a
+    let thousand = length-replicate {A = ℕ} (limits .vertices) 0 in
+    let roles = length-set {A = ℕ} (replicate (limits .vertices) 0) 0 1 in
+    h (ap (λ (x : Answer). x .number) (enough-room n ends (rolesFrom0 (limits .vertices - 1)) dead first order a
     (omega (arith, a .vertices), (omega (arith, a .edges), (omega (arith, a .vertices), omega (arith, a .vertices))))))

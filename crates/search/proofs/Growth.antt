@@ -10,12 +10,12 @@ use native.Mathlib.Decide.{ℕ-discrete}
 use borrow.Author.Count.{below-more}
 use lib.ListN.{length, getD, set, length-set}
 use lib.Seq.{getD-set-same, getD-set-other}
-use Rattle.connectivity.specs.Graph.{Graph, Joins, graphOf, always}
-use Rattle.connectivity.specs.Reach.{Through, stay, leave}
-use Rattle.connectivity.proofs.Reach.{joins-sym, joins-vertex, through-on, closed-through}
+use Rattle.connectivity.specs.Graph.{Graph, Joins}
+use Rattle.connectivity.proofs.Reach.{joins-sym, joins-vertex}
+use Rattle.connectivity.proofs.Through.{Through, stay, leave, through-on, closed-through}
 use Rattle.search.specs.declared.Progress.{Progress}
 use Rattle.search.specs.Search.{Live, Start, Pass, Goal, Marked, tally, Reached, Tree, FromStart, Found, Whole, Stopped}
-use Rattle.search.specs.Sweep.{Fit, Edge, State, Plain, More, Placed, Begun, Lead, Noted, kept, added, SweepStart, Swept, Explored}
+use Rattle.search.specs.Sweep.{Fit, Edge, State, Plain, More, Placed, Begun, Lead, Noted, kept, added, SweepStart, Swept, Rounded}
 use Rattle.search.proofs.Tally.{tally-lt, tally-set, tally-le}
 
 -- a Joins at equal numbers

@@ -5,26 +5,27 @@ use mathlib.Core.List.{List}
 use Prim.Native.Nat.{ℕ, _+_, _*_, _/_, _<_}
 use native.Mathlib.Omega.{arith}
 use lib.ListN.{length, getD}
-use Rattle.connectivity.specs.Graph.{Graph, Vertex, Joins, graphOf, always}
+use Rattle.connectivity.specs.Plan.{plan, graph}
+use Rattle.connectivity.specs.Graph.{Graph, Vertex, Joins}
 use Rattle.connectivity.proofs.Reach.{joins-sym, joins-vertex}
 use Rattle.search.specs.Search.{Live, Pass, Marked}
 use Rattle.search.specs.Sweep.{Edge, Lead}
 
 -- a vertex is below n; what an edge joins is a vertex, and the edge is one of the table's
-pub vertex-below : (n : ℕ) (ends : List ℕ) (v : ℕ) → Vertex (graphOf n always ends) v → v < n
-unfolding graphOf
+pub vertex-below : (n : ℕ) (ends : List ℕ) (v : ℕ) → Vertex (graph (plan n ends)) v → v < n
+unfolding graph
 vertex-below n ends v h = h .below
 
-pub joins-below : (n : ℕ) (ends : List ℕ) (e u v : ℕ) → Joins (graphOf n always ends) e u v → v < n
+pub joins-below : (n : ℕ) (ends : List ℕ) (e u v : ℕ) → Joins (graph (plan n ends)) e u v → v < n
 joins-below n ends e u v j = vertex-below n ends v (joins-vertex (joins-sym j))
 
-pub joins-edge : (n : ℕ) (ends : List ℕ) (e u v : ℕ) → Joins (graphOf n always ends) e u v → e < length ends / 2
-unfolding graphOf
+pub joins-edge : (n : ℕ) (ends : List ℕ) (e u v : ℕ) → Joins (graph (plan n ends)) e u v → e < length ends / 2
+unfolding graph
 joins-edge n ends e u v j = j .edge .below
 
 module _ {n e : ℕ} {ends roles dead first : List ℕ} (h : Edge n e ends roles dead first) where
   abbrev g : Graph
-  g = graphOf n always ends
+  g = graph (plan n ends)
 
   abbrev a : ℕ
   a = getD ends (2 * e) 0
@@ -33,7 +34,7 @@ module _ {n e : ℕ} {ends roles dead first : List ℕ} (h : Edge n e ends roles
   b = getD ends (2 * e + 1) 0
 
   joins : Joins g e a b
-  unfolding graphOf
+  unfolding graph
   joins = record {
     edge = record { below = h .below; left = record { below = h .left; kept = tt }; right = record { below = h .right; kept = tt } };
     ends = inl (refl, refl);
@@ -41,7 +42,7 @@ module _ {n e : ℕ} {ends roles dead first : List ℕ} (h : Edge n e ends roles
 
   -- it joins its two ends and no other
   ends-are : (u v : ℕ) → Joins g e u v → ((u ≡ a) × (v ≡ b)) ⊎ ((u ≡ b) × (v ≡ a))
-  unfolding graphOf
+  unfolding graph
   ends-are u v j = ⊎-elim (λ p. inl (sym (p .0), sym (p .1))) (λ p. inr (sym (p .1), sym (p .0))) (j .ends)
 
   lead-none : ((u v : ℕ) → Live dead e → Pass roles u → Joins g e u v → Marked first u → ⊥) → Lead g (Live dead) (Pass roles) n e first n

@@ -10,12 +10,14 @@ use lib.Dec.{T, eqb, ltb}
 use lib.ListN.{length, getD}
 use borrow.Author.Tests.{eq-eqb, ne-eqb, lt-ltb, le-ltb}
 use Rattle.connectivity.specs.Lists.{mem, empty}
-use Rattle.connectivity.specs.Graph.{Graph, graphOf, always}
+use Rattle.connectivity.specs.Plan.{plan, graph, limits}
+use Rattle.connectivity.specs.Graph.{Graph}
 use Rattle.connectivity.specs.Reach.{Reach, Without}
 use Rattle.connectivity.specs.Cut.{cutOff, disconnects}
-use Rattle.connectivity.specs.Admission.{limits, Admitted}
+use Rattle.connectivity.specs.Admission.{Admitted}
 use Rattle.connectivity.proofs.Lists.{T-dec, T-true, T-false, in-mem, mem-in, empty-none, none-empty}
-use Rattle.connectivity.proofs.Reach.{reach-edges, through-reach, reach-through}
+use Rattle.connectivity.proofs.Reach.{reach-edges}
+use Rattle.connectivity.proofs.Through.{through-reach, reach-through}
 use Rattle.connectivity.proofs.Admission.{admitted-vertex}
 use Rattle.connectivity.proofs.CutOff.{Lowest, cut-off-not, cut-off-or, cut-off-some}
 use Rattle.search.specs.Search.{Live, Start, Pass, Goal, Marked, Found, Whole}
@@ -23,10 +25,10 @@ use Rattle.search.proofs.Tally.{tally-lt, tally-full}
 use Rattle.search.proofs.Leads.{vertex-below, joins-edge}
 use Rattle.search.proofs.From0.{rolesFrom0, only-start, all-pass}
 
-module _ (m n : ℕ) (ends cut dead : List ℕ) (a : Admitted limits n ends) (gone : (e : ℕ) → e < length ends / 2 → In e cut → Live dead e → ⊥)
+module _ (m n : ℕ) (ends cut dead : List ℕ) (a : Admitted limits (plan n ends)) (gone : (e : ℕ) → e < length ends / 2 → In e cut → Live dead e → ⊥)
     (kept : (e : ℕ) → (In e cut → ⊥) → Live dead e) where
   abbrev g : Graph
-  g = graphOf n always ends
+  g = graph (plan n ends)
 
   low : Lowest g 0
   low = record { vertex = admitted-vertex a 0 (omega (arith, a .two)); least = λ v h. omega arith }

@@ -2,16 +2,17 @@
 use mathlib.Core.Path.{_≡_}
 use mathlib.Core.Bool.{Bool, _&&_}
 use mathlib.Core.Logic.{_⊎_}
-use mathlib.Core.List.{List}
+use mathlib.Core.List.{List, [], _∷_}
 use Prim.Native.Nat.{ℕ, zero, suc, _+_, _-_, _/_, _≤_, _<_}
 use lib.Dec.{leb}
 use lib.ListN.{length, getD}
-use Rattle.connectivity.specs.Graph.{Graph, Joins, graphOf, always}
-use Rattle.connectivity.specs.Reach.{Through}
-use Rattle.connectivity.specs.Admission as meaning
+use Rattle.connectivity.specs.Plan.{Plan, graph, Limits}
+use Rattle.connectivity.specs.Graph.{Graph, Joins}
+use Rattle.connectivity.proofs.Through.{Through}
+use Rattle.connectivity.specs.Admission.{passed, Handed, served, refusal}
 use Rattle.search.specs.declared.Explored.{Explored}
 use Rattle.search.specs.declared.Explored.the-variants.{Refused, Seen, Met}
-use Rattle.graph.specs.Admission.{lent, RefusedBy}
+use Rattle.graph.specs.Admission.{answerOf, lent}
 
 -- an edge is live if its mark is 0
 abbrev pub Live : List ℕ → ℕ → Type 0
@@ -90,20 +91,34 @@ pub record Stopped (goal : ℕ → Type 0) (order : List ℕ) (count : ℕ) : Ty
   pub met : goal (getD order (count - 1) 0)
   pub plain : (k : ℕ) → k + 1 < count → goal (getD order k 0) → ⊥
 
+-- 01's number, place and values for each case; the values of a search are how many vertices were seen, and 1 where the last one is a goal,
+-- else 0
+abbrev pub handed : Explored → Handed
+handed (Refused a) = refusal (answerOf a)
+handed (Seen count) = served (count ∷ (0 ∷ []))
+handed (Met count) = served (count ∷ (1 ∷ []))
+
 -- the lent slices have a place for each vertex and for each edge
-abbrev pub enough : ℕ → List ℕ → List ℕ → List ℕ → List ℕ → List ℕ → Bool
-enough n ends roles dead first order =
-    leb n (length roles) && (leb (length ends / 2) (length dead) && (leb n (length first) && leb n (length order)))
+abbrev pub enough : Plan → List ℕ → List ℕ → List ℕ → List ℕ → Bool
+enough p roles dead first order =
+    leb (p .vertices) (length roles)
+    && (leb (length (p .ends) / 2) (length dead) && (leb (p .vertices) (length first) && leb (p .vertices) (length order)))
+
+-- of a search that is not refused: its two values and what it leaves behind
+abbrev pub Served : Plan → List ℕ → List ℕ → List ℕ → List ℕ → List ℕ → List ℕ → List ℕ → Type 0
+Served p roles dead first₀ order₀ first order [] = ⊥
+Served p roles dead first₀ order₀ first order (count ∷ []) = ⊥
+Served p roles dead first₀ order₀ first order (count ∷ (met ∷ [])) =
+    Found (graph p) (Live dead) (Pass roles) (Start roles) (p .vertices) first₀ order₀ first order count
+    × (met ≡ 0 → Whole (graph p) (Live dead) (Pass roles) (Start roles) (Goal roles) (p .vertices) first order count)
+    × (met ≡ 1 → Stopped (Goal roles) order count)
+Served p roles dead first₀ order₀ first order (count ∷ (met ∷ (more ∷ values))) = ⊥
 
 -- the whole answer of a search
-abbrev pub Answered : ℕ → List ℕ → List ℕ → List ℕ → List ℕ → List ℕ → List ℕ → List ℕ → Explored → Type 0
-Answered n ends roles dead first₀ order₀ first order (Refused a) =
-    RefusedBy (lent n ends (enough n ends roles dead first₀ order₀)) a × (first ≡ first₀) × (order ≡ order₀)
-Answered n ends roles dead first₀ order₀ first order (Seen count) =
-    (lent n ends (enough n ends roles dead first₀ order₀) ≡ meaning.passed)
-    × Found (graphOf n always ends) (Live dead) (Pass roles) (Start roles) n first₀ order₀ first order count
-    × Whole (graphOf n always ends) (Live dead) (Pass roles) (Start roles) (Goal roles) n first order count
-Answered n ends roles dead first₀ order₀ first order (Met count) =
-    (lent n ends (enough n ends roles dead first₀ order₀) ≡ meaning.passed)
-    × Found (graphOf n always ends) (Live dead) (Pass roles) (Start roles) n first₀ order₀ first order count
-    × Stopped (Goal roles) order count
+pub record Answered (most : Limits) (p : Plan) (roles dead first₀ order₀ first order : List ℕ) (r : Explored) : Type 0 where
+  -- 01: the plan's own refusals, then 6 where the lent space is too short
+  pub answer : (handed r) .answer ≡ lent most p (enough p roles dead first₀ order₀)
+  -- what is found
+  pub found : lent most p (enough p roles dead first₀ order₀) ≡ passed → Served p roles dead first₀ order₀ first order ((handed r) .values)
+  -- refused: both slices stay
+  pub unchanged : (lent most p (enough p roles dead first₀ order₀) ≡ passed → ⊥) → (first ≡ first₀) × (order ≡ order₀)

@@ -5,15 +5,16 @@ use mathlib.Core.Logic.{_⊎_}
 use mathlib.Core.List.{List}
 use Prim.Native.Nat.{ℕ, _+_, _*_, _/_, _≤_, _<_}
 use lib.ListN.{length, getD, set}
-use Rattle.connectivity.specs.Graph.{Graph, Joins, graphOf, always}
+use Rattle.connectivity.specs.Plan.{plan, graph, limits}
+use Rattle.connectivity.specs.Graph.{Graph, Joins}
 use Rattle.search.specs.declared.Progress.{Progress}
 use Rattle.search.specs.Search.{Live, Start, Pass, Goal, Marked, tally, Tree, Whole, Stopped}
 
 -- an admitted plan, and slices that are long enough
 pub record Fit (n edges : ℕ) (ends roles dead first order : List ℕ) : Type 0 where
   pub all : edges ≡ length ends / 2
-  pub small : edges ≤ 4000
-  pub few : n ≤ 1000
+  pub small : edges ≤ limits .edges
+  pub few : n ≤ limits .vertices
   pub left : (e : ℕ) → e < edges → getD ends (2 * e) 0 < n
   pub right : (e : ℕ) → e < edges → getD ends (2 * e + 1) 0 < n
   pub roles-room : n ≤ length roles
@@ -100,7 +101,7 @@ pub record Meets (roles : List ℕ) (w count next : ℕ) (r : Bool) : Type 0 whe
 -- what `sweep` and `rounds` ask
 pub record SweepStart (n edges : ℕ) (ends roles dead first order : List ℕ) (count : ℕ) : Type 0 where
   pub fit : Fit n edges ends roles dead first order
-  pub state : State (graphOf n always ends) (Live dead) (Pass roles) (Start roles) n first order count
+  pub state : State (graph (plan n ends)) (Live dead) (Pass roles) (Start roles) n first order count
   pub plain : Plain (Goal roles) order count
 
 -- `sweep`: the edges have all been passed, or a goal was met
@@ -112,7 +113,7 @@ pub record Swept (g : Graph) (live pass start goal : ℕ → Type 0) (n : ℕ) (
   pub whole : p .met ≡ false → (e u v : ℕ) → live e → pass u → Joins g e u v → Marked first u → Marked first′ v
 
 -- `rounds`
-pub record Explored (g : Graph) (live pass start goal : ℕ → Type 0) (n : ℕ) (first order : List ℕ) (count : ℕ) (first′ order′ : List ℕ) (p : Progress) : Type 0 where
+pub record Rounded (g : Graph) (live pass start goal : ℕ → Type 0) (n : ℕ) (first order : List ℕ) (count : ℕ) (first′ order′ : List ℕ) (p : Progress) : Type 0 where
   pub state : State g live pass start n first′ order′ (p .count)
   pub more : More n first order count first′ order′ (p .count)
   pub stopped : p .met ≡ true → Stopped goal order′ (p .count)

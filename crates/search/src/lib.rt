@@ -6,9 +6,9 @@ ghost use mathlib.Core.Path.{_≡_};
 ghost use mathlib.Core.Bool.{not};
 ghost use Prim.Native.Nat.{_/_, _<_, _≤_};
 ghost use lib.ListN.{length};
-ghost use Rattle.connectivity.specs.Graph.{graphOf, always};
-ghost use Rattle.connectivity.specs.Tells.{Tells};
-ghost use Rattle.connectivity.specs.Admission.{Admitted, limits};
+ghost use Rattle.connectivity.specs.Plan.{plan, graph, limits};
+ghost use Rattle.graph.specs.Tells.{Tells};
+ghost use Rattle.connectivity.specs.Admission.{Admitted};
 ghost use Rattle.search.specs.Search.{Live, Pass, Start, Goal, Answered};
 ghost use Rattle.search.specs.Sweep as sweeps;
 
@@ -70,7 +70,7 @@ fn open(v: u16, roles: &[u8], first: &[u16]) -> bool
 // The vertex to which edge e leads from one that was seen and may be passed through, or `vertices` where there is none.
 fn lead(vertices: u16, ends: &[u16], roles: &[u8], dead: &[u8], e: u16, first: &[u16]) -> u16
     requires { ⌜ sweeps.Edge vertices e (now ends) (now roles) (now dead) (now first) ⌝ }
-    ensures { λ r. ⌜ sweeps.Lead (graphOf vertices always (now (ends .entry))) (Live (now (dead .entry))) (Pass (now (roles .entry))) vertices e (now (first .entry)) r ⌝ }
+    ensures { λ r. ⌜ sweeps.Lead (graph (plan vertices (now (ends .entry)))) (Live (now (dead .entry))) (Pass (now (roles .entry))) vertices e (now (first .entry)) r ⌝ }
 {
     let at = e as usize;
     if dead[at] != 0 {
@@ -129,7 +129,7 @@ fn sweep(
     order: &mut [u16],
 ) -> Progress
     requires { ⌜ sweeps.SweepStart vertices edges (now ends) (now roles) (now dead) (now first) (now order) from ⌝ }
-    ensures { λ r. ⌜ sweeps.Swept (graphOf vertices always (now (ends .entry))) (Live (now (dead .entry))) (Pass (now (roles .entry))) (Start (now (roles .entry))) (Goal (now (roles .entry))) vertices (now (first .entry)) (now (order .entry)) from (now (first .exit)) (now (order .exit)) r ⌝ }
+    ensures { λ r. ⌜ sweeps.Swept (graph (plan vertices (now (ends .entry)))) (Live (now (dead .entry))) (Pass (now (roles .entry))) (Start (now (roles .entry))) (Goal (now (roles .entry))) vertices (now (first .entry)) (now (order .entry)) from (now (first .exit)) (now (order .exit)) r ⌝ }
 {
     let mut count = from;
     let mut e: u16 = 0;
@@ -163,7 +163,7 @@ fn rounds(
     order: &mut [u16],
 ) -> Progress
     requires { ⌜ sweeps.SweepStart vertices edges (now ends) (now roles) (now dead) (now first) (now order) starts ⌝ }
-    ensures { λ r. ⌜ sweeps.Explored (graphOf vertices always (now (ends .entry))) (Live (now (dead .entry))) (Pass (now (roles .entry))) (Start (now (roles .entry))) (Goal (now (roles .entry))) vertices (now (first .entry)) (now (order .entry)) starts (now (first .exit)) (now (order .exit)) r ⌝ }
+    ensures { λ r. ⌜ sweeps.Rounded (graph (plan vertices (now (ends .entry)))) (Live (now (dead .entry))) (Pass (now (roles .entry))) (Start (now (roles .entry))) (Goal (now (roles .entry))) vertices (now (first .entry)) (now (order .entry)) starts (now (first .exit)) (now (order .exit)) r ⌝ }
 {
     let mut count = starts;
     let mut was: u16 = 0;
@@ -192,7 +192,7 @@ pub fn explore(
     first: &mut [u16],
     order: &mut [u16],
 ) -> Explored
-    ensures { λ r. ⌜ Answered vertices (now (ends .entry)) (now (roles .entry)) (now (dead .entry)) (now (first .entry)) (now (order .entry)) (now (first .exit)) (now (order .exit)) r ⌝ }
+    ensures { λ r. ⌜ Answered limits (plan vertices (now (ends .entry))) (now (roles .entry)) (now (dead .entry)) (now (first .entry)) (now (order .entry)) (now (first .exit)) (now (order .exit)) r ⌝ }
 {
     let made = Graph::new(vertices, ends);
     match made {
@@ -213,8 +213,8 @@ fn explore_admitted(
     first: &mut [u16],
     order: &mut [u16],
 ) -> Explored
-    requires { ⌜ (edges ≡ length (now ends) / 2) × Admitted limits vertices (now ends) ⌝ }
-    ensures { λ r. ⌜ Answered vertices (now (ends .entry)) (now (roles .entry)) (now (dead .entry)) (now (first .entry)) (now (order .entry)) (now (first .exit)) (now (order .exit)) r ⌝ }
+    requires { ⌜ (edges ≡ length (now ends) / 2) × Admitted limits (plan vertices (now ends)) ⌝ }
+    ensures { λ r. ⌜ Answered limits (plan vertices (now (ends .entry))) (now (roles .entry)) (now (dead .entry)) (now (first .entry)) (now (order .entry)) (now (first .exit)) (now (order .exit)) r ⌝ }
 {
     if is_short(
         vertices,

@@ -6,7 +6,7 @@ use native.Mathlib.Omega.{arith}
 use native.Mathlib.Nat.{pow-suc, one-le-pow, mod-lt, mod-one, mod-eq-of-lt, div-eq-of-lt, div-add-mod, mul-add, mul-assoc, mul-add-mod-self-left, mul-le-mul-left}
 use lib.Dec.{ltb}
 use borrow.Author.Tests.{le-leb, ltb-true}
-use Rattle.text.specs.Column.{worths, byteAt, column, digit, value}
+use Rattle.text.specs.Column.{worths, five, byteAt, column, digit, value}
 use Rattle.text.proofs.Laws.{and-true}
 
 digit-shown : (d : ℕ) → d < 10 → digit (48 + d) ≡ d
@@ -46,3 +46,8 @@ value-column (suc w) x = rw (digit-at (10 ^ w) x, value-column w x, pow-suc 10 w
 -- so a number below 10 ^ w is read as it was written
 pub read-back : (w most : ℕ) → most < 10 ^ w → (x : ℕ) → x ≤ most → value (worths w) (column (worths w) x) ≡ x
 read-back w most h x k = value-column w x ∙ mod-eq-of-lt (omega arith)
+
+-- 01: the worths of the five columns stand in one table, that of the width 5
+pub five-worths : five ≡ worths 5
+unfolding worths
+five-worths = refl

@@ -5,13 +5,13 @@ use mathlib.Core.List.{List, [], _∷_, _++_}
 use Prim.Native.Nat.{ℕ, zero, suc, _+_, _*_, _-_, _^_, _≤_, _<_}
 use native.Mathlib.Omega.{arith}
 use native.Mathlib.Numerals.{add-one}
-use native.Mathlib.Nat.{suc-mul, mul-suc, pow-suc, mul-le-mul-left}
+use native.Mathlib.Nat.{suc-mul, mul-suc, pow-suc, one-le-pow, mul-le-mul-left}
 use native.Mathlib.Decide.{ℕ-discrete}
 use lib.Dec.{eqb, leb}
 use lib.ListN.{length, take, drop, getD, set, length-take, length-drop, length-append, drop-of-length-le}
 use lib.Seq.{sets, length-take-le, drop-cons, take-suc, take-suc-set, take-take, drop-drop, getD-drop, getD-take, take-nil}
 use borrow.Author.Tests.{leb-true, eqb-true, eq-eqb, ne-eqb}
-use Rattle.text.specs.Column.{worths, five, byteAt, column, line, lines, lineSize, digit, value, same, columnFits, lineFits, numbers, linesFit, linesNumbers}
+use Rattle.text.specs.Column.{worths, byteAt, column, line, lines, lineSize, digit, value, same, columnFits, lineFits, numbers, linesFit, linesNumbers}
 
 -- lists and tests
 
@@ -78,10 +78,6 @@ value-most zero bytes = omega arith
 value-most (suc w) [] = omega (arith, pow-suc 10 w, value-most w [])
 value-most (suc w) (b ∷ bytes) = omega (arith, pow-suc 10 w, value-most w bytes, mul-le-mul-left (10 ^ w) (digit-most b))
 
-pub value-small : (bytes : List ℕ) → value five bytes < 100000
-unfolding worths
-value-small bytes = value-most 5 bytes
-
 pub column-true : (ws : List ℕ) (most : ℕ) (bytes : List ℕ) → columnFits ws most bytes ≡ true → (value ws bytes ≤ most) × (column ws (value ws bytes) ≡ bytes)
 unfolding columnFits
 column-true ws most bytes p =
@@ -102,7 +98,7 @@ line-long ws most (suc k) text p =
 take-less : (w n : ℕ) (text : List ℕ) → take w (take (w + n) text) ≡ take w text
 take-less w n text = take-take w (w + n) text (omega arith)
 
-size-suc : (ws : List ℕ) (k : ℕ) → lineSize ws (suc k) ≡ length ws + lineSize ws k
+pub size-suc : (ws : List ℕ) (k : ℕ) → lineSize ws (suc k) ≡ length ws + lineSize ws k
 size-suc ws k = omega (arith, suc-mul k (length ws))
 
 pub line-part : (ws : List ℕ) (most k : ℕ) (text : List ℕ) → lineFits ws most k (take (lineSize ws k) text) ≡ lineFits ws most k text
@@ -138,45 +134,43 @@ sets-append l i (x ∷ xs) ys =
     let p : i + suc (length xs) ≡ suc i + length xs = omega arith in
     rw p (sets-append (set l i x) (suc i) xs ys)
 
--- what the loops over the five worths use, of the column that begins at a place of a copied line
-module _ (copy : List ℕ) (at i : ℕ) (h : i < 5) (k : at + 5 ≤ length copy) where
-  col-long : i < length (take 5 (drop at copy))
-  col-long = omega (arith, length-take 5 (drop at copy), length-drop at copy)
+-- what the loops over the worths use, of the column that begins at a place of a copied line
+module _ (ws copy : List ℕ) (at i : ℕ) (h : i < length ws) (k : at + length ws ≤ length copy) where
+  abbrev col : List ℕ
+  col = take (length ws) (drop at copy)
 
-  col-at : getD (take 5 (drop at copy)) i 0 ≡ getD copy (at + i) 0
-  col-at = getD-take 5 (drop at copy) i 0 h ∙ getD-drop at copy i 0
+  col-long : i < length col
+  col-long = omega (arith, length-take (length ws) (drop at copy), length-drop at copy)
 
-  pub number-next : (d : ℕ) → d ≡ digit (getD copy (at + i) 0)
-      → value (drop i five) (drop i (take 5 (drop at copy))) ≡ getD five i 0 * d + value (drop (i + 1) five) (drop (i + 1) (take 5 (drop at copy)))
-  number-next d p = value-next five (take 5 (drop at copy)) i h col-long ∙ rw (col-at, p)
+  col-at : getD col i 0 ≡ getD copy (at + i) 0
+  col-at = getD-take (length ws) (drop at copy) i 0 h ∙ getD-drop at copy i 0
 
-  module _ (bytes : List ℕ) (l : length bytes ≡ 5) where
-    bytes-next : same (drop i bytes) (drop i (take 5 (drop at copy))) ≡ (eqb (getD bytes i 0) (getD copy (at + i) 0) && same (drop (i + 1) bytes) (drop (i + 1) (take 5 (drop at copy))))
-    bytes-next = same-next bytes (take 5 (drop at copy)) i (omega arith) col-long ∙ rw col-at
+  pub number-next : (d : ℕ) → d ≡ digit (getD copy (at + i) 0) → value (drop i ws) (drop i col) ≡ getD ws i 0 * d + value (drop (i + 1) ws) (drop (i + 1) col)
+  number-next d p = value-next ws col i h col-long ∙ rw (col-at, p)
 
-    pub bytes-same : getD copy (at + i) 0 ≡ getD bytes i 0 → same (drop i bytes) (drop i (take 5 (drop at copy))) ≡ same (drop (i + 1) bytes) (drop (i + 1) (take 5 (drop at copy)))
+  module _ (bytes : List ℕ) (l : length bytes ≡ length ws) where
+    bytes-next : same (drop i bytes) (drop i col) ≡ (eqb (getD bytes i 0) (getD copy (at + i) 0) && same (drop (i + 1) bytes) (drop (i + 1) col))
+    bytes-next = same-next bytes col i (omega arith) col-long ∙ rw col-at
+
+    pub bytes-same : getD copy (at + i) 0 ≡ getD bytes i 0 → same (drop i bytes) (drop i col) ≡ same (drop (i + 1) bytes) (drop (i + 1) col)
     bytes-same q = bytes-next ∙ rw (eq-eqb (getD bytes i 0) (getD copy (at + i) 0) (sym q))
 
-    pub bytes-differ : (getD copy (at + i) 0 ≡ getD bytes i 0 → ⊥) → same (drop i bytes) (drop i (take 5 (drop at copy))) ≡ false
+    pub bytes-differ : (getD copy (at + i) 0 ≡ getD bytes i 0 → ⊥) → same (drop i bytes) (drop i col) ≡ false
     bytes-differ q = bytes-next ∙ rw (ne-eqb (getD bytes i 0) (getD copy (at + i) 0) (λ z. q (sym z)))
 
 -- after the last of them
-pub bytes-over : (copy : List ℕ) (at i : ℕ) (bytes : List ℕ) → length bytes ≡ 5 → 5 ≤ i → same (drop i bytes) (drop i (take 5 (drop at copy))) ≡ true
+pub bytes-over : (ws copy : List ℕ) (at i : ℕ) (bytes : List ℕ) → length bytes ≡ length ws → length ws ≤ i
+    → same (drop i bytes) (drop i (take (length ws) (drop at copy))) ≡ true
 unfolding same
-bytes-over copy at i bytes l h =
-    rw (drop-of-length-le bytes {i = i} (omega arith), drop-of-length-le (take 5 (drop at copy)) {i = i} (omega (arith, length-take 5 (drop at copy))))
-
-pub no-worth : (i : ℕ) → 5 ≤ i → drop i five ≡ []
-no-worth i h = drop-of-length-le five {i = i} h
+bytes-over ws copy at i bytes l h =
+    rw (drop-of-length-le bytes {i = i} (omega arith), drop-of-length-le (take (length ws) (drop at copy)) {i = i} (omega (arith, length-take (length ws) (drop at copy))))
 
 -- each worth is at least 1
-pub worth-some : (i : ℕ) → i < 5 → 0 < getD five i 0
-worth-some zero h = omega arith
-worth-some (suc zero) h = omega arith
-worth-some (suc (suc zero)) h = omega arith
-worth-some (suc (suc (suc zero))) h = omega arith
-worth-some (suc (suc (suc (suc zero)))) h = omega arith
-worth-some (suc (suc (suc (suc (suc i))))) h = absurd (omega arith)
+pub worth-some : (w i : ℕ) → i < w → 0 < getD (worths w) i 0
+unfolding worths
+worth-some zero i h = absurd (omega arith)
+worth-some (suc w) zero h = one-le-pow w 10 (omega arith)
+worth-some (suc w) (suc i) h = worth-some w i (omega arith)
 
 -- lines
 
@@ -190,139 +184,164 @@ and-right : (a : Bool) → (a && true) ≡ a
 and-right true = refl
 and-right false = refl
 
+column-end : (ws : List ℕ) (k : ℕ) → (k + 1) * length ws ≡ k * length ws + length ws
+column-end ws k = rw (add-one k) (suc-mul k (length ws))
+
 -- the columns of a line, from number k on
-module _ (l : List ℕ) (n k : ℕ) (h : k < n) where
+module _ (ws l : List ℕ) (n k : ℕ) (h : k < n) where
   less : n - k ≡ suc (n - (k + 1))
   less = omega arith
 
-  on : drop 5 (drop (k * 5) l) ≡ drop ((k + 1) * 5) l
-  on = let p : k * 5 + 5 ≡ (k + 1) * 5 = omega arith in drop-drop 5 (k * 5) l ∙ ap (λ (j : ℕ). drop j l) p
+  on : drop (length ws) (drop (k * length ws) l) ≡ drop ((k + 1) * length ws) l
+  on = drop-drop (length ws) (k * length ws) l ∙ ap (λ (j : ℕ). drop j l) (sym (column-end ws k))
 
-  pub line-next : (most : ℕ) → lineFits five most (n - k) (drop (k * 5) l) ≡ (columnFits five most (take 5 (drop (k * 5) l)) && lineFits five most (n - (k + 1)) (drop ((k + 1) * 5) l))
+  pub line-next : (most : ℕ) → lineFits ws most (n - k) (drop (k * length ws) l)
+      ≡ (columnFits ws most (take (length ws) (drop (k * length ws) l)) && lineFits ws most (n - (k + 1)) (drop ((k + 1) * length ws) l))
   unfolding lineFits
   line-next most = rw (less, on)
 
-  pub numbers-next : numbers five (n - k) (drop (k * 5) l) ≡ value five (take 5 (drop (k * 5) l)) ∷ numbers five (n - (k + 1)) (drop ((k + 1) * 5) l)
+  pub numbers-next : numbers ws (n - k) (drop (k * length ws) l)
+      ≡ value ws (take (length ws) (drop (k * length ws) l)) ∷ numbers ws (n - (k + 1)) (drop ((k + 1) * length ws) l)
   unfolding numbers
   numbers-next = rw (less, on)
 
-  pub line-true : (most : ℕ) → lineFits five most (n - k) (drop (k * 5) l) ≡ true
-      → (value five (take 5 (drop (k * 5) l)) ≤ most) × (lineFits five most (n - (k + 1)) (drop ((k + 1) * 5) l) ≡ true)
+  pub line-true : (most : ℕ) → lineFits ws most (n - k) (drop (k * length ws) l) ≡ true
+      → (value ws (take (length ws) (drop (k * length ws) l)) ≤ most) × (lineFits ws most (n - (k + 1)) (drop ((k + 1) * length ws) l) ≡ true)
   line-true most p =
-      let q = and-true (columnFits five most (take 5 (drop (k * 5) l))) (lineFits five most (n - (k + 1)) (drop ((k + 1) * 5) l)) (sym (line-next most) ∙ p) in
-      (column-true five most (take 5 (drop (k * 5) l)) (q .0) .0, q .1)
+      let col = take (length ws) (drop (k * length ws) l) in
+      let q = and-true (columnFits ws most col) (lineFits ws most (n - (k + 1)) (drop ((k + 1) * length ws) l)) (sym (line-next most) ∙ p) in
+      (column-true ws most col (q .0) .0, q .1)
 
 -- behind the last column
-pub line-last : (l : List ℕ) (n k most : ℕ) → n ≤ k → k * 5 < length l → lineFits five most (n - k) (drop (k * 5) l) ≡ eqb (getD l (k * 5) 0) 10
+pub line-last : (ws l : List ℕ) (n k most : ℕ) → n ≤ k → k * length ws < length l → lineFits ws most (n - k) (drop (k * length ws) l) ≡ eqb (getD l (k * length ws) 0) 10
 unfolding lineFits same
-line-last l n k most h j = let p : n - k ≡ 0 = omega arith in rw (p, drop-cons l (k * 5) 0 j) (and-right (eqb (getD l (k * 5) 0) 10))
+line-last ws l n k most h j =
+    let p : n - k ≡ 0 = omega arith in
+    rw (p, drop-cons l (k * length ws) 0 j) (and-right (eqb (getD l (k * length ws) 0) 10))
 
-pub numbers-last : (l : List ℕ) (n k : ℕ) → n ≤ k → numbers five (n - k) l ≡ []
+pub numbers-last : (ws l : List ℕ) (n k : ℕ) → n ≤ k → numbers ws (n - k) l ≡ []
 unfolding numbers
-numbers-last l n k h = let p : n - k ≡ 0 = omega arith in rw p
+numbers-last ws l n k h = let p : n - k ≡ 0 = omega arith in rw p
 
 -- a line that is too short
-pub line-short : (text : List ℕ) (most k : ℕ) → length text < lineSize five k → lineFits five most k text ≡ false
-line-short text most k h = go (lineFits five most k text) refl
+pub line-short : (ws text : List ℕ) (most k : ℕ) → length text < lineSize ws k → lineFits ws most k text ≡ false
+line-short ws text most k h = go (lineFits ws most k text) refl
   where
-    go : (t : Bool) → lineFits five most k text ≡ t → lineFits five most k text ≡ false
-    go true p = absurd (omega (arith, line-long five most k text p))
+    go : (t : Bool) → lineFits ws most k text ≡ t → lineFits ws most k text ≡ false
+    go true p = absurd (omega (arith, line-long ws most k text p))
     go false p = p
 
 -- the two numbers of a copied line
-module _ (copy text : List ℕ) (p : take 11 copy ≡ take 11 text) where
-  pub first-copied : value five (take 5 copy) ≡ getD (numbers five 2 text) 0 0
+module _ (ws copy text : List ℕ) (p : take (lineSize ws 2) copy ≡ take (lineSize ws 2) text) where
+  pub first-copied : value ws (take (length ws) copy) ≡ getD (numbers ws 2 text) 0 0
   unfolding numbers
-  first-copied = ap (λ (l : List ℕ). getD l 0 0) (numbers-copied five 2 copy text p)
+  first-copied = ap (λ (l : List ℕ). getD l 0 0) (numbers-copied ws 2 copy text p)
 
-  pub second-copied : value five (take 5 (drop 5 copy)) ≡ getD (numbers five 2 text) 1 0
+  pub second-copied : value ws (take (length ws) (drop (length ws) copy)) ≡ getD (numbers ws 2 text) 1 0
   unfolding numbers
-  second-copied = ap (λ (l : List ℕ). getD l 1 0) (numbers-copied five 2 copy text p)
+  second-copied = ap (λ (l : List ℕ). getD l 1 0) (numbers-copied ws 2 copy text p)
 
-  pub pair-true : (most : ℕ) → lineFits five most 2 text ≡ true → (value five (take 5 copy) ≤ most) × (value five (take 5 (drop 5 copy)) ≤ most)
+  pub pair-true : (most : ℕ) → lineFits ws most 2 text ≡ true → (value ws (take (length ws) copy) ≤ most) × (value ws (take (length ws) (drop (length ws) copy)) ≤ most)
+  unfolding lineFits
   pair-true most q =
-      let r = line-true copy 2 0 (omega arith) most (line-copied five 2 copy text p most ∙ q) in
-      (r .0, line-true copy 2 1 (omega arith) most (r .1) .0)
+      let r = and-true (columnFits ws most (take (length ws) copy)) (lineFits ws most 1 (drop (length ws) copy)) (line-copied ws 2 copy text p most ∙ q) in
+      let s = and-true (columnFits ws most (take (length ws) (drop (length ws) copy))) (lineFits ws most 0 (drop (length ws) (drop (length ws) copy))) (r .1) in
+      (column-true ws most (take (length ws) copy) (r .0) .0, column-true ws most (take (length ws) (drop (length ws) copy)) (s .0) .0)
 
 -- m lines, from a place on
-module _ (columns left at : ℕ) (text : List ℕ) (h : 0 < left) where
+module _ (ws : List ℕ) (columns left at : ℕ) (text : List ℕ) (h : 0 < left) where
   some : left ≡ suc (left - 1)
   some = omega arith
 
-  next : drop (columns * 5 + 1) (drop at text) ≡ drop (at + (columns * 5 + 1)) text
-  next = drop-drop (columns * 5 + 1) at text
+  next : drop (lineSize ws columns) (drop at text) ≡ drop (at + lineSize ws columns) text
+  next = drop-drop (lineSize ws columns) at text
 
-  pub lines-next : (most : ℕ) → linesFit five most columns left (drop at text) ≡ (lineFits five most columns (drop at text) && linesFit five most columns (left - 1) (drop (at + (columns * 5 + 1)) text))
+  pub lines-next : (most : ℕ) → linesFit ws most columns left (drop at text)
+      ≡ (lineFits ws most columns (drop at text) && linesFit ws most columns (left - 1) (drop (at + lineSize ws columns) text))
   unfolding linesFit
   lines-next most = go left some
     where
-      go : (m : ℕ) → m ≡ suc (left - 1) → linesFit five most columns m (drop at text) ≡ (lineFits five most columns (drop at text) && linesFit five most columns (left - 1) (drop (at + (columns * 5 + 1)) text))
+      go : (m : ℕ) → m ≡ suc (left - 1) → linesFit ws most columns m (drop at text)
+          ≡ (lineFits ws most columns (drop at text) && linesFit ws most columns (left - 1) (drop (at + lineSize ws columns) text))
       go m p = rw (p, next)
 
-  pub lines-numbers-next : linesNumbers five columns left (drop at text) ≡ numbers five columns (drop at text) ++ linesNumbers five columns (left - 1) (drop (at + (columns * 5 + 1)) text)
+  pub lines-numbers-next : linesNumbers ws columns left (drop at text)
+      ≡ numbers ws columns (drop at text) ++ linesNumbers ws columns (left - 1) (drop (at + lineSize ws columns) text)
   unfolding linesNumbers
   lines-numbers-next = go left some
     where
-      go : (m : ℕ) → m ≡ suc (left - 1) → linesNumbers five columns m (drop at text) ≡ numbers five columns (drop at text) ++ linesNumbers five columns (left - 1) (drop (at + (columns * 5 + 1)) text)
+      go : (m : ℕ) → m ≡ suc (left - 1) → linesNumbers ws columns m (drop at text)
+          ≡ numbers ws columns (drop at text) ++ linesNumbers ws columns (left - 1) (drop (at + lineSize ws columns) text)
       go m p = rw (p, next)
 
-  pub lines-true : (most : ℕ) → linesFit five most columns left (drop at text) ≡ true
-      → (lineFits five most columns (drop at text) ≡ true) × (linesFit five most columns (left - 1) (drop (at + (columns * 5 + 1)) text) ≡ true) × (columns * 5 + 1 ≤ length (drop at text))
+  pub lines-true : (most : ℕ) → linesFit ws most columns left (drop at text) ≡ true
+      → (lineFits ws most columns (drop at text) ≡ true) × (linesFit ws most columns (left - 1) (drop (at + lineSize ws columns) text) ≡ true)
+      × (lineSize ws columns ≤ length (drop at text))
   lines-true most p =
-      let q = and-true (lineFits five most columns (drop at text)) (linesFit five most columns (left - 1) (drop (at + (columns * 5 + 1)) text)) (sym (lines-next most) ∙ p) in
-      (q .0, q .1, line-long five most columns (drop at text) (q .0))
+      let q = and-true (lineFits ws most columns (drop at text)) (linesFit ws most columns (left - 1) (drop (at + lineSize ws columns) text))
+      (sym (lines-next most) ∙ p) in
+      (q .0, q .1, line-long ws most columns (drop at text) (q .0))
 
 -- writing a line, from its number k on
-module _ (text list : List ℕ) (at from n k : ℕ) (h : k < n) (j : from + n ≤ length list) where
-  columns-next : line five (take (n - k) (drop (from + k) list)) ≡ column five (getD list (from + k) 0) ++ line five (take (n - (k + 1)) (drop (from + (k + 1)) list))
+module _ (ws text list : List ℕ) (at from n k : ℕ) (h : k < n) (j : from + n ≤ length list) where
+  abbrev col-written : List ℕ
+  col-written = column ws (getD list (from + k) 0)
+
+  abbrev rest-written : List ℕ
+  rest-written = line ws (take (n - (k + 1)) (drop (from + (k + 1)) list))
+
+  columns-next : line ws (take (n - k) (drop (from + k) list)) ≡ col-written ++ rest-written
   unfolding line
   columns-next =
       let p : n - k ≡ suc (n - (k + 1)) = omega arith in
       let q : suc (from + k) ≡ from + (k + 1) = omega arith in
       rw (p, drop-cons list (from + k) 0 (omega arith), q)
 
-  pub write-next : sets text (at + k * 5) (line five (take (n - k) (drop (from + k) list)))
-      ≡ sets (sets text (at + k * 5) (column five (getD list (from + k) 0))) (at + (k + 1) * 5) (line five (take (n - (k + 1)) (drop (from + (k + 1)) list)))
+  pub write-next : sets text (at + k * length ws) (line ws (take (n - k) (drop (from + k) list)))
+      ≡ sets (sets text (at + k * length ws) col-written) (at + (k + 1) * length ws) rest-written
   write-next =
-      let p : at + k * 5 + length (column five (getD list (from + k) 0)) ≡ at + (k + 1) * 5 = omega (arith, length-column five (getD list (from + k) 0)) in
-      rw columns-next (sets-append text (at + k * 5) (column five (getD list (from + k) 0)) (line five (take (n - (k + 1)) (drop (from + (k + 1)) list)))
-      ∙ ap (λ (i : ℕ). sets (sets text (at + k * 5) (column five (getD list (from + k) 0))) i (line five (take (n - (k + 1)) (drop (from + (k + 1)) list)))) p)
+      let p : at + k * length ws + length col-written ≡ at + (k + 1) * length ws = omega (arith, length-column ws (getD list (from + k) 0), column-end ws k) in
+      rw columns-next (sets-append text (at + k * length ws) col-written rest-written ∙ ap (λ (i : ℕ). sets (sets text (at + k * length ws) col-written) i rest-written) p)
 
-pub write-last : (text list : List ℕ) (i n k : ℕ) → n ≤ k → sets text i (line five (take (n - k) list)) ≡ set text i 10
+pub write-last : (ws text list : List ℕ) (i n k : ℕ) → n ≤ k → sets text i (line ws (take (n - k) list)) ≡ set text i 10
 unfolding line
-write-last text list i n k h = let p : n - k ≡ 0 = omega arith in rw p
+write-last ws text list i n k h = let p : n - k ≡ 0 = omega arith in rw p
 
 -- writing m lines, from a place on
-pub write-lines-next : (text list : List ℕ) (at from columns left : ℕ) → 0 < left → from + columns ≤ length list
-    → sets text at (lines five columns left (drop from list))
-    ≡ sets (sets text at (line five (take columns (drop from list)))) (at + (columns * 5 + 1)) (lines five columns (left - 1) (drop (from + columns) list))
+pub write-lines-next : (ws text list : List ℕ) (at from columns left : ℕ) → 0 < left → from + columns ≤ length list
+    → sets text at (lines ws columns left (drop from list))
+    ≡ sets (sets text at (line ws (take columns (drop from list)))) (at + lineSize ws columns) (lines ws columns (left - 1) (drop (from + columns) list))
 unfolding lines
-write-lines-next text list at from columns left h j = go left (omega arith)
+write-lines-next ws text list at from columns left h j = go left (omega arith)
   where
-    long : length (line five (take columns (drop from list))) ≡ columns * 5 + 1
-    long = length-line five (take columns (drop from list)) ∙ ap (λ (n : ℕ). n * 5 + 1) (length-take-le columns (drop from list) (omega (arith, length-drop from list)))
+    first : List ℕ
+    first = line ws (take columns (drop from list))
 
-    go : (m : ℕ) → m ≡ suc (left - 1) → sets text at (lines five columns m (drop from list))
-        ≡ sets (sets text at (line five (take columns (drop from list)))) (at + (columns * 5 + 1)) (lines five columns (left - 1) (drop (from + columns) list))
-    go m p = rw (p, drop-drop columns from list)
-        (sets-append text at (line five (take columns (drop from list))) (lines five columns (left - 1) (drop (from + columns) list))
-        ∙ ap (λ (n : ℕ). sets (sets text at (line five (take columns (drop from list)))) (at + n) (lines five columns (left - 1) (drop (from + columns) list))) long)
+    rest : List ℕ
+    rest = lines ws columns (left - 1) (drop (from + columns) list)
+
+    long : length first ≡ lineSize ws columns
+    long = length-line ws (take columns (drop from list)) ∙ ap (lineSize ws) (length-take-le columns (drop from list) (omega (arith, length-drop from list)))
+
+    go : (m : ℕ) → m ≡ suc (left - 1) → sets text at (lines ws columns m (drop from list)) ≡ sets (sets text at first) (at + lineSize ws columns) rest
+    go m p = rw (p, drop-drop columns from list) (sets-append text at first rest ∙ ap (λ (n : ℕ). sets (sets text at first) (at + n) rest) long)
 
 -- after the last line
-pub lines-last : (most columns left next : ℕ) (text : List ℕ) → left ≡ 0 → next ≤ length text → linesFit five most columns left (drop next text) ≡ eqb next (length text)
+pub lines-last : (ws : List ℕ) (most columns left next : ℕ) (text : List ℕ) → left ≡ 0 → next ≤ length text
+    → linesFit ws most columns left (drop next text) ≡ eqb next (length text)
 unfolding linesFit same
-lines-last most columns left next text p h = rw p (elim (ℕ-discrete next (length text)) [
+lines-last ws most columns left next text p h = rw p (elim (ℕ-discrete next (length text)) [
   | yes q ↦ rw (eq-eqb next (length text) q, drop-of-length-le text {i = next} (omega arith))
   | no q ↦ rw (ne-eqb next (length text) q, drop-cons text next 0 (omega arith))
 ])
 
-pub lines-numbers-last : (columns left : ℕ) (text : List ℕ) → left ≡ 0 → linesNumbers five columns left text ≡ []
+pub lines-numbers-last : (ws : List ℕ) (columns left : ℕ) (text : List ℕ) → left ≡ 0 → linesNumbers ws columns left text ≡ []
 unfolding linesNumbers
-lines-numbers-last columns left text p = rw p
+lines-numbers-last ws columns left text p = rw p
 
-pub write-lines-last : (columns left : ℕ) (list : List ℕ) → left ≡ 0 → lines five columns left list ≡ []
+pub write-lines-last : (ws : List ℕ) (columns left : ℕ) (list : List ℕ) → left ≡ 0 → lines ws columns left list ≡ []
 unfolding lines
-write-lines-last columns left list p = rw p
+write-lines-last ws columns left list p = rw p
 
 pub length-numbers : (ws : List ℕ) (k : ℕ) (text : List ℕ) → length (numbers ws k text) ≡ k
 unfolding numbers
@@ -330,13 +349,14 @@ length-numbers ws zero text = refl
 length-numbers ws (suc k) text = ap suc (length-numbers ws k (drop (length ws) text))
 
 -- storing m lines, from a place on
-pub store-lines-next : (list text : List ℕ) (to at columns left : ℕ) → 0 < left
-    → sets list to (linesNumbers five columns left (drop at text))
-    ≡ sets (sets list to (numbers five columns (drop at text))) (to + columns) (linesNumbers five columns (left - 1) (drop (at + (columns * 5 + 1)) text))
-store-lines-next list text to at columns left h =
-    rw (lines-numbers-next columns left at text h)
-    (sets-append list to (numbers five columns (drop at text)) (linesNumbers five columns (left - 1) (drop (at + (columns * 5 + 1)) text))
-    ∙ ap (λ (n : ℕ). sets (sets list to (numbers five columns (drop at text))) (to + n) (linesNumbers five columns (left - 1) (drop (at + (columns * 5 + 1)) text))) (length-numbers five columns (drop at text)))
+pub store-lines-next : (ws list text : List ℕ) (to at columns left : ℕ) → 0 < left
+    → sets list to (linesNumbers ws columns left (drop at text))
+    ≡ sets (sets list to (numbers ws columns (drop at text))) (to + columns) (linesNumbers ws columns (left - 1) (drop (at + lineSize ws columns) text))
+store-lines-next ws list text to at columns left h =
+    let first = numbers ws columns (drop at text) in
+    let rest = linesNumbers ws columns (left - 1) (drop (at + lineSize ws columns) text) in
+    rw (lines-numbers-next ws columns left at text h)
+    (sets-append list to first rest ∙ ap (λ (n : ℕ). sets (sets list to first) (to + n) rest) (length-numbers ws columns (drop at text)))
 
 -- one turn less
 pub one-less : (a b : ℕ) → 0 < b → a * b ≡ a * (b - 1) + a

@@ -6,26 +6,24 @@ use mathlib.Core.Logic.{⊎-elim}
 use mathlib.Core.List.{List, [], _∷_, _++_, append-assoc}
 use Prim.Native.Nat.{ℕ, zero, suc, _+_, _*_, _/_, _%_, _^_, _≤_, _<_}
 use native.Mathlib.Omega.{arith}
-use native.Mathlib.Nat.{suc-mul, mul-suc, mul-zero, mul-div-cancel-left}
+use native.Mathlib.Nat.{mul-suc, mul-zero, mul-div-cancel-left}
 use native.Mathlib.Decide.{ℕ-discrete, decLt}
 use lib.Dec.{eqb, ltb}
 use lib.ListN.{length, take, drop, getD, length-take, length-drop, take-append-drop, List·getD-eq-default}
 use lib.Seq.{take-at, drop-at, drop-drop, length-take-le, getD-take, getD-drop}
 use borrow.Author.Tests.{le-leb, le-ltb, eq-eqb, ne-eqb, ltb-false, eqb-true}
-use Rattle.connectivity.specs.Admission.{Limits, limits, Answer, answer, Admitted, endsAnswer, admission}
-use Rattle.connectivity.proofs.Admission.{admission-is, admission-number}
-use Rattle.text.specs.Column.{worths, five, largest, column, line, lines, lineSize, value, same, columnFits, lineFits, numbers, linesFit, linesNumbers}
-use Rattle.text.specs.Plan.{Reading, Writing, headerFirst, headerSecond, behindHeader, planText, readEnds, readPlan, writePlan}
-use Rattle.text.specs.Verdict.{perLine, linesOf, needed, countOf, countFits, hasText, verdictText, listRead, readVerdict, writeVerdict}
-use Rattle.text.proofs.Laws.{and-true, same-true, same-refl, length-column, column-true, length-line, length-numbers}
-use Rattle.text.proofs.Reading.{length-lines-numbers, fits, verdict-fits, refusal-read, lines-read}
+use Rattle.connectivity.specs.Plan.{Plan, plan, Limits}
+use Rattle.connectivity.specs.Admission.{Answer, Admitted, endsAnswer, admission}
+use Rattle.connectivity.proofs.Admission.{admission-number}
+use Rattle.text.specs.Column.{worths, column, line, lines, lineSize, value, same, columnFits, lineFits, numbers, linesFit, linesNumbers}
+use Rattle.text.specs.Plan.{PlanReading, Writing, headerFirst, headerSecond, behindHeader, planText, readEnds, readPlan, writePlan}
+use Rattle.text.specs.Verdict.{VerdictReading, perLine, linesOf, needed, countOf, countFits, hasText, verdictText, listRead, readVerdict, writeVerdict}
+use Rattle.text.proofs.Laws.{and-true, same-true, same-refl, length-column, column-true, size-suc, length-line, length-numbers}
+use Rattle.text.proofs.Reading.{noPlan, noVerdict, length-lines-numbers, fits, verdict-fits, refusal-read, lines-read}
 use Rattle.text.proofs.Writing.{form, count-most, kind-most, has-text-is, plan-written, verdict-written}
 use Rattle.text.proofs.Digits.{read-back}
 
 -- every byte list that fits is what writing gives
-
-size-suc : (ws : List ℕ) (k : ℕ) → length ws + lineSize ws k ≡ lineSize ws (suc k)
-size-suc ws k = omega (arith, suc-mul k (length ws))
 
 line-is : (ws : List ℕ) (most k : ℕ) (text : List ℕ) → lineFits ws most k text ≡ true → text ≡ line ws (numbers ws k text) ++ drop (lineSize ws k) text
 unfolding lineFits numbers line
@@ -37,7 +35,7 @@ line-is ws most (suc k) text p =
     let q = and-true (columnFits ws most (take w text)) (lineFits ws most k (drop w text)) p in
     let c = column-true ws most (take w text) (q .0) .1 in
     let r = line-is ws most k (drop w text) (q .1) in
-    let s : drop (lineSize ws k) (drop w text) ≡ drop (lineSize ws (suc k)) text = drop-drop (lineSize ws k) w text ∙ ap (λ (n : ℕ). drop n text) (size-suc ws k) in
+    let s : drop (lineSize ws k) (drop w text) ≡ drop (lineSize ws (suc k)) text = drop-drop (lineSize ws k) w text ∙ ap (λ (n : ℕ). drop n text) (sym (size-suc ws k)) in
     sym (take-append-drop w text) ∙ ap (λ (l : List ℕ). l ++ drop w text) (sym c)
     ∙ ap (λ (l : List ℕ). column ws (value ws (take w text)) ++ l) (r ∙ ap (λ (l : List ℕ). line ws (numbers ws k (drop w text)) ++ l) s)
     ∙ sym (append-assoc (column ws (value ws (take w text))) (line ws (numbers ws k (drop w text))) (drop (lineSize ws (suc k)) text))
@@ -109,8 +107,8 @@ module _ (ws : List ℕ) (most : ℕ) (exact : (x : ℕ) → x ≤ most → valu
 
 -- plan text
 
-never : {A : Type 0} (a : Answer) (n : ℕ) (list : List ℕ) → Reading.refused a ≡ Reading.read n list → A
-never a n list p = let z : _≡_ {A = ℕ} 0 1 = cc in absurd (omega arith)
+not-read : {A : Type 0} (a : Answer) (q : Plan) → PlanReading.refused a ≡ PlanReading.read q → A
+not-read a q p = let z : _≡_ {A = ℕ} 0 1 = cc in absurd (omega arith)
 
 header-is : (ws text : List ℕ) → numbers ws 2 text ≡ headerFirst ws text ∷ headerSecond ws text ∷ []
 unfolding numbers
@@ -121,22 +119,25 @@ headed : (ws : List ℕ) (most : ℕ) (text : List ℕ) → lineFits ws most 2 t
     → text ≡ line ws (headerFirst ws text ∷ headerSecond ws text ∷ []) ++ behindHeader ws text
 headed ws most text h = line-is ws most 2 text h ∙ ap (λ (l : List ℕ). line ws l ++ behindHeader ws text) (header-is ws text)
 
+-- the plan that the numbers of a text list
+abbrev listed : List ℕ → List ℕ → Plan
+listed ws text = plan (headerFirst ws text) (linesNumbers ws 2 (headerSecond ws text) (behindHeader ws text))
+
 -- the tests that a plan text has met once it is read, and what was read
-record PlanRead (ws : List ℕ) (most : ℕ) (limits : Limits) (text : List ℕ) (n : ℕ) (ends : List ℕ) : Type 0 where
+record PlanRead (ws : List ℕ) (most : ℕ) (limits : Limits) (text : List ℕ) (p : Plan) : Type 0 where
   header : lineFits ws most 2 text ≡ true
   few : (ltb (headerFirst ws text) 2 || ltb (limits .vertices) (headerFirst ws text)) ≡ false
   short : ltb (limits .edges) (headerSecond ws text) ≡ false
   fit : linesFit ws most 2 (headerSecond ws text) (behindHeader ws text) ≡ true
-  joined : eqb ((endsAnswer (headerFirst ws text) 0 (linesNumbers ws 2 (headerSecond ws text) (behindHeader ws text))) .number) 0 ≡ true
-  vertices : headerFirst ws text ≡ n
-  found : linesNumbers ws 2 (headerSecond ws text) (behindHeader ws text) ≡ ends
+  joined : eqb ((endsAnswer (headerFirst ws text) 0 (listed ws text .ends)) .number) 0 ≡ true
+  found : listed ws text ≡ p
 
-plan-read : (ws : List ℕ) (most : ℕ) (limits : Limits) (text : List ℕ) (space n : ℕ) (ends : List ℕ)
-    → readPlan ws most limits text space ≡ Reading.read n ends → PlanRead ws most limits text n ends
+plan-read : (ws : List ℕ) (most : ℕ) (limits : Limits) (text : List ℕ) (space : ℕ) (p : Plan)
+    → readPlan ws most limits text space ≡ PlanReading.read p → PlanRead ws most limits text p
 unfolding readPlan readEnds
-plan-read ws most limits text space n ends p =
+plan-read ws most limits text space p r =
     go (lineFits ws most 2 text) refl (ltb first 2 || ltb (limits .vertices) first) refl (ltb (limits .edges) m) refl (ltb space (2 * m)) (linesFit ws most 2 m rest) refl
-    (eqb ((endsAnswer first 0 found) .number) 0) refl p
+    (eqb ((endsAnswer first 0 found) .number) 0) refl r
   where
     first : ℕ
     first = headerFirst ws text
@@ -152,23 +153,24 @@ plan-read ws most limits text space n ends p =
 
     go : (a : Bool) → lineFits ws most 2 text ≡ a → (b : Bool) → (ltb first 2 || ltb (limits .vertices) first) ≡ b → (c : Bool) → ltb (limits .edges) m ≡ c
         → (d f : Bool) → linesFit ws most 2 m rest ≡ f → (g : Bool) → eqb ((endsAnswer first 0 found) .number) 0 ≡ g
-        → cond a (cond b (Reading.refused (answer 2 0)) (cond c (Reading.refused (answer 3 0)) (cond d (Reading.refused (answer 6 0))
-        (cond f (cond g (Reading.read first found) (Reading.refused (endsAnswer first 0 found))) (Reading.refused (answer 7 0)))))) (Reading.refused (answer 7 0)) ≡ Reading.read n ends
-        → PlanRead ws most limits text n ends
-    go false h b i c j d f k g l q = never _ _ _ q
-    go true h true i c j d f k g l q = never _ _ _ q
-    go true h false i true j d f k g l q = never _ _ _ q
-    go true h false i false j true f k g l q = never _ _ _ q
-    go true h false i false j false false k g l q = never _ _ _ q
-    go true h false i false j false true k false l q = never _ _ _ q
-    go true h false i false j false true k true l q = record { header = h; few = i; short = j; fit = k; joined = l; vertices = cc; found = cc }
+        → cond a (cond b (noPlan 2) (cond c (noPlan 3) (cond d (noPlan 6)
+        (cond f (cond g (PlanReading.read (plan first found)) (PlanReading.refused (endsAnswer first 0 found))) (noPlan 7))))) (noPlan 7)
+        ≡ PlanReading.read p
+        → PlanRead ws most limits text p
+    go false h b i c j d f k g l q = not-read _ _ q
+    go true h true i c j d f k g l q = not-read _ _ q
+    go true h false i true j d f k g l q = not-read _ _ q
+    go true h false i false j true f k g l q = not-read _ _ q
+    go true h false i false j false false k g l q = not-read _ _ q
+    go true h false i false j false true k false l q = not-read _ _ q
+    go true h false i false j false true k true l q = record { header = h; few = i; short = j; fit = k; joined = l; found = cc }
 
 -- 01: each text that is read is the very text that writing gives
-pub plan-is : (ws : List ℕ) (most : ℕ) (limits : Limits) (text : List ℕ) (space n : ℕ) (ends : List ℕ)
-    → readPlan ws most limits text space ≡ Reading.read n ends → text ≡ planText ws n ends
+pub plan-is : (ws : List ℕ) (most : ℕ) (limits : Limits) (text : List ℕ) (space : ℕ) (p : Plan)
+    → readPlan ws most limits text space ≡ PlanReading.read p → text ≡ planText ws p
 unfolding planText
-plan-is ws most limits text space n ends p =
-    let r = plan-read ws most limits text space n ends p in
+plan-is ws most limits text space p h =
+    let r = plan-read ws most limits text space p h in
     let first = headerFirst ws text in
     let m = headerSecond ws text in
     let rest = behindHeader ws text in
@@ -177,10 +179,12 @@ plan-is ws most limits text space n ends p =
     headed ws most text (r .header)
     ∙ ap (λ (l : List ℕ). line ws (first ∷ m ∷ []) ++ l) (lines-are ws most 2 m rest (r .fit))
     ∙ ap (λ (j : ℕ). line ws (first ∷ j ∷ []) ++ lines ws 2 j found) (sym half)
-    ∙ ap (λ (j : ℕ). planText ws j found) (r .vertices)
-    ∙ ap (planText ws n) (r .found)
+    ∙ ap (planText ws) (r .found)
 
 -- verdict text
+
+never-read : {A : Type 0} (a : Answer) (n : ℕ) (list : List ℕ) → VerdictReading.refused a ≡ VerdictReading.read n list → A
+never-read a n list p = let z : _≡_ {A = ℕ} 0 1 = cc in absurd (omega arith)
 
 per-line-some : (kind : ℕ) → 0 < perLine kind
 unfolding perLine
@@ -217,7 +221,7 @@ record VerdictRead (ws : List ℕ) (most : ℕ) (limits : Limits) (text : List �
   found : listRead ws (headerFirst ws text) (headerSecond ws text) (behindHeader ws text) ≡ list
 
 verdict-read : (ws : List ℕ) (most : ℕ) (limits : Limits) (text : List ℕ) (space kind : ℕ) (list : List ℕ)
-    → readVerdict ws most limits text space ≡ Reading.read kind list → VerdictRead ws most limits text kind list
+    → readVerdict ws most limits text space ≡ VerdictReading.read kind list → VerdictRead ws most limits text kind list
 unfolding readVerdict
 verdict-read ws most limits text space kind list p =
     go (lineFits ws most 2 text && countFits limits first count) refl (ltb space (needed first count)) (linesFit ws most (perLine first) (linesOf first count) rest) refl p
@@ -232,17 +236,17 @@ verdict-read ws most limits text space kind list p =
     rest = behindHeader ws text
 
     go : (a : Bool) → (lineFits ws most 2 text && countFits limits first count) ≡ a → (d f : Bool) → linesFit ws most (perLine first) (linesOf first count) rest ≡ f
-        → cond a (cond d (Reading.refused (answer 6 0)) (cond f (Reading.read first (listRead ws first count rest)) (Reading.refused (answer 8 0)))) (Reading.refused (answer 8 0))
-        ≡ Reading.read kind list
+        → cond a (cond d (noVerdict 6) (cond f (VerdictReading.read first (listRead ws first count rest)) (noVerdict 8))) (noVerdict 8)
+        ≡ VerdictReading.read kind list
         → VerdictRead ws most limits text kind list
-    go false h d f k q = never _ _ _ q
-    go true h true f k q = never _ _ _ q
-    go true h false false k q = never _ _ _ q
+    go false h d f k q = never-read _ _ _ q
+    go true h true f k q = never-read _ _ _ q
+    go true h false false k q = never-read _ _ _ q
     go true h false true k q = record { header = h; fit = k; same-kind = cc; found = cc }
 
 -- 01: each text that is read is the very text that writing gives
 pub verdict-is : (ws : List ℕ) (most : ℕ) (limits : Limits) (text : List ℕ) (space kind : ℕ) (list : List ℕ)
-    → readVerdict ws most limits text space ≡ Reading.read kind list → text ≡ verdictText ws kind list
+    → readVerdict ws most limits text space ≡ VerdictReading.read kind list → text ≡ verdictText ws kind list
 unfolding verdictText
 verdict-is ws most limits text space kind list p =
     let r = verdict-read ws most limits text space kind list p in
@@ -264,25 +268,29 @@ or-false true false p = (p, refl)
 or-false false true p = (refl, p)
 or-false false false p = (refl, refl)
 
-admitted-by : (limits : Limits) (n : ℕ) (ends : List ℕ) → length ends % 2 ≡ 0 → 2 ≤ n → n ≤ limits .vertices → length ends / 2 ≤ limits .edges
-    → (endsAnswer n 0 ends) .number ≡ 0 → Admitted limits n ends
-unfolding admission
-admitted-by limits n ends even two few short z =
-    admission-number limits n ends .0
-    (rw (eq-eqb (length ends % 2) 0 even, le-ltb n 2 two, le-ltb (limits .vertices) n few, le-ltb (limits .edges) (length ends / 2) short) z)
+-- past the tests of its counts, admission is the judgement of the ends
+module _ (limits : Limits) (p : Plan) where
+  to-ends : length (p .ends) % 2 ≡ 0 → 2 ≤ p .vertices → p .vertices ≤ limits .vertices → length (p .ends) / 2 ≤ limits .edges
+      → (admission limits p) .number ≡ (endsAnswer (p .vertices) 0 (p .ends)) .number
+  unfolding admission
+  to-ends even two few short =
+      let size = length (p .ends) in
+      rw (eq-eqb (size % 2) 0 even, le-ltb (p .vertices) 2 two, le-ltb (limits .vertices) (p .vertices) few, le-ltb (limits .edges) (size / 2) short)
 
-pub plan-admitted : (ws : List ℕ) (most : ℕ) (limits : Limits) (text : List ℕ) (space n : ℕ) (ends : List ℕ)
-    → readPlan ws most limits text space ≡ Reading.read n ends → Admitted limits n ends
-plan-admitted ws most limits text space n ends p =
-    let r = plan-read ws most limits text space n ends p in
+  admitted-ends : Admitted limits p → (endsAnswer (p .vertices) 0 (p .ends)) .number ≡ 0
+  admitted-ends a = sym (to-ends (a .even) (a .two) (a .vertices) (a .edges)) ∙ admission-number limits p .1 a
+
+pub plan-admitted : (ws : List ℕ) (most : ℕ) (limits : Limits) (text : List ℕ) (space : ℕ) (p : Plan)
+    → readPlan ws most limits text space ≡ PlanReading.read p → Admitted limits p
+plan-admitted ws most limits text space p h =
+    let r = plan-read ws most limits text space p h in
     let first = headerFirst ws text in
     let m = headerSecond ws text in
-    let found = linesNumbers ws 2 m (behindHeader ws text) in
     let size = length-lines-numbers ws 2 m (behindHeader ws text) in
     let o = or-false (ltb first 2) (ltb (limits .vertices) first) (r .few) in
-    let a = admitted-by limits first found (omega (arith, size)) (ltb-false first 2 (o .0)) (ltb-false (limits .vertices) first (o .1))
-    (omega (arith, size, ltb-false (limits .edges) m (r .short))) (eqb-true ((endsAnswer first 0 found) .number) 0 (r .joined)) in
-    subst (Admitted limits n) (r .found) (subst (λ (x : ℕ). Admitted limits x found) (r .vertices) a)
+    let counts = to-ends limits (listed ws text) (omega (arith, size)) (ltb-false first 2 (o .0)) (ltb-false (limits .vertices) first (o .1)) (omega (arith, size, ltb-false (limits .edges) m (r .short))) in
+    let joined = eqb-true ((endsAnswer first 0 (listed ws text .ends)) .number) 0 (r .joined) in
+    subst (Admitted limits) (r .found) (admission-number limits (listed ws text) .0 (counts ∙ joined))
 
 module _ (ws : List ℕ) (kind count : ℕ) (rest : List ℕ) where
   length-read : length (listRead ws kind count rest) ≡ needed kind count
@@ -292,7 +300,7 @@ module _ (ws : List ℕ) (kind count : ℕ) (rest : List ℕ) where
   ]
 
 pub verdict-has-text : (ws : List ℕ) (most : ℕ) (limits : Limits) (text : List ℕ) (space kind : ℕ) (list : List ℕ)
-    → readVerdict ws most limits text space ≡ Reading.read kind list → hasText limits kind list ≡ true
+    → readVerdict ws most limits text space ≡ VerdictReading.read kind list → hasText limits kind list ≡ true
 verdict-has-text ws most limits text space kind list p =
     let r = verdict-read ws most limits text space kind list p in
     let first = headerFirst ws text in
@@ -304,26 +312,25 @@ verdict-has-text ws most limits text space kind list p =
     subst (λ (l : List ℕ). hasText limits kind l ≡ true) (r .found) (subst (λ (x : ℕ). hasText limits x found ≡ true) (r .same-kind) whole)
 
 -- so writing, with space enough, gives the text again
-pub plan-again : (ws : List ℕ) (most : ℕ) (limits : Limits) (text : List ℕ) (space room n : ℕ) (ends : List ℕ)
-    → readPlan ws most limits text space ≡ Reading.read n ends → length text ≤ room → writePlan ws limits n ends room ≡ Writing.written text
-plan-again ws most limits text space room n ends p h =
-    let same = plan-is ws most limits text space n ends p in
-    let z = admission-number limits n ends .1 (plan-admitted ws most limits text space n ends p) in
-    plan-written ws limits n ends room z (subst (λ (l : List ℕ). length l ≤ room) same h) ∙ ap Writing.written (sym same)
+pub plan-again : (ws : List ℕ) (most : ℕ) (limits : Limits) (text : List ℕ) (space room : ℕ) (p : Plan)
+    → readPlan ws most limits text space ≡ PlanReading.read p → length text ≤ room → writePlan ws limits p room ≡ Writing.written text
+plan-again ws most limits text space room p r h =
+    let same = plan-is ws most limits text space p r in
+    plan-written ws limits p room (plan-admitted ws most limits text space p r) (subst (λ (l : List ℕ). length l ≤ room) same h) ∙ ap Writing.written (sym same)
 
 pub verdict-again : (ws : List ℕ) (most : ℕ) (limits : Limits) (text : List ℕ) (space room kind : ℕ) (list : List ℕ)
-    → readVerdict ws most limits text space ≡ Reading.read kind list → length text ≤ room → writeVerdict ws limits kind list room ≡ Writing.written text
+    → readVerdict ws most limits text space ≡ VerdictReading.read kind list → length text ≤ room → writeVerdict ws limits kind list room ≡ Writing.written text
 verdict-again ws most limits text space room kind list p h =
     let same = verdict-is ws most limits text space kind list p in
     verdict-written ws limits kind list room (verdict-has-text ws most limits text space kind list p) (subst (λ (l : List ℕ). length l ≤ room) same h) ∙ ap Writing.written (sym same)
 
 -- hence two different texts are never read as the same
-pub plan-once : (ws : List ℕ) (most : ℕ) (limits : Limits) (one two : List ℕ) (space room n : ℕ) (ends : List ℕ)
-    → readPlan ws most limits one space ≡ Reading.read n ends → readPlan ws most limits two room ≡ Reading.read n ends → one ≡ two
-plan-once ws most limits one two space room n ends p q = plan-is ws most limits one space n ends p ∙ sym (plan-is ws most limits two room n ends q)
+pub plan-once : (ws : List ℕ) (most : ℕ) (limits : Limits) (one two : List ℕ) (space room : ℕ) (p : Plan)
+    → readPlan ws most limits one space ≡ PlanReading.read p → readPlan ws most limits two room ≡ PlanReading.read p → one ≡ two
+plan-once ws most limits one two space room p q r = plan-is ws most limits one space p q ∙ sym (plan-is ws most limits two room p r)
 
 pub verdict-once : (ws : List ℕ) (most : ℕ) (limits : Limits) (one two : List ℕ) (space room kind : ℕ) (list : List ℕ)
-    → readVerdict ws most limits one space ≡ Reading.read kind list → readVerdict ws most limits two room ≡ Reading.read kind list → one ≡ two
+    → readVerdict ws most limits one space ≡ VerdictReading.read kind list → readVerdict ws most limits two room ≡ VerdictReading.read kind list → one ≡ two
 verdict-once ws most limits one two space room kind list p q = verdict-is ws most limits one space kind list p ∙ sym (verdict-is ws most limits two room kind list q)
 
 -- what is written is read as the same
@@ -333,20 +340,14 @@ pair-most most a b h k zero = h
 pair-most most a b h k (suc zero) = k
 pair-most most a b h k (suc (suc i)) = omega arith
 
-ends-most : (limits : Limits) (n : ℕ) (ends : List ℕ) (most : ℕ) → Admitted limits n ends → n ≤ most → (i : ℕ) → getD ends i 0 ≤ most
-ends-most limits n ends most a h i = elim (decLt i (length ends)) [
-  | yes p ↦ elim (ℕ-discrete (i % 2) 0) [
+ends-most : (limits : Limits) (p : Plan) (most : ℕ) → Admitted limits p → p .vertices ≤ most → (i : ℕ) → getD (p .ends) i 0 ≤ most
+ends-most limits p most a h i = elim (decLt i (length (p .ends))) [
+  | yes l ↦ elim (ℕ-discrete (i % 2) 0) [
     | yes q ↦ let e : i ≡ 2 * (i / 2) = omega arith in rw e (omega (arith, a .fit (i / 2) (omega (arith, a .even)) .left))
     | no q ↦ let e : i ≡ 2 * (i / 2) + 1 = omega arith in rw e (omega (arith, a .fit (i / 2) (omega (arith, a .even)) .right))
   ]
-  | no p ↦ omega (arith, List·getD-eq-default ends 0 {n = i} (omega arith))
+  | no l ↦ omega (arith, List·getD-eq-default (p .ends) 0 {n = i} (omega arith))
 ]
-
-admitted-ends : (limits : Limits) (n : ℕ) (ends : List ℕ) → Admitted limits n ends → (endsAnswer n 0 ends) .number ≡ 0
-unfolding admission
-admitted-ends limits n ends a =
-    ap (λ (x : Answer). x .number) (rw (eq-eqb (length ends % 2) 0 (a .even), le-ltb n 2 (a .two), le-ltb (limits .vertices) n (a .vertices), le-ltb (limits .edges) (length ends / 2) (a .edges))
-    at (admission-is limits n ends .1 a))
 
 empty-fits : (ws : List ℕ) (most k m : ℕ) (list : List ℕ) → m ≡ 0 → linesFit ws most k m (lines ws k m list) ≡ true
 unfolding linesFit lines same
@@ -377,10 +378,12 @@ module _ (ws : List ℕ) (most : ℕ) (exact : (x : ℕ) → x ≤ most → valu
     behind-back : behindHeader ws (line ws (a ∷ b ∷ []) ++ rest) ≡ rest
     behind-back = behind-line ws most exact (a ∷ b ∷ []) rest
 
-  plan-back : limits .vertices ≤ most → (n : ℕ) (ends : List ℕ) (space : ℕ) → Admitted limits n ends → length ends ≤ space
-      → readPlan ws most limits (planText ws n ends) space ≡ Reading.read n ends
+  plan-back : limits .vertices ≤ most → (p : Plan) (space : ℕ) → Admitted limits p → length (p .ends) ≤ space
+      → readPlan ws most limits (planText ws p) space ≡ PlanReading.read p
   unfolding planText
-  plan-back vertices n ends space a room =
+  plan-back vertices p space a room =
+      let n = p .vertices in
+      let ends = p .ends in
       let m = length ends / 2 in
       let rest = lines ws 2 m ends in
       let text = line ws (n ∷ m ∷ []) ++ rest in
@@ -388,12 +391,12 @@ module _ (ws : List ℕ) (most : ℕ) (exact : (x : ℕ) → x ≤ most → valu
       let k : m ≤ most = omega (arith, a .edges) in
       let numbers-are = header-back n m rest h k in
       let rest-is = behind-back n m rest h k in
-      let back = lines-back ws most exact 2 m ends (omega (arith, a .even)) (ends-most limits n ends most a h) in
+      let back = lines-back ws most exact 2 m ends (omega (arith, a .even)) (ends-most limits p most a h) in
       let ends-are : linesNumbers ws 2 m (behindHeader ws text) ≡ ends = ap (linesNumbers ws 2 m) rest-is ∙ back .1 in
       fits ws most limits text space n m (sym (ap (λ (l : List ℕ). getD l 0 0) numbers-are)) (sym (ap (λ (l : List ℕ). getD l 1 0) numbers-are))
       (header-fits n m rest h k) (a .two) (a .vertices) (a .edges) (omega (arith, a .even)) (ap (linesFit ws most 2 m) rest-is ∙ back .0)
-      (ap (λ (l : List ℕ). (endsAnswer n 0 l) .number) ends-are ∙ admitted-ends limits n ends a)
-      ∙ ap (Reading.read n) ends-are
+      (ap (λ (l : List ℕ). (endsAnswer n 0 l) .number) ends-are ∙ admitted-ends limits p a)
+      ∙ ap (λ (l : List ℕ). PlanReading.read (plan n l)) ends-are
 
   -- the lines of a verdict's text
   lines-kept : (kind : ℕ) (list : List ℕ) → hasText limits kind list ≡ true → ((i : ℕ) → getD list i 0 ≤ most)
@@ -414,7 +417,7 @@ module _ (ws : List ℕ) (most : ℕ) (exact : (x : ℕ) → x ≤ most → valu
       ]
 
   verdict-back : 7 ≤ most → (kind : ℕ) (list : List ℕ) (space : ℕ) → hasText limits kind list ≡ true → ((i : ℕ) → getD list i 0 ≤ most) → length list ≤ space
-      → readVerdict ws most limits (verdictText ws kind list) space ≡ Reading.read kind list
+      → readVerdict ws most limits (verdictText ws kind list) space ≡ VerdictReading.read kind list
   unfolding verdictText
   verdict-back seven kind list space t small room =
       let count = countOf kind list in
@@ -428,30 +431,15 @@ module _ (ws : List ℕ) (most : ℕ) (exact : (x : ℕ) → x ≤ most → valu
       let back = lines-kept kind list t small in
       verdict-fits ws most limits text space kind count (sym (ap (λ (l : List ℕ). getD l 0 0) numbers-are)) (sym (ap (λ (l : List ℕ). getD l 1 0) numbers-are))
       (header-fits kind count rest h k) (f .0) (omega (arith, f .1)) (ap (linesFit ws most (perLine kind) (linesOf kind count)) rest-is ∙ back .0)
-      ∙ ap (Reading.read kind) (ap (listRead ws kind count) rest-is ∙ back .1)
+      ∙ ap (VerdictReading.read kind) (ap (listRead ws kind count) rest-is ∙ back .1)
 
 -- In columns of w digits, for every largest value that has no more digits and all limits that are not above it: every admitted plan
 -- and every verdict with a text form survives writing and reading.
 module _ (w most : ℕ) (digits : most < 10 ^ w) (limits : Limits) (vertices : limits .vertices ≤ most) (edges : limits .edges ≤ most) where
-  pub plan-kept : (n : ℕ) (ends : List ℕ) (space : ℕ) → Admitted limits n ends → length ends ≤ space
-      → readPlan (worths w) most limits (planText (worths w) n ends) space ≡ Reading.read n ends
+  pub plan-kept : (p : Plan) (space : ℕ) → Admitted limits p → length (p .ends) ≤ space
+      → readPlan (worths w) most limits (planText (worths w) p) space ≡ PlanReading.read p
   plan-kept = plan-back (worths w) most (read-back w most digits) limits edges vertices
 
   pub verdict-kept : 7 ≤ most → (kind : ℕ) (list : List ℕ) (space : ℕ) → hasText limits kind list ≡ true → ((i : ℕ) → getD list i 0 ≤ most) → length list ≤ space
-      → readVerdict (worths w) most limits (verdictText (worths w) kind list) space ≡ Reading.read kind list
+      → readVerdict (worths w) most limits (verdictText (worths w) kind list) space ≡ VerdictReading.read kind list
   verdict-kept = verdict-back (worths w) most (read-back w most digits) limits edges
-
--- in 01's columns
-pub five-worths : five ≡ worths 5
-unfolding worths
-five-worths = refl
-
-pub plan-kept-five : (n : ℕ) (ends : List ℕ) (space : ℕ) → Admitted limits n ends → length ends ≤ space
-    → readPlan five largest limits (planText five n ends) space ≡ Reading.read n ends
-unfolding worths
-plan-kept-five = plan-kept 5 largest (omega arith) limits (omega arith) (omega arith)
-
-pub verdict-kept-five : (kind : ℕ) (list : List ℕ) (space : ℕ) → hasText limits kind list ≡ true → ((i : ℕ) → getD list i 0 ≤ largest) → length list ≤ space
-    → readVerdict five largest limits (verdictText five kind list) space ≡ Reading.read kind list
-unfolding worths
-verdict-kept-five = verdict-kept 5 largest (omega arith) limits (omega arith) (omega arith) (omega arith)

@@ -6,14 +6,15 @@ use mathlib.Core.List.{List, [], _∷_}
 use Prim.Native.Nat.{ℕ, zero, suc, _+_, _*_, _/_, _≤_, _<_, _%_}
 use native.Mathlib.Omega.{arith}
 use native.Mathlib.Decide.{ℕ-discrete}
-use native.Mathlib.Nat.{mul-suc, suc-mul, mul-zero, mul-le-mul}
+use native.Mathlib.Nat.{mul-suc, suc-mul, mul-zero, mul-le-mul, mul-le-mul-right}
 use lib.Dec.{eqb, leb}
 use lib.ListN.{length, take, drop, getD, length-append, length-drop}
 use lib.Seq.{length-take-le}
 use borrow.Author.Tests.{ne-eqb, lt-ltb, le-ltb, eq-eqb, eqb-true, leb-true}
-use Rattle.connectivity.specs.Admission.{Limits, answer, limits, Admitted, admission}
+use Rattle.connectivity.specs.Plan.{Plan, Limits}
+use Rattle.connectivity.specs.Admission.{answer, Admitted, admission}
 use Rattle.connectivity.proofs.Admission.{admission-number}
-use Rattle.text.specs.Column.{five, line, lines, lineSize}
+use Rattle.text.specs.Column.{line, lines, lineSize}
 use Rattle.text.specs.Plan.{Writing, planText, writePlan}
 use Rattle.text.specs.Verdict.{perLine, linesOf, needed, countOf, countFits, hasText, verdictText, writeVerdict}
 use Rattle.text.proofs.Laws.{and-true, length-line}
@@ -31,31 +32,31 @@ abbrev refusal : ℕ → Writing
 refusal k = Writing.refused (answer k 0)
 
 -- writing a plan
-module _ (ws : List ℕ) (limits : Limits) (n : ℕ) (ends : List ℕ) (space : ℕ) where
-  pub plan-refused : (Admitted limits n ends → ⊥) → writePlan ws limits n ends space ≡ Writing.refused (admission limits n ends)
+module _ (ws : List ℕ) (limits : Limits) (p : Plan) (space : ℕ) where
+  pub plan-refused : (Admitted limits p → ⊥) → writePlan ws limits p space ≡ Writing.refused (admission limits p)
   unfolding writePlan
-  plan-refused h = rw (ne-eqb ((admission limits n ends) .number) 0 (λ z. h (admission-number limits n ends .0 z)))
+  plan-refused h = rw (ne-eqb ((admission limits p) .number) 0 (λ z. h (admission-number limits p .0 z)))
 
-  module _ (z : (admission limits n ends) .number ≡ 0) where
-    pub plan-even : (2 * (length ends / 2) ≡ length ends) × (length ends / 2 ≤ limits .edges)
-    plan-even = let a = admission-number limits n ends .0 z in (omega (arith, a .even), a .edges)
-
-    pub length-plan : length (planText ws n ends) ≡ lineSize ws 2 + length ends / 2 * lineSize ws 2
+  module _ (a : Admitted limits p) where
+    pub length-plan : length (planText ws p) ≡ lineSize ws 2 + length (p .ends) / 2 * lineSize ws 2
     unfolding planText
-    length-plan = omega (
-      arith,
-      length-append (line ws (n ∷ (length ends / 2 ∷ []))) (lines ws 2 (length ends / 2) ends),
-      length-line ws (n ∷ (length ends / 2 ∷ [])),
-      length-lines ws 2 (length ends / 2) ends (omega arith),
-    )
+    length-plan =
+        let m = length (p .ends) / 2 in
+        let header = p .vertices ∷ (m ∷ []) in
+        omega (
+          arith,
+          length-append (line ws header) (lines ws 2 m (p .ends)),
+          length-line ws header,
+          length-lines ws 2 m (p .ends) (omega (arith, a .even)),
+        )
 
-    pub plan-short : space < length (planText ws n ends) → writePlan ws limits n ends space ≡ refusal 6
+    pub plan-short : space < length (planText ws p) → writePlan ws limits p space ≡ refusal 6
     unfolding writePlan
-    plan-short h = rw (eq-eqb ((admission limits n ends) .number) 0 z, lt-ltb space (length (planText ws n ends)) h)
+    plan-short h = rw (eq-eqb ((admission limits p) .number) 0 (admission-number limits p .1 a), lt-ltb space (length (planText ws p)) h)
 
-    pub plan-written : length (planText ws n ends) ≤ space → writePlan ws limits n ends space ≡ Writing.written (planText ws n ends)
+    pub plan-written : length (planText ws p) ≤ space → writePlan ws limits p space ≡ Writing.written (planText ws p)
     unfolding writePlan
-    plan-written h = rw (eq-eqb ((admission limits n ends) .number) 0 z, le-ltb space (length (planText ws n ends)) h)
+    plan-written h = rw (eq-eqb ((admission limits p) .number) 0 (admission-number limits p .1 a), le-ltb space (length (planText ws p)) h)
 
 -- the shape of a verdict's text
 pub per-line-most : (kind : ℕ) → perLine kind ≤ 3
@@ -162,14 +163,14 @@ module _ (ws : List ℕ) (limits : Limits) (kind : ℕ) (list : List ℕ) (space
     unfolding writeVerdict
     verdict-written z = rw (h, le-ltb space (length (verdictText ws kind list)) z)
 
--- within 01's limits
-pub count-small : (kind count : ℕ) → countFits limits kind count ≡ true → count ≤ 4000
-count-small kind count h = ⊎-elim (λ p. p) (λ p. omega arith) (count-most limits kind count h)
+-- where the limit of edges is not below the refusals of kind 2, it bounds every count, and so the size of the lines
+pub count-small : (limits : Limits) → 7 ≤ limits .edges → (kind count : ℕ) → countFits limits kind count ≡ true → count ≤ limits .edges
+count-small limits seven kind count h = ⊎-elim (λ p. p) (λ p. omega arith) (count-most limits kind count h)
 
-pub verdict-size : (kind : ℕ) (list : List ℕ) → hasText limits kind list ≡ true
-    → (countOf kind list ≤ 4000) × (linesOf kind (countOf kind list) * (perLine kind * 5 + 1) ≤ 64000)
-verdict-size kind list h =
-    let few = count-small kind (countOf kind list) (form five limits kind list 0 h .0) in
-    let m : linesOf kind (countOf kind list) ≤ 4000 = omega (arith, lines-needed kind (countOf kind list) .0) in
-    let k : perLine kind * 5 + 1 ≤ 16 = omega (arith, per-line-most kind) in
+pub verdict-size : (ws : List ℕ) (limits : Limits) → 7 ≤ limits .edges → (kind : ℕ) (list : List ℕ) → hasText limits kind list ≡ true
+    → (countOf kind list ≤ limits .edges) × (linesOf kind (countOf kind list) * lineSize ws (perLine kind) ≤ limits .edges * lineSize ws 3)
+verdict-size ws limits seven kind list h =
+    let few = count-small limits seven kind (countOf kind list) (form ws limits kind list 0 h .0) in
+    let m : linesOf kind (countOf kind list) ≤ limits .edges = omega (arith, lines-needed kind (countOf kind list) .0) in
+    let k : lineSize ws (perLine kind) ≤ lineSize ws 3 = omega (arith, mul-le-mul-right (length ws) (per-line-most kind)) in
     (few, mul-le-mul m k)

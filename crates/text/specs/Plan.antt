@@ -4,28 +4,30 @@ use mathlib.Core.List.{List, [], _∷_, _++_}
 use Prim.Native.Nat.{ℕ, _*_, _/_}
 use lib.Dec.{eqb, ltb}
 use lib.ListN.{length, drop, getD}
-use Rattle.connectivity.specs.Admission.{Answer, answer, Limits, endsAnswer, admission}
+use Rattle.connectivity.specs.Plan.{Plan, plan, Limits}
+use Rattle.connectivity.specs.Admission.{Answer, answer, endsAnswer, admission}
 use Rattle.text.specs.Column.{line, lines, lineSize, lineFits, numbers, linesFit, linesNumbers}
 
--- what reading gives: a refusal, or a number (of vertices; a verdict's kind) and a list (of ends; a verdict's numbers)
-pub data Reading : Type 0 where
-  refused : Answer → Reading
-  read : ℕ → List ℕ → Reading
+-- what reading a plan text gives: a refusal, or the plan
+pub data PlanReading : Type 0 where
+  refused : Answer → PlanReading
+  read : Plan → PlanReading
 
--- what writing gives: a refusal, or the bytes
+-- what writing a text gives: a refusal, or the bytes
 pub data Writing : Type 0 where
   refused : Answer → Writing
   written : List ℕ → Writing
 
--- 01: what is written fills just what it needs; what stands behind stays
+-- 01: reading and writing fill only the numbers or bytes they need; those behind stay
 abbrev pub filled : List ℕ → List ℕ → List ℕ
 filled xs lent = xs ++ drop (length xs) lent
 
--- 01: pieces and tabs on one line, then a line of two ends for each tab
-unfoldable pub planText : List ℕ → ℕ → List ℕ → List ℕ
-planText ws n ends = line ws (n ∷ (length ends / 2 ∷ [])) ++ lines ws 2 (length ends / 2) ends
+-- 01: plan text: pieces and tabs on one line, then a line of two ends for each tab
+unfoldable pub planText : List ℕ → Plan → List ℕ
+planText ws p =
+    line ws (p .vertices ∷ (length (p .ends) / 2 ∷ [])) ++ lines ws 2 (length (p .ends) / 2) (p .ends)
 
--- a header's two numbers, and the text behind it
+-- 01: header, the first line of a text: its two numbers, and the text behind it
 abbrev pub headerFirst : List ℕ → List ℕ → ℕ
 headerFirst ws text = getD (numbers ws 2 text) 0 0
 
@@ -35,13 +37,13 @@ headerSecond ws text = getD (numbers ws 2 text) 1 0
 abbrev pub behindHeader : List ℕ → List ℕ → List ℕ
 behindHeader ws text = drop (lineSize ws 2) text
 
--- 01: the ends that were read, or the first edge with 4 or 5
-unfoldable pub readEnds : ℕ → List ℕ → Reading
-readEnds n ends = let a = endsAnswer n 0 ends in cond (eqb (a .number) 0) (read n ends) (refused a)
+-- 01: 4 and 5: the first edge with one of them, else the plan with the ends that were read
+unfoldable pub readEnds : ℕ → List ℕ → PlanReading
+readEnds n ends = let a = endsAnswer n 0 ends in cond (eqb (a .number) 0) (read (plan n ends)) (refused a)
 
--- 01: header 7, then 2, 3, 6 (two numbers needed for each edge), the remaining lines 7, then 4 and 5. `space` is the length of the
--- table that is lent
-unfoldable pub readPlan : List ℕ → ℕ → Limits → List ℕ → ℕ → Reading
+-- 01: order of reading: header 7, then 2, 3, 6 (two numbers needed for each edge), the remaining lines 7, then 4 and 5. `most` is the
+-- largest value, `space` the length of the table that is lent
+unfoldable pub readPlan : List ℕ → ℕ → Limits → List ℕ → ℕ → PlanReading
 readPlan ws most limits text space =
     let n = headerFirst ws text in
     let m = headerSecond ws text in
@@ -53,10 +55,10 @@ readPlan ws most limits text space =
     (cond (linesFit ws most 2 m rest) (readEnds n (linesNumbers ws 2 m rest)) (refused (answer 7 0))))))
     (refused (answer 7 0))
 
--- 01: the plan's own 1 to 5, then 6 where the lent bytes are fewer than the text
-unfoldable pub writePlan : List ℕ → Limits → ℕ → List ℕ → ℕ → Writing
-writePlan ws limits n ends space =
-    let a = admission limits n ends in
+-- 01: writing plan text: the plan's own 1 to 5, then 6 where the lent bytes, `space` of them, are fewer than the text
+unfoldable pub writePlan : List ℕ → Limits → Plan → ℕ → Writing
+writePlan ws limits p space =
+    let a = admission limits p in
     cond (eqb (a .number) 0)
-    (cond (ltb space (length (planText ws n ends))) (refused (answer 6 0)) (written (planText ws n ends)))
+    (cond (ltb space (length (planText ws p))) (refused (answer 6 0)) (written (planText ws p)))
     (refused a)

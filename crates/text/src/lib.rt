@@ -2,7 +2,7 @@
 use graph::Graph;
 ghost use mathlib.Core.Path.{_≡_};
 ghost use Prim.Native.Nat.{_+_, _/_, _%_, _<_};
-ghost use Rattle.connectivity.specs.Admission.{limits};
+ghost use Rattle.connectivity.specs.Plan.{limits};
 ghost use Rattle.text.specs.Column.{five, byteAt, column};
 ghost use Rattle.text.specs.Verdict.{perLine, linesOf, needed, countFits};
 
@@ -27,14 +27,14 @@ pub const VERDICT_SIZE: usize = HEADER + Graph::MAX_EDGES * LONGEST;
 // The bytes of an answer's line.
 pub const ANSWER_SIZE: usize = HEADER;
 
-// The bytes of x in a column.
-pub fn column(x: u32) -> [u8; WIDTH]
+// The bytes of x in a column. A column has room for every value of the type.
+pub fn column(x: u16) -> [u8; WIDTH]
     ensures { λ r. ⌜ r ≡ column five x ⌝ }
 {
     let mut bytes = [0u8; WIDTH];
     let mut i = 0;
     while i < WIDTH {
-        bytes[i] = byte_at(WORTHS[i], x);
+        bytes[i] = byte_at(WORTHS[i], x as u32);
         i += 1;
     }
     bytes

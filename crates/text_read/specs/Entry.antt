@@ -1,44 +1,45 @@
 -- What the two entries that read answer, and what the lent memory holds afterwards.
 use mathlib.Core.Path.{_≡_}
-use mathlib.Core.List.{List}
+use mathlib.Core.List.{List, [], _∷_}
 use Prim.Native.Nat.{ℕ, _/_}
 use lib.ListN.{length}
-use Rattle.connectivity.specs.Admission as meaning
-use Rattle.graph.specs.Admission.{toldBy}
+use Rattle.connectivity.specs.Plan.{Limits}
+use Rattle.connectivity.specs.Admission.{Handed, served, refusal}
+use Rattle.graph.specs.Admission as admission
 use Rattle.graph.specs.declared.Admission.{Admission}
 use Rattle.text_read.specs.declared.VerdictRead.{VerdictRead}
-use Rattle.text.specs.Column.{five, largest}
-use Rattle.text.specs.Plan.{Reading, filled, readPlan}
-use Rattle.text.specs.Verdict.{readVerdict}
+use Rattle.text.specs.Plan.{PlanReading, filled, readPlan}
+use Rattle.text.specs.Verdict.{VerdictReading, readVerdict}
 
--- 01: a refusal leaves lent memory unchanged
-abbrev pub afterReading : Reading → List ℕ → List ℕ
-afterReading (Reading.refused a) lent = lent
-afterReading (Reading.read n list) lent = filled list lent
+-- 01's number, place and values for each case; the values of a verdict are its kind and how many numbers its list has
+abbrev pub handed : VerdictRead → Handed
+handed (VerdictRead.Refused a) = refusal (admission.answerOf a)
+handed (VerdictRead.Read kind count) = served (kind ∷ (count ∷ []))
 
--- each result as the code's types have it
-abbrev pub planTold : Reading → Admission
-planTold (Reading.refused a) = Admission.Refused (toldBy a)
-planTold (Reading.read n ends) = Admission.Admitted (record { vertices = n; edges = length ends / 2 })
+-- what is handed back of a plan text: how many vertices and edges the plan has, or the refusal
+abbrev pub planHanded : PlanReading → Handed
+planHanded (PlanReading.refused a) = refusal a
+planHanded (PlanReading.read p) = served (p .vertices ∷ (length (p .ends) / 2 ∷ []))
 
-abbrev pub verdictTold : Reading → VerdictRead
-verdictTold (Reading.refused a) = VerdictRead.Refused (toldBy a)
-verdictTold (Reading.read kind list) = VerdictRead.Read kind (length list)
+-- what is handed back of a verdict text: the kind and how many numbers the list has, or the refusal
+abbrev pub listHanded : VerdictReading → Handed
+listHanded (VerdictReading.refused a) = refusal a
+listHanded (VerdictReading.read kind list) = served (kind ∷ (length list ∷ []))
 
--- 01's number and place for each case
-abbrev pub readingAnswer : Reading → meaning.Answer
-readingAnswer (Reading.refused a) = a
-readingAnswer (Reading.read n list) = meaning.passed
+-- 01: lent memory after: unchanged by a refusal, else filled with the plan's ends or with the verdict's list
+abbrev pub afterPlan : PlanReading → List ℕ → List ℕ
+afterPlan (PlanReading.refused a) lent = lent
+afterPlan (PlanReading.read p) lent = filled (p .ends) lent
 
-abbrev pub verdictAnswer : VerdictRead → meaning.Answer
-verdictAnswer (VerdictRead.Refused a) = meaning.answer (a .number) (a .place)
-verdictAnswer (VerdictRead.Read kind count) = meaning.passed
+abbrev pub afterVerdict : VerdictReading → List ℕ → List ℕ
+afterVerdict (VerdictReading.refused a) lent = lent
+afterVerdict (VerdictReading.read kind list) lent = filled list lent
 
--- the answer and the lent memory, in columns of five, for 01's largest value and limits
-pub record ReadsPlan (text lent after : List ℕ) (r : Admission) : Type 0 where
-  pub answer : r ≡ planTold (readPlan five largest meaning.limits text (length lent))
-  pub memory : after ≡ afterReading (readPlan five largest meaning.limits text (length lent)) lent
+-- the answer to a text and the lent memory after it, in columns with these worths, for this largest value and these limits
+pub record ReadsPlan (ws : List ℕ) (most : ℕ) (limits : Limits) (text lent after : List ℕ) (r : Admission) : Type 0 where
+  pub answer : admission.handed r ≡ planHanded (readPlan ws most limits text (length lent))
+  pub memory : after ≡ afterPlan (readPlan ws most limits text (length lent)) lent
 
-pub record ReadsVerdict (text lent after : List ℕ) (r : VerdictRead) : Type 0 where
-  pub answer : r ≡ verdictTold (readVerdict five largest meaning.limits text (length lent))
-  pub memory : after ≡ afterReading (readVerdict five largest meaning.limits text (length lent)) lent
+pub record ReadsVerdict (ws : List ℕ) (most : ℕ) (limits : Limits) (text lent after : List ℕ) (r : VerdictRead) : Type 0 where
+  pub answer : handed r ≡ listHanded (readVerdict ws most limits text (length lent))
+  pub memory : after ≡ afterVerdict (readVerdict ws most limits text (length lent)) lent

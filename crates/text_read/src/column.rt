@@ -5,7 +5,7 @@ use text::WORTHS;
 ghost use mathlib.Core.Path.{_≡_};
 ghost use Prim.Native.Nat.{_+_, _≤_};
 ghost use lib.ListN.{length, take, drop};
-ghost use Rattle.text.specs.Column.{five, largest, column, digit, value, same, columnFits};
+ghost use Rattle.text.specs.Column.{five, largest, column, lineSize, digit, value, same, columnFits};
 
 // The largest value in the form.
 const LARGEST: u32 = 65535;
@@ -25,8 +25,8 @@ fn digit_of(b: u8) -> u32
 
 // The number in the column that begins at `at`.
 pub(crate) fn number(line: &[u8; LONGEST], at: usize) -> u32
-    requires { ⌜ (at + 5 ≤ 16) × (length (now line) ≡ 16) ⌝ }
-    ensures { λ r. ⌜ r ≡ value five (take 5 (drop at (now (line .entry)))) ⌝ }
+    requires { ⌜ (at + length five ≤ lineSize five 3) × (length (now line) ≡ lineSize five 3) ⌝ }
+    ensures { λ r. ⌜ r ≡ value five (take (length five) (drop at (now (line .entry)))) ⌝ }
 {
     let mut sum = 0;
     let mut i = 0;
@@ -39,20 +39,20 @@ pub(crate) fn number(line: &[u8; LONGEST], at: usize) -> u32
 
 // The column that begins at `at` is in the form.
 pub(crate) fn column_fits(line: &[u8; LONGEST], at: usize) -> bool
-    requires { ⌜ (at + 5 ≤ 16) × (length (now line) ≡ 16) ⌝ }
-    ensures { λ r. ⌜ r ≡ columnFits five largest (take 5 (drop at (now (line .entry)))) ⌝ }
+    requires { ⌜ (at + length five ≤ lineSize five 3) × (length (now line) ≡ lineSize five 3) ⌝ }
+    ensures { λ r. ⌜ r ≡ columnFits five largest (take (length five) (drop at (now (line .entry)))) ⌝ }
 {
     let x = number(line, at);
     if LARGEST < x {
         return false;
     }
-    column_is(line, at, x)
+    column_is(line, at, x as u16)
 }
 
 // The column that begins at `at` has the very bytes of x.
-fn column_is(line: &[u8; LONGEST], at: usize, x: u32) -> bool
-    requires { ⌜ (at + 5 ≤ 16) × (length (now line) ≡ 16) ⌝ }
-    ensures { λ r. ⌜ r ≡ same (column five x) (take 5 (drop at (now (line .entry)))) ⌝ }
+fn column_is(line: &[u8; LONGEST], at: usize, x: u16) -> bool
+    requires { ⌜ (at + length five ≤ lineSize five 3) × (length (now line) ≡ lineSize five 3) ⌝ }
+    ensures { λ r. ⌜ r ≡ same (column five x) (take (length five) (drop at (now (line .entry)))) ⌝ }
 {
     let bytes = text::column(x);
     let mut i = 0;

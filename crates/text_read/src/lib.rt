@@ -10,10 +10,12 @@ use text::HEADER;
 ghost use mathlib.Core.Path.{_≡_};
 ghost use mathlib.Core.Bool.{true};
 ghost use Prim.Native.Nat.{_≤_};
-ghost use lib.ListN.{length, drop};
+ghost use lib.ListN.{length};
+ghost use Rattle.connectivity.specs.Plan.{limits};
 ghost use Rattle.connectivity.specs.Admission.{endsAnswer};
 ghost use Rattle.graph.specs.Admission.{toldBy};
-ghost use Rattle.text.specs.Column.{five, largest, linesFit, linesNumbers};
+ghost use Rattle.text.specs.Column.{five, largest, lineSize, linesFit, linesNumbers};
+ghost use Rattle.text.specs.Plan.{behindHeader};
 ghost use Rattle.text_read.specs.Entry.{ReadsPlan, ReadsVerdict};
 
 pub enum VerdictRead {
@@ -24,7 +26,7 @@ pub enum VerdictRead {
 
 // Reads a plan text into `ends`: 7 for the header, 2, 3, 6, 7 for the lines, then the first edge with 4 or 5.
 pub fn read_plan(text: &[u8], ends: &mut [u16]) -> Admission
-    ensures { λ r. ⌜ ReadsPlan (now (text .entry)) (now (ends .entry)) (now (ends .exit)) r ⌝ }
+    ensures { λ r. ⌜ ReadsPlan five largest limits (now (text .entry)) (now (ends .entry)) (now (ends .exit)) r ⌝ }
 {
     if !line::line_fits(text, 0, 2) {
         return refused_plan(7);
@@ -35,7 +37,7 @@ pub fn read_plan(text: &[u8], ends: &mut [u16]) -> Admission
     if vertices < 2 {
         return refused_plan(2);
     }
-    if Graph::MAX_VERTICES < vertices {
+    if Graph::MAX_VERTICES < vertices as usize {
         return refused_plan(2);
     }
     if Graph::MAX_EDGES < edges {
@@ -70,8 +72,8 @@ fn refused_plan(number: u16) -> Admission
 
 // The first edge of the text with 4 or 5.
 fn judge_edges(text: &[u8], vertices: u16, edges: usize) -> Answer
-    requires { ⌜ (edges ≤ 4000) × (11 ≤ length (now text)) × (linesFit five largest 2 edges (drop 11 (now text)) ≡ true) ⌝ }
-    ensures { λ r. ⌜ r ≡ toldBy (endsAnswer vertices 0 (linesNumbers five 2 edges (drop 11 (now (text .entry))))) ⌝ }
+    requires { ⌜ (edges ≤ limits .edges) × (lineSize five 2 ≤ length (now text)) × (linesFit five largest 2 edges (behindHeader five (now text)) ≡ true) ⌝ }
+    ensures { λ r. ⌜ r ≡ toldBy (endsAnswer vertices 0 (linesNumbers five 2 edges (behindHeader five (now (text .entry))))) ⌝ }
 {
     let mut next = HEADER;
     let mut e = 0;
@@ -95,7 +97,7 @@ fn judge_edges(text: &[u8], vertices: u16, edges: usize) -> Answer
 
 // Reads a verdict text into `list`: 8 for the header, 6, then 8 for the lines.
 pub fn read_verdict(text: &[u8], list: &mut [u16]) -> VerdictRead
-    ensures { λ r. ⌜ ReadsVerdict (now (text .entry)) (now (list .entry)) (now (list .exit)) r ⌝ }
+    ensures { λ r. ⌜ ReadsVerdict five largest limits (now (text .entry)) (now (list .entry)) (now (list .exit)) r ⌝ }
 {
     if !line::line_fits(text, 0, 2) {
         return refused_verdict(8);

@@ -8,9 +8,10 @@ use text::WIDTH;
 ghost use mathlib.Core.Path.{_≡_};
 ghost use mathlib.Core.Bool.{true};
 ghost use Prim.Native.Nat.{_+_, _*_, _≤_};
-ghost use lib.ListN.{length, drop, getD};
+ghost use lib.ListN.{length, drop};
 ghost use lib.Seq.{sets};
-ghost use Rattle.text.specs.Column.{five, largest, lineFits, numbers, linesFit, linesNumbers};
+ghost use Rattle.text.specs.Column.{five, largest, lineSize, lineFits, numbers, linesFit, linesNumbers};
+ghost use Rattle.text.specs.Plan.{headerFirst, headerSecond};
 
 // The two numbers of a line, and the place behind it.
 pub struct Pair {
@@ -37,7 +38,7 @@ pub(crate) fn line_fits(text: &[u8], at: usize, columns: usize) -> bool
 // Judges the line of `columns` numbers that begins at `at`. The place behind it counts if it fits.
 fn judge_line(text: &[u8], at: usize, columns: usize) -> Judged
     requires { ⌜ (at ≤ length (now text)) × (columns ≤ 3) ⌝ }
-    ensures { λ r. ⌜ (r .fits ≡ lineFits five largest columns (drop at (now (text .entry)))) × (r .fits ≡ true → r .next ≡ at + (columns * 5 + 1)) ⌝ }
+    ensures { λ r. ⌜ (r .fits ≡ lineFits five largest columns (drop at (now (text .entry)))) × (r .fits ≡ true → r .next ≡ at + lineSize five columns) ⌝ }
 {
     let size = columns * WIDTH + 1;
     if text.len() - at < size {
@@ -55,7 +56,7 @@ fn judge_line(text: &[u8], at: usize, columns: usize) -> Judged
 
 // The line has `columns` columns in the form and then a line feed.
 fn columns_fit(copy: &[u8; LONGEST], columns: usize) -> bool
-    requires { ⌜ (columns ≤ 3) × (length (now copy) ≡ 16) ⌝ }
+    requires { ⌜ (columns ≤ 3) × (length (now copy) ≡ lineSize five 3) ⌝ }
     ensures { λ r. ⌜ r ≡ lineFits five largest columns (now (copy .entry)) ⌝ }
 {
     let mut k = 0;
@@ -90,7 +91,7 @@ pub(crate) fn lines_fit(text: &[u8], at: usize, columns: usize, count: usize) ->
 // The two numbers of the line that begins at `at`.
 pub(crate) fn two_numbers(text: &[u8], at: usize) -> Pair
     requires { ⌜ (at ≤ length (now text)) × (lineFits five largest 2 (drop at (now text)) ≡ true) ⌝ }
-    ensures { λ r. ⌜ (r .first ≡ getD (numbers five 2 (drop at (now (text .entry)))) 0 0) × (r .second ≡ getD (numbers five 2 (drop at (now (text .entry)))) 1 0) × (r .next ≡ at + 11) ⌝ }
+    ensures { λ r. ⌜ (r .first ≡ headerFirst five (drop at (now (text .entry)))) × (r .second ≡ headerSecond five (drop at (now (text .entry)))) × (r .next ≡ at + lineSize five 2) ⌝ }
 {
     let line = take_line(text, at, HEADER);
     Pair {
@@ -103,7 +104,7 @@ pub(crate) fn two_numbers(text: &[u8], at: usize) -> Pair
 // Stores the numbers of the line that begins at `at` from `to` on, and gives the place behind it.
 fn store_line(text: &[u8], at: usize, columns: usize, list: &mut [u16], to: usize) -> usize
     requires { ⌜ (at ≤ length (now text)) × (columns ≤ 3) × (to + columns ≤ length (now list)) × (lineFits five largest columns (drop at (now text)) ≡ true) ⌝ }
-    ensures { λ r. ⌜ (r ≡ at + (columns * 5 + 1)) × (now (list .exit) ≡ sets (now (list .entry)) to (numbers five columns (drop at (now (text .entry))))) ⌝ }
+    ensures { λ r. ⌜ (r ≡ at + lineSize five columns) × (now (list .exit) ≡ sets (now (list .entry)) to (numbers five columns (drop at (now (text .entry))))) ⌝ }
 {
     let line = take_line(text, at, columns * WIDTH + 1);
     store_columns(&line.bytes, columns, list, to);
@@ -111,7 +112,7 @@ fn store_line(text: &[u8], at: usize, columns: usize, list: &mut [u16], to: usiz
 }
 
 fn store_columns(copy: &[u8; LONGEST], columns: usize, list: &mut [u16], to: usize)
-    requires { ⌜ (columns ≤ 3) × (length (now copy) ≡ 16) × (to + columns ≤ length (now list)) × (lineFits five largest columns (now copy) ≡ true) ⌝ }
+    requires { ⌜ (columns ≤ 3) × (length (now copy) ≡ lineSize five 3) × (to + columns ≤ length (now list)) × (lineFits five largest columns (now copy) ≡ true) ⌝ }
     ensures { λ r. ⌜ now (list .exit) ≡ sets (now (list .entry)) to (numbers five columns (now (copy .entry))) ⌝ }
 {
     let mut k = 0;

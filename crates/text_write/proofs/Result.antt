@@ -1,27 +1,34 @@
--- A result of writing, met by the code's answer and memory; and what the constructor says of a plan that it admits.
-use mathlib.Core.Path.{_≡_, sym, ap, _∙_}
+-- A result of writing, met by the code's answer and memory; and what the code's answer tells of the result.
+use mathlib.Core.Path.{_≡_, refl, sym, ap, _∙_}
 use mathlib.Core.List.{List}
-use Prim.Native.Nat.{ℕ, _/_}
-use lib.ListN.{length}
-use Rattle.connectivity.specs.Admission.{limits, admission}
-use Rattle.connectivity.proofs.Admission.{admission-number}
-use Rattle.graph.specs.Admission.{constructed}
-use Rattle.graph.proofs.Lent.{constructed-admitted}
-use Rattle.graph.specs.declared.Graph.{Graph}
-use Rattle.graph.specs.declared.Admission.{Admission}
-use Rattle.text.specs.Column.{five}
+use Prim.Native.Nat.{ℕ}
+use lib.ListN.{length, getD}
+use Rattle.connectivity.specs.Plan.{Plan, Limits}
+use Rattle.connectivity.specs.Admission.{Answer, Handed}
+use Rattle.graph.specs.Admission.{toldBy}
+use Rattle.graph.specs.declared.Answer as code
+use Rattle.graph.proofs.Lent.{not-served, told-by}
 use Rattle.text.specs.Plan.{Writing, writePlan}
 use Rattle.text.specs.Verdict.{writeVerdict}
 use Rattle.text_write.specs.declared.Written.{Written}
-use Rattle.text_write.specs.Entry.{afterWriting, bytesTold, WritesPlan, WritesVerdict}
+use Rattle.text_write.specs.Entry.{handed, bytesHanded, afterWriting, WritesPlan, WritesVerdict}
 
-pub writes-plan : (n : ℕ) (ends lent after : List ℕ) (r : Written) (x : Writing)
-    → writePlan five limits n ends (length lent) ≡ x → r ≡ bytesTold x → after ≡ afterWriting x lent → WritesPlan n ends lent after r
-writes-plan n ends lent after r x p q m = record { answer = q ∙ sym (ap bytesTold p); memory = m ∙ sym (ap (λ (y : Writing). afterWriting y lent) p) }
+module _ {ws : List ℕ} {limits : Limits} {lent after : List ℕ} {r : Written} (x : Writing) where
+  pub writes-plan : {p : Plan} → writePlan ws limits p (length lent) ≡ x → handed r ≡ bytesHanded x → after ≡ afterWriting x lent → WritesPlan ws limits p lent after r
+  writes-plan p q m = record { answer = q ∙ sym (ap bytesHanded p); memory = m ∙ sym (ap (λ (y : Writing). afterWriting y lent) p) }
 
-pub writes-verdict : (kind : ℕ) (list lent after : List ℕ) (r : Written) (x : Writing)
-    → writeVerdict five limits kind list (length lent) ≡ x → r ≡ bytesTold x → after ≡ afterWriting x lent → WritesVerdict kind list lent after r
-writes-verdict kind list lent after r x p q m = record { answer = q ∙ sym (ap bytesTold p); memory = m ∙ sym (ap (λ (y : Writing). afterWriting y lent) p) }
+  pub writes-verdict : {kind : ℕ} {list : List ℕ}
+      → writeVerdict ws limits kind list (length lent) ≡ x → handed r ≡ bytesHanded x → after ≡ afterWriting x lent → WritesVerdict ws limits kind list lent after r
+  writes-verdict p q m = record { answer = q ∙ sym (ap bytesHanded p); memory = m ∙ sym (ap (λ (y : Writing). afterWriting y lent) p) }
 
-pub plan-made : (n : ℕ) (ends : List ℕ) {g : Graph} → constructed limits n ends ≡ Admission.Admitted g → ((admission limits n ends) .number ≡ 0) × (g .edges ≡ length ends / 2)
-plan-made n ends p = let q = constructed-admitted n ends p in (admission-number limits n ends .1 (q .0), q .2)
+-- For callers: the case of the answer tells the case of the result.
+
+pub bytes-told : (x : Writing) {r : Written} {count : ℕ} → handed r ≡ bytesHanded x → r ≡ Written.Bytes count
+    → (bytes : List ℕ) × (x ≡ Writing.written bytes) × (count ≡ length bytes)
+bytes-told (Writing.refused b) h q = absurd (not-served (sym (rw q at h)))
+bytes-told (Writing.written bytes) h q = (bytes, refl, ap (λ (z : Handed). getD (z .values) 0 0) (rw q at h))
+
+pub bytes-refusal : (x : Writing) {r : Written} {a : code.Answer} → handed r ≡ bytesHanded x → r ≡ Written.Refused a
+    → (b : Answer) × (x ≡ Writing.refused b) × (a ≡ toldBy b)
+bytes-refusal (Writing.refused b) h q = (b, refl, told-by (rw q at h))
+bytes-refusal (Writing.written bytes) h q = absurd (not-served (rw q at h))

@@ -3,41 +3,38 @@ use mathlib.Core.Path.{_≡_}
 use mathlib.Core.List.{List, [], _∷_}
 use Prim.Native.Nat.{ℕ}
 use lib.ListN.{length}
-use Rattle.connectivity.specs.Admission as meaning
-use Rattle.graph.specs.Admission.{toldBy}
+use Rattle.connectivity.specs.Plan.{Plan, Limits}
+use Rattle.connectivity.specs.Admission.{Handed, served, refusal}
+use Rattle.graph.specs.Admission.{answerOf}
 use Rattle.graph.specs.declared.Answer.{Answer}
 use Rattle.text_write.specs.declared.Written.{Written}
-use Rattle.text.specs.Column.{five, line}
+use Rattle.text.specs.Column.{line}
 use Rattle.text.specs.Plan.{Writing, filled, writePlan}
 use Rattle.text.specs.Verdict.{writeVerdict}
 
--- 01: a refusal leaves lent memory unchanged
+-- 01's number, place and values for each case; the value of a text is how many bytes it has
+abbrev pub handed : Written → Handed
+handed (Written.Refused a) = refusal (answerOf a)
+handed (Written.Bytes count) = served (count ∷ [])
+
+-- what is handed back of writing: how many bytes the text has, or the refusal
+abbrev pub bytesHanded : Writing → Handed
+bytesHanded (Writing.refused a) = refusal a
+bytesHanded (Writing.written bytes) = served (length bytes ∷ [])
+
+-- 01: lent memory after: unchanged by a refusal, else filled with the text
 abbrev pub afterWriting : Writing → List ℕ → List ℕ
 afterWriting (Writing.refused a) lent = lent
 afterWriting (Writing.written bytes) lent = filled bytes lent
 
--- the result as the code's types have it
-abbrev pub bytesTold : Writing → Written
-bytesTold (Writing.refused a) = Written.Refused (toldBy a)
-bytesTold (Writing.written bytes) = Written.Bytes (length bytes)
+-- the answer to a plan, or to a verdict's kind and list, and the lent memory after it, in columns with these worths, for these limits
+pub record WritesPlan (ws : List ℕ) (limits : Limits) (p : Plan) (lent after : List ℕ) (r : Written) : Type 0 where
+  pub answer : handed r ≡ bytesHanded (writePlan ws limits p (length lent))
+  pub memory : after ≡ afterWriting (writePlan ws limits p (length lent)) lent
 
--- 01's number and place for each case
-abbrev pub writingAnswer : Writing → meaning.Answer
-writingAnswer (Writing.refused a) = a
-writingAnswer (Writing.written bytes) = meaning.passed
-
-abbrev pub bytesAnswer : Written → meaning.Answer
-bytesAnswer (Written.Refused a) = meaning.answer (a .number) (a .place)
-bytesAnswer (Written.Bytes count) = meaning.passed
-
--- the answer and the lent memory, in columns of five, for 01's limits
-pub record WritesPlan (n : ℕ) (ends lent after : List ℕ) (r : Written) : Type 0 where
-  pub answer : r ≡ bytesTold (writePlan five meaning.limits n ends (length lent))
-  pub memory : after ≡ afterWriting (writePlan five meaning.limits n ends (length lent)) lent
-
-pub record WritesVerdict (kind : ℕ) (list lent after : List ℕ) (r : Written) : Type 0 where
-  pub answer : r ≡ bytesTold (writeVerdict five meaning.limits kind list (length lent))
-  pub memory : after ≡ afterWriting (writeVerdict five meaning.limits kind list (length lent)) lent
+pub record WritesVerdict (ws : List ℕ) (limits : Limits) (kind : ℕ) (list lent after : List ℕ) (r : Written) : Type 0 where
+  pub answer : handed r ≡ bytesHanded (writeVerdict ws limits kind list (length lent))
+  pub memory : after ≡ afterWriting (writeVerdict ws limits kind list (length lent)) lent
 
 -- 01: number and place in two columns on one line
 unfoldable pub answerText : List ℕ → Answer → List ℕ

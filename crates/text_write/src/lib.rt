@@ -8,7 +8,7 @@ use text::ANSWER_SIZE;
 use text::HEADER;
 use text::WIDTH;
 ghost use mathlib.Core.Path.{_≡_};
-ghost use Rattle.connectivity.specs.Admission.{limits};
+ghost use Rattle.connectivity.specs.Plan.{plan, limits};
 ghost use Rattle.text.specs.Column.{five};
 ghost use Rattle.text.specs.Verdict.{countOf, hasText};
 ghost use Rattle.text_write.specs.Entry.{WritesPlan, WritesVerdict, answerText};
@@ -21,7 +21,7 @@ pub enum Written {
 
 // Writes the text of a plan: the plan's own 1 to 5, then 6.
 pub fn write_plan(vertices: u16, ends: &[u16], text: &mut [u8]) -> Written
-    ensures { λ r. ⌜ WritesPlan vertices (now (ends .entry)) (now (text .entry)) (now (text .exit)) r ⌝ }
+    ensures { λ r. ⌜ WritesPlan five limits (plan vertices (now (ends .entry))) (now (text .entry)) (now (text .exit)) r ⌝ }
 {
     let admission = Graph::new(vertices, ends);
     match admission {
@@ -49,7 +49,7 @@ fn refused_writing(number: u16) -> Written
 
 // Writes the text of a verdict: 8 where it has no text form, then 6.
 pub fn write_verdict(kind: u16, list: &[u16], text: &mut [u8]) -> Written
-    ensures { λ r. ⌜ WritesVerdict kind (now (list .entry)) (now (text .entry)) (now (text .exit)) r ⌝ }
+    ensures { λ r. ⌜ WritesVerdict five limits kind (now (list .entry)) (now (text .entry)) (now (text .exit)) r ⌝ }
 {
     if !has_text(kind, list) {
         return refused_writing(8);

@@ -6,11 +6,11 @@ ghost use mathlib.Core.List.{_++_, _∷_, []};
 ghost use Prim.Native.Nat.{_+_, _*_, _≤_};
 ghost use lib.ListN.{length, take, drop};
 ghost use lib.Seq.{sets};
-ghost use Rattle.text.specs.Column.{five, column, line, lines};
+ghost use Rattle.text.specs.Column.{five, column, line, lines, lineSize};
 
 // Writes x into the column that begins at `at`.
-fn write_column(text: &mut [u8], at: usize, x: u32)
-    requires { ⌜ at + 5 ≤ length (now text) ⌝ }
+fn write_column(text: &mut [u8], at: usize, x: u16)
+    requires { ⌜ at + length five ≤ length (now text) ⌝ }
     ensures { λ r. ⌜ now (text .exit) ≡ sets (now (text .entry)) at (column five x) ⌝ }
 {
     let bytes = text::column(x);
@@ -23,12 +23,12 @@ fn write_column(text: &mut [u8], at: usize, x: u32)
 
 // Writes a line of the `columns` numbers from `from` on.
 fn write_line(list: &[u16], from: usize, columns: usize, text: &mut [u8], at: usize)
-    requires { ⌜ (columns ≤ 3) × (from + columns ≤ length (now list)) × (at + (columns * 5 + 1) ≤ length (now text)) ⌝ }
+    requires { ⌜ (columns ≤ 3) × (from + columns ≤ length (now list)) × (at + lineSize five columns ≤ length (now text)) ⌝ }
     ensures { λ r. ⌜ now (text .exit) ≡ sets (now (text .entry)) at (line five (take columns (drop from (now (list .entry))))) ⌝ }
 {
     let mut k = 0;
     while k < columns {
-        write_column(text, at + k * WIDTH, list[from + k] as u32);
+        write_column(text, at + k * WIDTH, list[from + k]);
         k += 1;
     }
     text[at + columns * WIDTH] = 10;
@@ -36,7 +36,7 @@ fn write_line(list: &[u16], from: usize, columns: usize, text: &mut [u8], at: us
 
 // Writes `count` lines of `columns` numbers each, from `at` on.
 fn write_lines(list: &[u16], columns: usize, count: usize, text: &mut [u8], at: usize)
-    requires { ⌜ (columns ≤ 3) × (columns * count ≤ length (now list)) × (at + count * (columns * 5 + 1) ≤ length (now text)) ⌝ }
+    requires { ⌜ (columns ≤ 3) × (columns * count ≤ length (now list)) × (at + count * lineSize five columns ≤ length (now text)) ⌝ }
     ensures { λ r. ⌜ now (text .exit) ≡ sets (now (text .entry)) at (lines five columns count (now (list .entry))) ⌝ }
 {
     let mut next = at;
@@ -59,7 +59,7 @@ pub(crate) fn write_text(
     count: usize,
     text: &mut [u8],
 )
-    requires { ⌜ (columns ≤ 3) × (columns * count ≤ length (now list)) × (11 + count * (columns * 5 + 1) ≤ length (now text)) ⌝ }
+    requires { ⌜ (columns ≤ 3) × (columns * count ≤ length (now list)) × (lineSize five 2 + count * lineSize five columns ≤ length (now text)) ⌝ }
     ensures { λ r. ⌜ now (text .exit) ≡ sets (now (text .entry)) 0 (line five (first ∷ (second ∷ [])) ++ lines five columns count (now (list .entry))) ⌝ }
 {
     let header = [first, second];

@@ -7,11 +7,12 @@ use native.Mathlib.Omega.{arith}
 use lib.Dec.{eqb}
 use lib.ListN.{length, getD, set, length-set}
 use borrow.Author.Tests.{eqb-true}
-use Rattle.connectivity.specs.Graph.{Graph, graphOf, always}
+use Rattle.connectivity.specs.Plan.{plan, graph, Limits}
+use Rattle.connectivity.specs.Graph.{Graph}
 use Rattle.connectivity.specs.Walk.{Leg, edgesOf, hits, degree}
 use Rattle.connectivity.specs.Judge.{legOf}
 use Rattle.connectivity.proofs.Lists.{raised}
-use Rattle.verify_firm.specs.Marks.{edgeAt, rowAt, Lies, none, one, EdgeReady, EdgeAdded, RowsReady, RowsAdded}
+use Rattle.verify_firm.specs.Marks.{edgeAt, rowAt, Lies, no-row, one, EdgeReady, EdgeAdded, RowsReady, RowsAdded}
 
 one-most : (t : Bool) → cond t 1 0 ≤ 1
 one-most true = omega arith
@@ -34,10 +35,10 @@ module _ (marks ends : List ℕ) (e : ℕ) where
   abbrev half : List ℕ
   half = set marks l (getD marks l 0 + 1)
 
-  pub half-few : {most : ℕ} → EdgeReady marks ends e most → getD half r 0 ≤ most + 1
+  pub half-few : {most : Limits} → EdgeReady most marks ends e → getD half r 0 ≤ most .edges + 1
   half-few a = omega (arith, raised marks l 1 r (a .left), one-most (eqb l r), a .few r)
 
-  pub edge-added : {most : ℕ} → EdgeReady marks ends e most → EdgeAdded marks (set half r (getD half r 0 + 1)) ends e
+  pub edge-added : {most : Limits} → EdgeReady most marks ends e → EdgeAdded marks (set half r (getD half r 0 + 1)) ends e
   edge-added a =
       let long : length half ≡ length marks = length-set marks l (getD marks l 0 + 1) in
       record {
@@ -51,13 +52,13 @@ module _ (marks ends : List ℕ) (e : ℕ) where
       }
 
 -- an edge hits its ends
-hit : (n : ℕ) (ends : List ℕ) (e v : ℕ) → hits (graphOf n always ends) e v ≡ cond (eqb (getD ends (2 * e) 0) v || eqb (getD ends (2 * e + 1) 0) v) 1 0
-unfolding hits graphOf
+hit : (n : ℕ) (ends : List ℕ) (e v : ℕ) → hits (graph (plan n ends)) e v ≡ cond (eqb (getD ends (2 * e) 0) v || eqb (getD ends (2 * e + 1) 0) v) 1 0
+unfolding hits graph
 hit n ends e v = refl
 
 -- rows that lie from one place to another: the first of them, and none
 lies-most : {list : List ℕ} {s n m : ℕ} {legs : List Leg} → Lies list s n legs m → n ≤ m
-lies-most none = omega arith
+lies-most no-row = omega arith
 lies-most (one p l) = omega (arith, lies-most l)
 
 record Split (list : List ℕ) (s n : ℕ) (legs : List Leg) (m : ℕ) : Type 0 where
@@ -66,11 +67,11 @@ record Split (list : List ℕ) (s n : ℕ) (legs : List Leg) (m : ℕ) : Type 0 
   pub lies : Lies list s (suc n) rest m
 
 split : {list : List ℕ} {s n m : ℕ} {legs : List Leg} → Lies list s n legs m → n < m → Split list s n legs m
-split none h = absurd (omega (arith, h))
+split no-row h = absurd (omega (arith, h))
 split (one {legs = legs} p l) h = record { rest = legs; same = refl; lies = l }
 
 over : {list : List ℕ} {s n m : ℕ} {legs : List Leg} → Lies list s n legs m → n ≡ m → legs ≡ []
-over none p = refl
+over no-row p = refl
 over (one q l) p = absurd (omega (arith, p, lies-most l))
 
 -- of the step's rows those below k have been counted
@@ -83,10 +84,10 @@ pub record Adding (marks ends list : List ℕ) (first end : ℕ) (now : List ℕ
   pub below : k ≤ end
   pub length-same : length now ≡ length marks
   pub few : (v : ℕ) → getD now v 0 ≤ k
-  pub more : (n s : ℕ) (legs : List Leg) → Lies list s first legs end → Counted (graphOf n always ends) list s k end legs marks now
+  pub more : (n s : ℕ) (legs : List Leg) → Lies list s first legs end → Counted (graph (plan n ends)) list s k end legs marks now
 
 module _ {marks ends list : List ℕ} {first end : ℕ} where
-  pub adding-start : RowsReady marks ends list first end → Adding marks ends list first end marks first
+  pub adding-start : {most : Limits} → RowsReady most marks ends list first end → Adding marks ends list first end marks first
   adding-start r = record {
     below = r .order;
     length-same = refl;
@@ -95,7 +96,7 @@ module _ {marks ends list : List ℕ} {first end : ℕ} where
   }
 
   module _ {now : List ℕ} {k : ℕ} (a : Adding marks ends list first end now k) where
-    pub adding-ready : RowsReady marks ends list first end → k < end → EdgeReady now ends (edgeAt list k) 4000
+    pub adding-ready : {most : Limits} → RowsReady most marks ends list first end → k < end → EdgeReady most now ends (edgeAt list k)
     adding-ready r h =
         let fit = r .fit (edgeAt list k) (r .edges k h) in
         record {
@@ -104,7 +105,7 @@ module _ {marks ends list : List ℕ} {first end : ℕ} where
           left = omega (arith, a .length-same, fit .left);
           right = omega (arith, a .length-same, fit .right);
           different = fit .different;
-          few = λ v. omega (arith, a .few v, a .below, r .most);
+          few = λ v. omega (arith, a .few v, a .below, r .within);
         }
 
     pub adding-step : {after : List ℕ} → k < end → EdgeAdded now after ends (edgeAt list k) → Adding marks ends list first end after (k + 1)
@@ -115,10 +116,10 @@ module _ {marks ends list : List ℕ} {first end : ℕ} where
       more = λ n s legs l. next n s legs (a .more n s legs l);
     }
       where
-        next : (n s : ℕ) (legs : List Leg) → Counted (graphOf n always ends) list s k end legs marks now
-            → Counted (graphOf n always ends) list s (k + 1) end legs marks after
+        next : (n s : ℕ) (legs : List Leg) → Counted (graph (plan n ends)) list s k end legs marks now
+            → Counted (graph (plan n ends)) list s (k + 1) end legs marks after
         next n s legs c =
-            let g : Graph = graphOf n always ends in
+            let g : Graph = graph (plan n ends) in
             let t : Split list s k (c .rest) end = split (c .lies) h in
             let p : suc k ≡ k + 1 = omega arith in
             record {
@@ -138,6 +139,6 @@ module _ {marks ends list : List ℕ} {first end : ℕ} where
       length-same = a .length-same;
       few = λ v. omega (arith, a .few v, a .below);
       more = λ n s legs l v.
-          let c : Counted (graphOf n always ends) list s k end legs marks now = a .more n s legs l in
-          omega (arith, c .sum v, ap (λ (x : List Leg). degree (graphOf n always ends) (edgesOf x) v) (over (c .lies) (omega (arith, a .below, h))));
+          let c : Counted (graph (plan n ends)) list s k end legs marks now = a .more n s legs l in
+          omega (arith, c .sum v, ap (λ (x : List Leg). degree (graph (plan n ends)) (edgesOf x) v) (over (c .lies) (omega (arith, a .below, h))));
     }

@@ -9,6 +9,7 @@ use native.Mathlib.Decide.{decLe}
 use lib.Dec.{T}
 use lib.ListN.{length, getD}
 use Rattle.connectivity.specs.Lists.{Distinct}
+use Rattle.connectivity.specs.Plan.{Limits}
 use Rattle.connectivity.specs.Graph.{Graph, Vertex}
 use Rattle.connectivity.specs.Reach.{Reach}
 use Rattle.connectivity.specs.Walk.{Leg, Walk, inner, edgesOf, allEdges, degree, Built, Branch, start, stop}
@@ -58,8 +59,8 @@ shift base x y z a b c = (
   (λ l. elim l [ inl t ↦ inl (omega (arith, a, c, t .0), omega (arith, b, c, t .1)) | inr t ↦ inr (omega (arith, b, c, t .0), omega (arith, a, c, t .1)) ]),
 )
 
-module _ {g : Graph} {list : List ℕ} {done : List (List Leg)} {walk : List Leg} {row : ℕ} {degrees left : List ℕ} {steps : ℕ} {run : Run} {low high : ℕ}
-    (h : Holds g list done walk row degrees left steps run low high) (bound : g .bound ≤ 1000) (b : run .first < row) (many : 3 ≤ length done) where
+module _ {most : Limits} {g : Graph} {list : List ℕ} {done : List (List Leg)} {walk : List Leg} {row : ℕ} {degrees left : List ℕ} {steps : ℕ} {run : Run} {low high : ℕ}
+    (h : Holds most g list done walk row degrees left steps run low high) (bound : g .bound ≤ most .vertices) (b : run .first < row) (many : 3 ≤ length done) where
   abbrev built : List ℕ
   built = allEdges done
 
@@ -72,13 +73,13 @@ module _ {g : Graph} {list : List ℕ} {done : List (List Leg)} {walk : List Leg
   mader : Steps g done
   mader = h .stands .steps many
 
-  pub start-below : run .start < 1000
+  pub start-below : run .start < most .vertices
   start-below = omega (arith, bound, walk-from walked .below)
 
-  pub at-below : run .at < 1000
+  pub at-below : run .at < most .vertices
   at-below = omega (arith, bound, walk-to walked .below)
 
-  vertex-below : (k : ℕ) → k < row → fromAt list k < 1000
+  vertex-below : (k : ℕ) → k < row → fromAt list k < most .vertices
   vertex-below k c = omega (arith, bound, joins-vertex (h .rows k c) .below)
 
   -- 14
@@ -123,7 +124,7 @@ module _ {g : Graph} {list : List ℕ} {done : List (List Leg)} {walk : List Leg
       from : fromAt list row-of ≡ v
       mark : getD left v 0 ≡ suc row-of
 
-    found : (v : ℕ) → v < 1000 → 1 ≤ getD degrees v 0 → getD degrees v 0 < 3 → Found v
+    found : (v : ℕ) → v < most .vertices → 1 ≤ getD degrees v 0 → getD degrees v 0 < 3 → Found v
     found v l p q =
         let i : Inside done v = built-inside v mader distinct (omega (arith, p, h .degrees v l)) (λ k. omega (arith, k, q, h .degrees v l)) in
         let s = span (h .laid) (i .member) in
@@ -135,17 +136,17 @@ module _ {g : Graph} {list : List ℕ} {done : List (List Leg)} {walk : List Leg
           mark = sym (ap (λ (x : ℕ). getD left x 0) (r .is)) ∙ marked .mark (r .before) (omega (arith, r .below, s .within, b)) (r .on);
         }
 
-    rows-fit : (v : ℕ) → Found v → 3 * row ≤ length list → row ≤ 4000 → (1 ≤ getD left v 0) × RowsFit degrees list (getD left v 0)
+    rows-fit : (v : ℕ) → Found v → 3 * row ≤ length list → row ≤ most .edges → (1 ≤ getD left v 0) × RowsFit most degrees list (getD left v 0)
     rows-fit v r l m = (
       omega (arith, r .mark),
       record {
         rows = omega (arith, r .mark, r .below, b, l);
         from = λ k c. omega (arith, h .marks-length, vertex-below k (omega (arith, c, r .mark, r .below, b)));
-        most = omega (arith, r .mark, r .below, b, m);
+        within = omega (arith, r .mark, r .below, b, m);
       },
     )
 
-    pub reads : 3 * row ≤ length list → row ≤ 4000 → Reads degrees list run (getD left (run .start) 0) (getD left (run .at) 0)
+    pub reads : 3 * row ≤ length list → row ≤ most .edges → Reads most degrees list run (getD left (run .start) 0) (getD left (run .at) 0)
     reads l m = record {
       start = omega (arith, start-below, h .marks-length);
       at = omega (arith, at-below, h .marks-length);

@@ -10,16 +10,17 @@ use lib.Dec.{T}
 use lib.ListN.{length, getD}
 use borrow.Author.Tests.{lt-ltb, le-ltb}
 use Rattle.connectivity.specs.Lists.{Distinct}
-use Rattle.connectivity.specs.Graph.{Graph, graphOf, always}
+use Rattle.connectivity.specs.Plan.{plan, graph, Limits}
+use Rattle.connectivity.specs.Graph.{Graph}
 use Rattle.connectivity.specs.Walk.{Leg, Walk, Between, edgesOf, allInner, allEdges, degree}
-use Rattle.connectivity.specs.Mader.{Steps, theta, ear}
+use Rattle.connectivity.specs.Mader.{Steps, theta, mader}
 use Rattle.connectivity.specs.Judge.{pathsFit, earFits, linksFit, stepNumber}
 use Rattle.connectivity.proofs.Lists.{Decides, T-true, T-false}
 use Rattle.connectivity.proofs.Degree.{degree-append, walk-from, walk-to}
 use Rattle.connectivity.proofs.Legs.{walk-start, walk-stop}
-use Rattle.connectivity.proofs.Fit.{step-few, step-many, fitting-ear, walk-sound}
+use Rattle.connectivity.proofs.Fit.{step-few, step-many, fitting-path, walk-sound}
 use Rattle.verify_firm.specs.declared.state.Run.{Run}
-use Rattle.connectivity.specs.Tells.{Tells}
+use Rattle.graph.specs.Tells.{Tells}
 use Rattle.verify_firm.specs.Marks.{Laid, Lies, Stands, Holds, Opens, Parallels, FitsEar, FitsLinks, Reads, Whole, RowsAdded}
 use Rattle.verify_firm.specs.Marks as marks
 use Rattle.verify_firm.proofs.Going.{fresh-none}
@@ -44,7 +45,7 @@ module _ (g : Graph) (done : List (List Leg)) (walk : List Leg) where
   unfolding stepNumber
   many-number h = rw (le-ltb (length done) 3 h)
 
-module _ {degrees list : List ℕ} {steps : ℕ} {run : Run} {low high from to : ℕ} (w : Whole degrees list steps run low high from to) where
+module _ {most : Limits} {degrees list : List ℕ} {steps : ℕ} {run : Run} {low high from to : ℕ} (w : Whole most degrees list steps run low high from to) where
   abbrev number : ℕ
   number = stepNumber (w .g) (w .done) (w .walk)
 
@@ -88,23 +89,23 @@ module _ {degrees list : List ℕ} {steps : ℕ} {run : Run} {low high from to :
       same-test b (rw (w .start-mark, w .at-mark) at t) (links-are (w .holds) (w .bound) (w .begun) (many s) f),
     )
 
-    pub told-reads : FitsEar degrees run → Reads degrees list run from to
-    told-reads f = rw (w .start-mark, w .at-mark) (reads (w .holds) (w .bound) (w .begun) (many s) f (w .read) (w .most))
+    pub told-reads : FitsEar degrees run → Reads most degrees list run from to
+    told-reads f = rw (w .start-mark, w .at-mark) (reads (w .holds) (w .bound) (w .begun) (many s) f (w .read) (w .within))
 
 -- A step that passes.
-module _ (n : ℕ) (ends : List ℕ) {list : List ℕ} {done : List (List Leg)} {walk : List Leg} {row : ℕ} {degrees left : List ℕ} {steps : ℕ} {run : Run} {low high : ℕ}
-    (h : Holds (graphOf n always ends) list done walk row degrees left steps run low high) (bound : n ≤ 1000) (b : run .first < row) where
+module _ {most : Limits} (n : ℕ) (ends : List ℕ) {list : List ℕ} {done : List (List Leg)} {walk : List Leg} {row : ℕ} {degrees left : List ℕ} {steps : ℕ} {run : Run} {low high : ℕ}
+    (h : Holds most (graph (plan n ends)) list done walk row degrees left steps run low high) (bound : n ≤ most .vertices) (b : run .first < row) where
   abbrev g : Graph
-  g = graphOf n always ends
+  g = graph (plan n ends)
 
-  below : g .bound ≤ 1000
-  unfolding graphOf
+  below : g .bound ≤ most .vertices
+  unfolding graph
   below = bound
 
   walked : Walk g (run .start) walk (run .at)
   walked = h .walks b
 
-  pub ends-below : (run .start < 1000) × (run .at < 1000)
+  pub ends-below : (run .start < most .vertices) × (run .at < most .vertices)
   ends-below = (omega (arith, below, walk-from walked .below), omega (arith, below, walk-to walked .below))
 
   module _ (z : stepNumber g done walk ≡ 0) where
@@ -132,15 +133,15 @@ module _ (n : ℕ) (ends : List ℕ) {list : List ℕ} {done : List (List Leg)} 
     simple : length done < 3 → Distinct (run .start ∷ (run .at ∷ allInner (walk ∷ done)))
     simple few = paths-are h b few .holds (paths few) .1
 
-    mader : 3 ≤ length (walk ∷ done) → Steps g (walk ∷ done)
-    mader more = elim (decLt (length done) 3) [
+    longer : 3 ≤ length (walk ∷ done) → Steps g (walk ∷ done)
+    longer more = elim (decLt (length done) 3) [
       | yes few ↦ theta {walks = walk ∷ done} (record { three = omega (arith, more, few); between = between few; simple = simple few })
       | no many ↦ let t = ears (omega (arith, many)) in
-          ear (h .stands .steps (omega (arith, many))) (fitting-ear g (allEdges done) walk (walk-sound walked) (t .0) (t .1))
+          mader (h .stands .steps (omega (arith, many))) (fitting-path g (allEdges done) walk (walk-sound walked) (t .0) (t .1))
     ]
 
     pub finished : {after : List ℕ} → RowsAdded degrees after ends list (run .first) row
-        → Holds g list (walk ∷ done) [] row after left (steps + 1) (record { first = row; start = 0; at = 0; fresh = true }) (run .start) (run .at)
+        → Holds most g list (walk ∷ done) [] row after left (steps + 1) (record { first = row; start = 0; at = 0; fresh = true }) (run .start) (run .at)
     finished a = record {
       marks-length = a .length-same ∙ h .marks-length;
       left-length = h .left-length;
@@ -148,11 +149,11 @@ module _ (n : ℕ) (ends : List ℕ) {list : List ℕ} {done : List (List Leg)} 
       few = a .few;
       steps-done = omega (arith, h .steps-done);
       laid = marks.more (h .laid) b (h .lies);
-      lies = marks.none;
+      lies = marks.no-row;
       once = h .once;
       walks = λ c. absurd (omega (arith, c));
       fresh = fresh-none g (allEdges (walk ∷ done));
       lefts = λ p. h .lefts passes-fresh;
-      stands = record { between = λ one few. between (omega (arith, few)); simple = λ one few. simple (omega (arith, few)); steps = mader };
+      stands = record { between = λ one few. between (omega (arith, few)); simple = λ one few. simple (omega (arith, few)); steps = longer };
       rows = h .rows;
     }

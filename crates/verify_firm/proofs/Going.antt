@@ -9,7 +9,8 @@ use native.Mathlib.Decide.{ℕ-discrete, decLt, decLe}
 use lib.Dec.{T, eqb, eqb→eq}
 use lib.ListN.{length, getD, set, length-set}
 use lib.Seq.{getD-set-same, getD-set-other}
-use Rattle.connectivity.specs.Lists.{none, one}
+use Rattle.connectivity.specs.Lists.{no-member, one}
+use Rattle.connectivity.specs.Plan.{Limits}
 use Rattle.connectivity.specs.Graph.{Graph, Vertex, Edge, Joins}
 use Rattle.connectivity.specs.Walk.{Leg, Walk, last, froms, inner, edgesOf, allEdges, degree, Built, far}
 use Rattle.connectivity.specs.Judge.{legOf}
@@ -21,7 +22,7 @@ use Rattle.connectivity.proofs.Run.{RowFits, comes-to, more-distinct}
 use Rattle.connectivity.proofs.Fresh.{Fresh, fresh-snoc}
 use Rattle.connectivity.proofs.Stretch.{place-vertex, place-edge, edges-of}
 use Rattle.verify_firm.specs.declared.state.Run.{Run}
-use Rattle.connectivity.specs.Tells.{Tells}
+use Rattle.graph.specs.Tells.{Tells}
 use Rattle.verify_firm.specs.Marks.{stepAt, edgeAt, fromAt, rowAt, Lies, Laid, GoesOn, Left, Lefts, Stands, Holds, StaysFresh, WentOn, begun, on}
 use Rattle.verify_firm.specs.Marks as marks
 use Rattle.verify_firm.proofs.Rows.{Placed, lies-le, lies-snoc, row-place, laid-step, home, inner-row}
@@ -36,17 +37,17 @@ tells true t e = t
 tells false t e = absurd (true-T e)
 
 pub fresh-none : (g : Graph) (built : List ℕ) → Fresh g built []
-fresh-none g built = record { once = none; new = λ v i. absurd (not-in i) }
+fresh-none g built = record { once = no-member; new = λ v i. absurd (not-in i) }
 
 pub lies-nil : {list : List ℕ} {s n m : ℕ} {legs : List Leg} → Lies list s n legs m → n ≡ m → legs ≡ []
-lies-nil marks.none p = refl
+lies-nil marks.no-row p = refl
 lies-nil (marks.one q l) p = absurd (omega (arith, lies-le l))
 
 below-suc : {P : ℕ → Type 0} (n : ℕ) → ((k : ℕ) → k < n → P k) → P n → (k : ℕ) → k < suc n → P k
 below-suc {P} n old new k h = elim (ℕ-discrete k n) [ yes e ↦ subst P (sym e) new | no d ↦ old k (omega (arith, h, d)) ]
 
-module _ {g : Graph} {list : List ℕ} {done : List (List Leg)} {walk : List Leg} {row : ℕ} {degrees left : List ℕ} {steps : ℕ} {run : Run} {low high : ℕ}
-    (h : Holds g list done walk row degrees left steps run low high) where
+module _ {most : Limits} {g : Graph} {list : List ℕ} {done : List (List Leg)} {walk : List Leg} {row : ℕ} {degrees left : List ℕ} {steps : ℕ} {run : Run} {low high : ℕ}
+    (h : Holds most g list done walk row degrees left steps run low high) where
   -- the vertex of a row before the step is built
   pub row-built : (i : ℕ) → i < run .first → Built g (allEdges done) (fromAt list i)
   row-built i b =
@@ -55,8 +56,8 @@ module _ {g : Graph} {list : List ℕ} {done : List (List Leg)} {walk : List Leg
       let q = row-place i (r .lies) (p .0) (p .1) in
       in-degree g (fromAt list i) (edges-of done (r .member) (edgeAt list i) (place-edge (q .here))) (hits-from (h .rows i (omega (arith, b, lies-le (h .lies)))))
 
-module _ {g : Graph} {list : List ℕ} {done : List (List Leg)} {walk : List Leg} {row : ℕ} {degrees left : List ℕ} {steps : ℕ} {run : Run} {low high : ℕ}
-    (h : Holds g list done walk row degrees left steps run low high) (bound : g .bound ≤ 1000) (f : RowFits g done walk (rowAt list row)) where
+module _ {most : Limits} {g : Graph} {list : List ℕ} {done : List (List Leg)} {walk : List Leg} {row : ℕ} {degrees left : List ℕ} {steps : ℕ} {run : Run} {low high : ℕ}
+    (h : Holds most g list done walk row degrees left steps run low high) (bound : g .bound ≤ most .vertices) (f : RowFits g done walk (rowAt list row)) where
   abbrev v : ℕ
   v = fromAt list row
 
@@ -73,7 +74,7 @@ module _ {g : Graph} {list : List ℕ} {done : List (List Leg)} {walk : List Leg
   rows = below-suc {P = λ k. Joins g (edgeAt list k) (fromAt list k) (far g (edgeAt list k) (fromAt list k))} row (h .rows) joins
 
   -- the first row of a step
-  pub first-row : run .first ≡ row → Holds g list done longer (suc row) degrees left steps (record { first = row; start = v; at = far g e v; fresh = true }) low high
+  pub first-row : run .first ≡ row → Holds most g list done longer (suc row) degrees left steps (record { first = row; start = v; at = far g e v; fresh = true }) low high
   first-row p = record {
     marks-length = h .marks-length;
     left-length = h .left-length;
@@ -84,7 +85,7 @@ module _ {g : Graph} {list : List ℕ} {done : List (List Leg)} {walk : List Leg
     lies = lies-snoc (subst (λ (n : ℕ). Lies list (length done) n walk row) p (h .lies)) (f .step);
     once = more-distinct f (h .once);
     walks = λ b. rw nil (last e joins);
-    fresh = rw nil (record { once = one not-in none; new = λ x i. absurd (not-in i) });
+    fresh = rw nil (record { once = one not-in no-member; new = λ x i. absurd (not-in i) });
     lefts = λ t. record {
       mark = λ k b q. elim (decLt (suc k) row) [
         | yes c ↦ before .mark k c q
@@ -115,7 +116,7 @@ module _ {g : Graph} {list : List ℕ} {done : List (List Leg)} {walk : List Leg
     walked : Walk g (run .start) walk v
     walked = let w = h .walks runs in subst (Walk g (run .start) walk) (comes-to w (f .comes)) w
 
-    vertex : v < 1000
+    vertex : v < most .vertices
     vertex = omega (arith, bound, joins-vertex joins .below)
 
     -- a link mark tells a vertex that is built or that the walk has left
@@ -180,7 +181,7 @@ module _ {g : Graph} {list : List ℕ} {done : List (List Leg)} {walk : List Leg
         ]
 
     next-row : (fresh : Bool) → Tells fresh (StaysFresh run v (getD degrees v 0) (getD left v 0))
-        → Holds g list done longer (suc row) degrees (set left v (row + 1)) steps (record { first = run .first; start = run .start; at = far g e v; fresh = fresh }) low high
+        → Holds most g list done longer (suc row) degrees (set left v (row + 1)) steps (record { first = run .first; start = run .start; at = far g e v; fresh = fresh }) low high
     next-row fresh t = record {
       marks-length = h .marks-length;
       left-length = length-set left v (row + 1) ∙ h .left-length;
@@ -199,6 +200,6 @@ module _ {g : Graph} {list : List ℕ} {done : List (List Leg)} {walk : List Leg
 
   -- however it goes
   pub went-on : {after : List ℕ} {to built : ℕ} {next : Run} → to ≡ far g e v → built ≡ getD degrees v 0 → WentOn left run row v to built after next
-      → Holds g list done longer (suc row) degrees after steps next low high
+      → Holds most g list done longer (suc row) degrees after steps next low high
   went-on p q (begun z) = rw p (first-row z)
   went-on p q (on n fresh t) = rw p (next-row n fresh (subst (λ (b : ℕ). Tells fresh (StaysFresh run v b (getD left v 0))) q t))

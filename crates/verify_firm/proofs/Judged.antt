@@ -8,17 +8,21 @@ use native.Mathlib.Omega.{arith}
 use lib.Dec.{eqb, leb}
 use lib.ListN.{length, getD, drop}
 use lib.Seq.{drop-length}
-use borrow.Author.Tests.{eq-eqb, ne-eqb}
+use borrow.Author.Tests.{eqb-true, eq-eqb, ne-eqb}
 use Rattle.connectivity.specs.Lists.{all}
-use Rattle.connectivity.specs.Graph.{Graph, Vertex, graphOf, always, vertices}
+use Rattle.connectivity.specs.Plan.{Plan, graph, Limits}
+use Rattle.connectivity.specs.Graph.{Graph, Vertex, vertices}
 use Rattle.connectivity.specs.Walk.{Leg, allEdges, degree, isBranch}
-use Rattle.connectivity.specs.Admission.{Admitted, Answer, limits, answer, andThen}
+use Rattle.connectivity.specs.Admission.{Admitted, Answer, answer, passed, andThen}
 use Rattle.connectivity.specs.Judge.{Row, rowsOf, legOf, rowNumber, stepNumber, closingNumber, isLast, judgeRows, judgeFirm, judgeGraph, judge}
 use Rattle.connectivity.proofs.Admission.{passed-then, failed-then, admitted-edges}
 use Rattle.connectivity.proofs.Fit.{closing}
 use Rattle.connectivity.proofs.Judge.{judge-admitted}
+use Rattle.graph.specs.declared.Answer as code
+use Rattle.graph.specs.Admission.{toldBy}
 use Rattle.verify_firm.specs.declared.state.State.{State}
-use Rattle.verify_firm.specs.Marks.{rowAt, Represents, takenNumber, doneThen, walkThen, SteppedAt, lastAt, Closed}
+use Rattle.verify_firm.specs.declared.state.Taken.{Taken}
+use Rattle.verify_firm.specs.Marks.{rowAt, Represents, takenNumber, rowAnswer, doneThen, walkThen, SteppedAt, lastAt, Closed}
 use Rattle.verify_firm.proofs.Tests.{rows-next}
 
 -- a row's own number, then the step's, as one number
@@ -68,12 +72,23 @@ closing-fails g done = go (leb 3 (length done) && all (isBranch g (allEdges done
     go true n = absurd (n refl)
     go false n = refl
 
+-- the answer to a row, by its number
+row-zero : (m row : ℕ) → (rowAnswer m row) .number ≡ 0 → m ≡ 0
+row-zero m row = go (eqb m 0) refl
+  where
+    go : (t : Bool) → eqb m 0 ≡ t → (cond t passed (answer m row)) .number ≡ 0 → m ≡ 0
+    go true q z = eqb-true m 0 q
+    go false q z = z
+
+row-fails : (m row : ℕ) → (m ≡ 0 → ⊥) → rowAnswer m row ≡ answer m row
+row-fails m row h = rw (ne-eqb m 0 h)
+
 -- some rows are taken up, and what is left to judge is the rest
-pub record Judged (n : ℕ) (ends list : List ℕ) (used : List Bool) (state : State) (row : ℕ) : Type 0 where
+pub record Judged (most : Limits) (p : Plan) (list : List ℕ) (used : List Bool) (state : State) (row : ℕ) : Type 0 where
   pub done : List (List Leg)
   pub walk : List Leg
-  pub represents : Represents (graphOf n always ends) list used done walk row state
-  pub rest : judgeRows (graphOf n always ends) [] [] 0 (rowsOf list) ≡ judgeRows (graphOf n always ends) done walk row (rowsOf (drop (3 * row) list))
+  pub represents : Represents most (graph p) list used done walk row state
+  pub rest : judgeRows (graph p) [] [] 0 (rowsOf list) ≡ judgeRows (graph p) done walk row (rowsOf (drop (3 * row) list))
 
 rows-here : (list : List ℕ) (row : ℕ) → 3 * row + 2 < length list → rowsOf (drop (3 * row) list) ≡ rowAt list row ∷ rowsOf (drop (3 * (row + 1)) list)
 rows-here list row h =
@@ -82,42 +97,55 @@ rows-here list row h =
     let c : suc (suc (suc (3 * row))) ≡ 3 * (row + 1) = omega arith in
     rows-next list (3 * row) (omega (arith, h)) ∙ rw (c, b, a)
 
-pub judged-start : {n : ℕ} {ends list : List ℕ} {used : List Bool} {state : State} → Represents (graphOf n always ends) list used [] [] 0 state → Judged n ends list used state 0
+pub judged-start : {most : Limits} {p : Plan} {list : List ℕ} {used : List Bool} {state : State} → Represents most (graph p) list used [] [] 0 state → Judged most p list used state 0
 judged-start r = record { done = []; walk = []; represents = r; rest = refl }
 
-module _ {n : ℕ} {ends list : List ℕ} {used : List Bool} {state : State} {row : ℕ} (j : Judged n ends list used state row) (h : 3 * row + 2 < length list)
-    {marked : List Bool} (t : State) {l : Bool} (q : l ≡ lastAt list row) (taken-up : SteppedAt (graphOf n always ends) list marked (j .done) (j .walk) row l t) where
-  s : SteppedAt (graphOf n always ends) list marked (j .done) (j .walk) row (lastAt list row) t
-  s = subst (λ (b : Bool). SteppedAt (graphOf n always ends) list marked (j .done) (j .walk) row b t) q taken-up
+module _ {most : Limits} {p : Plan} {list : List ℕ} {used : List Bool} {state : State} {row : ℕ} (j : Judged most p list used state row) (h : 3 * row + 2 < length list)
+    {marked : List Bool} (t : Taken) {l : Bool} (q : l ≡ lastAt list row) (taken-up : SteppedAt most (graph p) list marked (j .done) (j .walk) row l t) where
+  s : SteppedAt most (graph p) list marked (j .done) (j .walk) row (lastAt list row) t
+  s = subst (λ (b : Bool). SteppedAt most (graph p) list marked (j .done) (j .walk) row b t) q taken-up
 
-  pub judged-stop : (t .number ≡ 0 → ⊥) → judgeRows (graphOf n always ends) [] [] 0 (rowsOf list) ≡ answer (t .number) row
-  judged-stop m = j .rest ∙ ap (judgeRows (graphOf n always ends) (j .done) (j .walk) row) (rows-here list row h)
-      ∙ row-stops (graphOf n always ends) (j .done) (j .walk) row (rowAt list row) (rowsOf (drop (3 * (row + 1)) list)) (λ z. m (s .number ∙ z)) ∙ rw (s .number)
+  -- what the row is answered, by its number
+  abbrev number : ℕ
+  number = takenNumber (graph p) (j .done) (j .walk) (lastAt list row) (rowAt list row)
 
-  pub judged-next : t .number ≡ 0 → Judged n ends list marked t (row + 1)
-  judged-next z = subst (Judged n ends list marked t) same (record {
+  passed-row : t .answer .number ≡ 0 → number ≡ 0
+  passed-row z = row-zero number row (sym (ap (λ (a : code.Answer). a .number) (s .answered)) ∙ z)
+
+  failed-row : (t .answer .number ≡ 0 → ⊥) → number ≡ 0 → ⊥
+  failed-row h z = h (ap (λ (a : code.Answer). a .number) (s .answered) ∙ rw z)
+
+  stops : (t .answer .number ≡ 0 → ⊥) → judgeRows (graph p) [] [] 0 (rowsOf list) ≡ answer number row
+  stops m = j .rest ∙ ap (judgeRows (graph p) (j .done) (j .walk) row) (rows-here list row h)
+      ∙ row-stops (graph p) (j .done) (j .walk) row (rowAt list row) (rowsOf (drop (3 * (row + 1)) list)) (failed-row m)
+
+  pub judged-stop : (t .answer .number ≡ 0 → ⊥) → t .answer ≡ toldBy (judgeRows (graph p) [] [] 0 (rowsOf list))
+  judged-stop m = s .answered ∙ ap toldBy (row-fails number row (failed-row m) ∙ sym (stops m))
+
+  pub judged-next : t .answer .number ≡ 0 → Judged most p list marked (t .state) (row + 1)
+  judged-next z = subst (Judged most p list marked (t .state)) same (record {
     done = doneThen (j .done) (j .walk) (lastAt list row) (rowAt list row);
     walk = walkThen (j .walk) (lastAt list row) (rowAt list row);
     represents = s .next z;
-    rest = j .rest ∙ ap (judgeRows (graphOf n always ends) (j .done) (j .walk) row) (rows-here list row h)
-        ∙ row-passes (graphOf n always ends) (j .done) (j .walk) row (rowAt list row) (rowsOf (drop (3 * (row + 1)) list)) (sym (s .number) ∙ z)
-        ∙ ap (λ (k : ℕ). judgeRows (graphOf n always ends) (doneThen (j .done) (j .walk) (lastAt list row) (rowAt list row)) (walkThen (j .walk) (lastAt list row) (rowAt list row)) (suc row) (rowsOf (drop (3 * k) list))) (sym same);
+    rest = j .rest ∙ ap (judgeRows (graph p) (j .done) (j .walk) row) (rows-here list row h)
+        ∙ row-passes (graph p) (j .done) (j .walk) row (rowAt list row) (rowsOf (drop (3 * (row + 1)) list)) (passed-row z)
+        ∙ ap (λ (k : ℕ). judgeRows (graph p) (doneThen (j .done) (j .walk) (lastAt list row) (rowAt list row)) (walkThen (j .walk) (lastAt list row) (rowAt list row)) (suc row) (rowsOf (drop (3 * k) list))) (sym same);
   })
     where
       same : suc row ≡ row + 1
       same = omega arith
 
 -- the end of the list
-module _ {n : ℕ} {ends list : List ℕ} {used : List Bool} {state : State} {row : ℕ} (j : Judged n ends list used state row) (over : 3 * row ≡ length list) (bound : n ≤ 1000) where
-  ended : judgeRows (graphOf n always ends) [] [] 0 (rowsOf list) ≡ answer (closingNumber (graphOf n always ends) (j .done)) 0
+module _ {most : Limits} {p : Plan} {list : List ℕ} {used : List Bool} {state : State} {row : ℕ} (j : Judged most p list used state row) (over : 3 * row ≡ length list) (bound : p .vertices ≤ most .vertices) where
+  ended : judgeRows (graph p) [] [] 0 (rowsOf list) ≡ answer (closingNumber (graph p) (j .done)) 0
   unfolding judgeRows rowsOf
   ended = j .rest ∙ rw (over, drop-length list)
 
   abbrev AllBranches : Type 0
-  AllBranches = (3 ≤ length (j .done)) × ((v : ℕ) → Vertex (graphOf n always ends) v → 3 ≤ degree (graphOf n always ends) (allEdges (j .done)) v)
+  AllBranches = (3 ≤ length (j .done)) × ((v : ℕ) → Vertex (graph p) v → 3 ≤ degree (graph p) (allEdges (j .done)) v)
 
-  marks-close : Closed (state .degree) n (state .steps) ↔ AllBranches
-  unfolding graphOf
+  marks-close : Closed (state .degree) (p .vertices) (state .steps) ↔ AllBranches
+  unfolding graph
   marks-close = (
     (λ c. (omega (arith, c .0, steps), λ v k. omega (arith, c .1 v (k .below), degrees v (omega (arith, k .below, bound))))),
     (λ c. (omega (arith, c .0, steps), λ v k. omega (arith, c .1 v (record { below = k; kept = tt }), degrees v (omega (arith, k, bound))))),
@@ -126,27 +154,27 @@ module _ {n : ℕ} {ends list : List ℕ} {used : List Bool} {state : State} {ro
       steps : state .steps ≡ length (j .done)
       steps = j .represents .holds .steps-done
 
-      degrees : (v : ℕ) → v < 1000 → getD (state .degree) v 0 ≡ degree (graphOf n always ends) (allEdges (j .done)) v
+      degrees : (v : ℕ) → v < most .vertices → getD (state .degree) v 0 ≡ degree (graph p) (allEdges (j .done)) v
       degrees = j .represents .holds .degrees
 
-  pub judged-passes : Closed (state .degree) n (state .steps) → judgeRows (graphOf n always ends) [] [] 0 (rowsOf list) ≡ answer 0 0
-  judged-passes c = ended ∙ ap (λ (m : ℕ). answer m 0) (closing (graphOf n always ends) (j .done) .1 (marks-close .0 c))
+  pub judged-passes : Closed (state .degree) (p .vertices) (state .steps) → judgeRows (graph p) [] [] 0 (rowsOf list) ≡ answer 0 0
+  judged-passes c = ended ∙ ap (λ (m : ℕ). answer m 0) (closing (graph p) (j .done) .1 (marks-close .0 c))
 
-  pub judged-fails : (Closed (state .degree) n (state .steps) → ⊥) → judgeRows (graphOf n always ends) [] [] 0 (rowsOf list) ≡ answer 16 0
-  judged-fails c = ended ∙ ap (λ (m : ℕ). answer m 0) (closing-fails (graphOf n always ends) (j .done) (λ z. c (marks-close .1 (closing (graphOf n always ends) (j .done) .0 z))))
+  pub judged-fails : (Closed (state .degree) (p .vertices) (state .steps) → ⊥) → judgeRows (graph p) [] [] 0 (rowsOf list) ≡ answer 16 0
+  judged-fails c = ended ∙ ap (λ (m : ℕ). answer m 0) (closing-fails (graph p) (j .done) (λ z. c (marks-close .1 (closing (graph p) (j .done) .0 z))))
 
 -- the whole answer
 
-module _ {n : ℕ} {ends : List ℕ} (a : Admitted limits n ends) (list : List ℕ) where
-  pub firm-long : (length list ≡ 3 * (length ends / 2) → ⊥) → judgeFirm (graphOf n always ends) list ≡ answer 9 0
+module _ {most : Limits} {p : Plan} (a : Admitted most p) (list : List ℕ) where
+  pub firm-long : (length list ≡ 3 * (length (p .ends) / 2) → ⊥) → judgeFirm (graph p) list ≡ answer 9 0
   unfolding judgeFirm
-  firm-long h = rw (admitted-edges a, ne-eqb (length list) (3 * (length ends / 2)) h)
+  firm-long h = rw (admitted-edges a, ne-eqb (length list) (3 * (length (p .ends) / 2)) h)
 
-  pub firm-rows : length list ≡ 3 * (length ends / 2) → judgeFirm (graphOf n always ends) list ≡ judgeRows (graphOf n always ends) [] [] 0 (rowsOf list)
+  pub firm-rows : length list ≡ 3 * (length (p .ends) / 2) → judgeFirm (graph p) list ≡ judgeRows (graph p) [] [] 0 (rowsOf list)
   unfolding judgeFirm
-  firm-rows h = rw (admitted-edges a, eq-eqb (length list) (3 * (length ends / 2)) h)
+  firm-rows h = rw (admitted-edges a, eq-eqb (length list) (3 * (length (p .ends) / 2)) h)
 
   -- of kind 0 the firm list is judged
-  pub judge-firm : judge limits n always ends 0 list ≡ judgeFirm (graphOf n always ends) list
+  pub judge-firm : judge most p 0 list ≡ judgeFirm (graph p) list
   unfolding judgeGraph
-  judge-firm = judge-admitted limits n always ends 0 list a
+  judge-firm = judge-admitted most p 0 list a

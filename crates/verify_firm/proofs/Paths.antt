@@ -8,6 +8,7 @@ use native.Mathlib.Omega.{arith}
 use lib.Dec.{T}
 use lib.ListN.{length, getD}
 use Rattle.connectivity.specs.Lists.{Distinct}
+use Rattle.connectivity.specs.Plan.{Limits}
 use Rattle.connectivity.specs.Graph.{Graph}
 use Rattle.connectivity.specs.Walk.{Leg, Walk, Between, froms, inner, allInner, allEdges}
 use Rattle.connectivity.specs.Judge.{pathsFit}
@@ -35,8 +36,8 @@ member : (l : List (List Leg)) → 1 ≤ length l → (legs : List Leg) × In le
 member [] h = absurd (omega arith)
 member (k ∷ l) h = (k, first refl)
 
-module _ {g : Graph} {list : List ℕ} {done : List (List Leg)} {walk : List Leg} {row : ℕ} {degrees left : List ℕ} {steps : ℕ} {run : Run} {low high : ℕ}
-    (h : Holds g list done walk row degrees left steps run low high) (b : run .first < row) where
+module _ {most : Limits} {g : Graph} {list : List ℕ} {done : List (List Leg)} {walk : List Leg} {row : ℕ} {degrees left : List ℕ} {steps : ℕ} {run : Run} {low high : ℕ}
+    (h : Holds most g list done walk row degrees left steps run low high) (b : run .first < row) where
   abbrev Paths : Type 0
   Paths = AllBetween g (run .start) done (run .at) × Distinct (run .start ∷ (run .at ∷ allInner (walk ∷ done)))
 

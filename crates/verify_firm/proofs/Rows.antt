@@ -9,7 +9,7 @@ use lib.ListN.{length}
 use Rattle.connectivity.specs.Walk.{Leg, froms, inner}
 use Rattle.connectivity.specs.Judge.{legOf}
 use Rattle.connectivity.proofs.Stretch.{Place, now, next}
-use Rattle.verify_firm.specs.Marks.{stepAt, edgeAt, fromAt, rowAt, GoesOn, Lies, none, one, Laid, nothing, more}
+use Rattle.verify_firm.specs.Marks.{stepAt, edgeAt, fromAt, rowAt, GoesOn, Lies, no-row, one, Laid, nothing, more}
 
 pub record RowOf (list : List ℕ) (s n m k e v : ℕ) : Type 0 where
   pub row : ℕ
@@ -45,12 +45,12 @@ pub record Span (list : List ℕ) (legs : List Leg) (n : ℕ) : Type 0 where
 
 module _ {list : List ℕ} {s : ℕ} where
   pub lies-le : {n m : ℕ} {legs : List Leg} → Lies list s n legs m → n ≤ m
-  lies-le none = omega arith
+  lies-le no-row = omega arith
   lies-le (one p l) = omega (arith, lies-le l)
 
   -- one row more
   pub lies-snoc : {n m : ℕ} {legs : List Leg} → Lies list s n legs m → stepAt list m ≡ s → Lies list s n (legs ++ (legOf (rowAt list m) ∷ [])) (suc m)
-  lies-snoc none p = one p none
+  lies-snoc no-row p = one p no-row
   lies-snoc (one q l) p = one q (lies-snoc l p)
 
   -- the leg at place k stands k rows after the first
@@ -60,7 +60,7 @@ module _ {list : List ℕ} {s : ℕ} where
 
   -- and the other way
   pub row-place : {n m : ℕ} {legs : List Leg} (i : ℕ) → Lies list s n legs m → n ≤ i → i < m → Placed list s legs n i
-  row-place i none a b = absurd (omega arith)
+  row-place i no-row a b = absurd (omega arith)
   row-place {n} i (one {legs = legs} p l) a b = elim (ℕ-discrete n i) [
     | yes e ↦ subst (Placed list s (legOf (rowAt list n) ∷ legs) n) e (record { place = 0; at = omega arith; here = now; step = p })
     | no h ↦ let r = row-place i l (omega (arith, h)) b in
@@ -134,7 +134,7 @@ from-place (l ∷ legs) i = elim (in-cons i) [
 ]
 
 pub inner-row : {list : List ℕ} {s n m x : ℕ} {legs : List Leg} → Lies list s n legs m → In x (inner legs) → InnerRow list s n m x
-inner-row none i = absurd (not-in i)
+inner-row no-row i = absurd (not-in i)
 inner-row {list} {s} {n} {m} {x} (one {legs = legs} p l) i =
     let q = from-place legs i in
     let r = place-row (one p l) (next (q .2)) in

@@ -12,7 +12,7 @@ use lib.Seq.{drop-cons, drop-length}
 use borrow.Author.Tests.{eqb-true, eqb-false, leb-true, leb-false}
 use Rattle.connectivity.specs.Judge.{Row, rowsOf, isLast}
 use Rattle.verify_firm.specs.declared.state.Run.{Run}
-use Rattle.connectivity.specs.Tells.{Tells}
+use Rattle.graph.specs.Tells.{Tells}
 use Rattle.verify_firm.specs.Marks.{stepAt, fromAt, rowAt, Joined, FitsLinks, lastAt}
 
 -- a test of two numbers, and a fact that goes with it

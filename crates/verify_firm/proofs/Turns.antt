@@ -10,17 +10,19 @@ use lib.ListN.{length, getD, set, length-set}
 use lib.Seq.{getD-set-same, getD-set-other}
 use borrow.Author.Tests.{eq-eqb, ne-eqb, ltb-true}
 use Rattle.connectivity.specs.Lists.{mem}
-use Rattle.connectivity.specs.Graph.{Graph, graphOf, always}
+use Rattle.connectivity.specs.Plan.{plan, graph, Limits}
+use Rattle.connectivity.specs.Graph.{Graph}
 use Rattle.connectivity.specs.Walk.{Leg, Walk, last, then, edgesOf, allEdges, far}
-use Rattle.connectivity.specs.Admission.{Admitted, limits}
+use Rattle.connectivity.specs.Admission.{Admitted}
 use Rattle.connectivity.specs.Judge.{Row, legOf, stepFits, edgeFits, comesTo, fromFits, rowNumber, stepNumber}
 use Rattle.connectivity.proofs.Admission.{admitted-all, edge-size}
 use Rattle.connectivity.proofs.Reach.{joins-vertex}
 use Rattle.connectivity.proofs.Legs.{walk-stop, edges-snoc, joins-far}
 use Rattle.connectivity.proofs.Run.{RowFits, row-fits}
+use Rattle.graph.specs.Admission.{toldBy}
 use Rattle.verify_firm.specs.declared.state.Run.{Run}
 use Rattle.verify_firm.specs.declared.state.State.{State}
-use Rattle.verify_firm.specs.Marks.{rowAt, edgeAt, fromAt, rowMark, WentOn, begun, on, Ready, Whole, StepTold, RowsReady, RowsAdded, Used, Holds, Represents, takenNumber, SteppedAt}
+use Rattle.verify_firm.specs.Marks.{rowAt, edgeAt, fromAt, rowMark, WentOn, begun, on, Ready, Whole, StepTold, RowsReady, RowsAdded, Used, Holds, Represents, takenNumber, rowAnswer, SteppedAt}
 use Rattle.verify_firm.specs.Marks as marks
 use Rattle.verify_firm.proofs.Rows.{lies-le, laid-length}
 use Rattle.verify_firm.proofs.Going.{lies-nil, went-on}
@@ -37,12 +39,12 @@ not-or : (a b : Bool) → not (a || b) ≡ (not a && not b)
 not-or true b = refl
 not-or false b = refl
 
-module _ (n : ℕ) (ends : List ℕ) (a : Admitted limits n ends) {list : List ℕ} {used : List Bool} {done : List (List Leg)} {walk : List Leg} {row : ℕ} {state : State}
-    (r : Represents (graphOf n always ends) list used done walk row state) where
+module _ {most : Limits} (n : ℕ) (ends : List ℕ) (a : Admitted most (plan n ends)) {list : List ℕ} {used : List Bool} {done : List (List Leg)} {walk : List Leg} {row : ℕ} {state : State}
+    (r : Represents most (graph (plan n ends)) list used done walk row state) where
   abbrev g : Graph
-  g = graphOf n always ends
+  g = graph (plan n ends)
 
-  abbrev holds : Holds g list done walk row (state .degree) (state .left) (state .steps) (state .run) (state .low) (state .high)
+  abbrev holds : Holds most g list done walk row (state .degree) (state .left) (state .steps) (state .run) (state .low) (state .high)
   holds = r .holds
 
   comes : (v : ℕ) → comesTo g walk v ≡ (eqb (state .run .first) row || eqb (state .run .at) v)
@@ -61,7 +63,7 @@ module _ (n : ℕ) (ends : List ℕ) (a : Admitted limits n ends) {list : List �
       go true p = sym (not-or (mem e (edgesOf walk)) (mem e (allEdges done))) ∙ ap not (sym (r .marked e (omega (arith, a .edges, ltb-true e (length ends / 2) p))))
 
   pub row-number : rowMark ends used (state .steps) row (state .run) (rowAt list row) ≡ rowNumber g done walk (rowAt list row)
-  unfolding rowNumber stepFits edgeFits fromFits graphOf
+  unfolding rowNumber stepFits edgeFits fromFits graph
   row-number = rw (holds .steps-done, edge (rowAt list row .edge), comes (rowAt list row .from))
 
 -- Used edges.
@@ -93,9 +95,9 @@ mark-used used e x h = elim (ℕ-discrete x e) [
   | no p ↦ rw (getD-set-other used e x true false p, ne-eqb x e p) (sym (or-false (getD used x false)))
 ]
 
-used-next : (used : List Bool) (done : List (List Leg)) (walk : List Leg) (l : Leg) → l .edge < 4000 → length used ≡ 4000 → Used used done walk
-    → Used (set used (l .edge) true) done (walk ++ (l ∷ []))
-used-next used done walk l b n u x h =
+used-next : (most : Limits) (used : List Bool) (done : List (List Leg)) (walk : List Leg) (l : Leg) → l .edge < most .edges → length used ≡ most .edges → Used most used done walk
+    → Used most (set used (l .edge) true) done (walk ++ (l ∷ []))
+used-next most used done walk l b n u x h =
     mark-used used (l .edge) x (omega (arith, b, n))
     ∙ rw (u x h, edges-snoc walk l, mem-append x (edgesOf walk) (l .edge ∷ []), mem-one x (l .edge)) (or-swap (mem x (edgesOf walk)) (mem x (allEdges done)) (eqb x (l .edge)))
   where
@@ -106,14 +108,14 @@ used-next used done walk l b n u x h =
     or-swap false false true = refl
     or-swap false false false = refl
 
-used-done : (used : List Bool) (done : List (List Leg)) (walk : List Leg) → Used used done walk → Used used (walk ∷ done) []
+used-done : (most : Limits) (used : List Bool) (done : List (List Leg)) (walk : List Leg) → Used most used done walk → Used most used (walk ∷ done) []
 unfolding mem
-used-done used done walk u x h = u x h ∙ sym (mem-append x (edgesOf walk) (allEdges done))
+used-done most used done walk u x h = u x h ∙ sym (mem-append x (edgesOf walk) (allEdges done))
 
 -- One row, as `step` takes it up.
 
-table-far : (n : ℕ) (ends : List ℕ) (e v : ℕ) → far (graphOf n always ends) e v ≡ cond (eqb (getD ends (2 * e) 0) v) (getD ends (2 * e + 1) 0) (getD ends (2 * e) 0)
-unfolding far graphOf
+table-far : (n : ℕ) (ends : List ℕ) (e v : ℕ) → far (graph (plan n ends)) e v ≡ cond (eqb (getD ends (2 * e) 0) v) (getD ends (2 * e + 1) 0) (getD ends (2 * e) 0)
+unfolding far graph
 table-far n ends e v = refl
 
 module _ (g : Graph) (done : List (List Leg)) (walk : List Leg) where
@@ -130,9 +132,16 @@ went-first : {left after : List ℕ} {run next : Run} {row v to built : ℕ} →
 went-first (begun p) h = omega arith
 went-first (on n fresh t) h = h
 
-module _ {ends : List ℕ} {used : List Bool} {list : List ℕ} {row : ℕ} {state : State} (r : Ready ends used list row state) where
-  abbrev plan : Graph
-  plan = graphOf (r .n) always ends
+-- the answer to a row, by its number
+rejects : {m n : ℕ} (row : ℕ) → m ≡ n → (m ≡ 0 → ⊥) → record { number = m; place = row } ≡ toldBy (rowAnswer n row)
+rejects {m} row p h = rw (← p, ne-eqb m 0 h)
+
+goes-by : {n : ℕ} (row : ℕ) → 0 ≡ n → record { number = 0; place = 0 } ≡ toldBy (rowAnswer n row)
+goes-by row p = rw (← p)
+
+module _ {most : Limits} {ends : List ℕ} {used : List Bool} {list : List ℕ} {row : ℕ} {state : State} (r : Ready most ends used list row state) where
+  abbrev drawn : Graph
+  drawn = graph (plan (r .n) ends)
 
   abbrev here : Row
   here = rowAt list row
@@ -146,50 +155,53 @@ module _ {ends : List ℕ} {used : List Bool} {list : List ℕ} {row : ℕ} {sta
   pub read : 3 * row + 2 < length list
   read = omega (arith, r .listed, r .below)
 
-  pub number-own : own ≡ rowNumber plan (r .done) (r .walk) here
+  pub number-own : own ≡ rowNumber drawn (r .done) (r .walk) here
   number-own = row-number (r .n) ends (r .admitted) (r .represents)
 
-  bound : plan .bound ≤ 1000
-  unfolding graphOf
+  bound : drawn .bound ≤ most .vertices
+  unfolding graph
   bound = r .admitted .vertices
 
   pub steps-few : state .steps ≤ row
   steps-few = let h = r .represents .holds in omega (arith, h .steps-done, laid-length (h .laid), lies-le (h .lies))
 
   -- rejected by the row's own number
-  pub stops-own : (m : ℕ) (after : List Bool) (whole : Bool) → m ≡ own → (m ≡ 0 → ⊥)
-      → SteppedAt plan list after (r .done) (r .walk) row whole (record { degree = state .degree; left = state .left; steps = state .steps; run = state .run; low = state .low; high = state .high; number = m })
-  stops-own m after whole p n = record { number = taken-own plan (r .done) (r .walk) whole here m (p ∙ number-own) n; next = λ z. absurd (n z) }
+  pub stops-own : (m : ℕ) (after : List Bool) (whole : Bool) → m ≡ own → (m ≡ 0 → ⊥) → SteppedAt most drawn list after (r .done) (r .walk) row whole
+      (record { state = state; answer = record { number = m; place = row } })
+  stops-own m after whole p n = record {
+    answered = rejects row (taken-own drawn (r .done) (r .walk) whole here m (p ∙ number-own) n) n;
+    next = λ z. absurd (n z);
+  }
 
   module _ (z : own ≡ 0) where
-    fits : RowFits plan (r .done) (r .walk) here
-    fits = row-fits plan (r .done) (r .walk) here .0 (sym number-own ∙ z)
+    fits : RowFits drawn (r .done) (r .walk) here
+    fits = row-fits drawn (r .done) (r .walk) here .0 (sym number-own ∙ z)
 
     pub edge-below : edgeAt list row < length ends / 2
-    edge-below = edge-size (r .n) ends (fits .edge)
+    edge-below = edge-size (plan (r .n) ends) (fits .edge)
 
-    pub from-below : fromAt list row < 1000
+    pub from-below : fromAt list row < most .vertices
     from-below = omega (arith, bound, joins-vertex (joins-far (fits .edge) (fits .end)) .below)
 
     module _ {to : ℕ} {after : List ℕ} {next : Run} (f : to ≡ cond (eqb (getD ends (2 * edgeAt list row) 0) (fromAt list row)) (getD ends (2 * edgeAt list row + 1) 0) (getD ends (2 * edgeAt list row) 0))
         (w : WentOn (state .left) (state .run) row (fromAt list row) to (getD (state .degree) (fromAt list row) 0) after next) where
-      pub goes : Holds plan list (r .done) longer (suc row) (state .degree) after (state .steps) next (state .low) (state .high)
+      pub goes : Holds most drawn list (r .done) longer (suc row) (state .degree) after (state .steps) next (state .low) (state .high)
       goes = went-on (r .represents .holds) bound fits (f ∙ sym (table-far (r .n) ends (edgeAt list row) (fromAt list row))) refl w
 
       abbrev marked : List Bool
       marked = set used (edgeAt list row) true
 
-      used-length : length marked ≡ 4000
+      used-length : length marked ≡ most .edges
       used-length = length-set used (edgeAt list row) true ∙ r .represents .used-length
 
-      used-marked : Used marked (r .done) longer
-      used-marked = used-next used (r .done) (r .walk) (legOf here) (omega (arith, edge-below, r .admitted .edges)) (r .represents .used-length) (r .represents .marked)
+      used-marked : Used most marked (r .done) longer
+      used-marked = used-next most used (r .done) (r .walk) (legOf here) (omega (arith, edge-below, r .admitted .edges)) (r .represents .used-length) (r .represents .marked)
 
       -- the step goes on
-      pub goes-on : (last-row : Bool) → last-row ≡ false → (m : ℕ) → m ≡ 0 → SteppedAt plan list marked (r .done) (r .walk) row last-row
-          (record { degree = state .degree; left = after; steps = state .steps; run = next; low = state .low; high = state .high; number = m })
-      goes-on last-row l m q = rw (l, q) (record {
-        number = taken-on plan (r .done) (r .walk) here (sym number-own ∙ z);
+      pub goes-on : (last-row : Bool) → last-row ≡ false → SteppedAt most drawn list marked (r .done) (r .walk) row last-row
+          (record { state = record { degree = state .degree; left = after; steps = state .steps; run = next; low = state .low; high = state .high }; answer = record { number = 0; place = 0 } })
+      goes-on last-row l = rw l (record {
+        answered = goes-by row (taken-on drawn (r .done) (r .walk) here (sym number-own ∙ z));
         next = λ p. record { used-length = used-length; marked = used-marked; holds = goes };
       })
 
@@ -197,39 +209,42 @@ module _ {ends : List ℕ} {used : List Bool} {list : List ℕ} {row : ℕ} {sta
       began : next .first < suc row
       began = omega (arith, went-first w (lies-le (r .represents .holds .lies)))
 
-      pub whole : Whole (state .degree) list (state .steps) next (state .low) (state .high) (getD after (next .start) 0) (getD after (next .at) 0)
+      pub whole : Whole most (state .degree) list (state .steps) next (state .low) (state .high) (getD after (next .start) 0) (getD after (next .at) 0)
       whole = record {
-        g = plan;
+        g = drawn;
         bound = bound;
         done = r .done;
         walk = longer;
         row = suc row;
         left = after;
         read = omega (arith, read);
-        most = omega (arith, r .below, r .admitted .edges);
+        within = omega (arith, r .below, r .admitted .edges);
         begun = began;
         holds = goes;
         start-mark = refl;
         at-mark = refl;
       }
 
-      pub told-number : (m : ℕ) → StepTold (state .degree) list (state .steps) next (state .low) (state .high) (getD after (next .start) 0) (getD after (next .at) 0) m
-          → m ≡ stepNumber plan (r .done) longer
+      pub told-number : (m : ℕ) → StepTold most (state .degree) list (state .steps) next (state .low) (state .high) (getD after (next .start) 0) (getD after (next .at) 0) m
+          → m ≡ stepNumber drawn (r .done) longer
       unfolding whole
       told-number m t = t whole
 
       -- and rejected
-      pub stops-whole : (last-row : Bool) → last-row ≡ true → (m : ℕ) → m ≡ stepNumber plan (r .done) longer → (m ≡ 0 → ⊥) → SteppedAt plan list marked (r .done) (r .walk) row last-row
-          (record { degree = state .degree; left = after; steps = state .steps; run = next; low = state .low; high = state .high; number = m })
-      stops-whole last-row l m p n = rw l (record { number = taken-whole plan (r .done) (r .walk) here m (sym number-own ∙ z) p; next = λ q. absurd (n q) })
+      pub stops-whole : (last-row : Bool) → last-row ≡ true → (m : ℕ) → m ≡ stepNumber drawn (r .done) longer → (m ≡ 0 → ⊥) → SteppedAt most drawn list marked (r .done) (r .walk) row last-row
+          (record { state = record { degree = state .degree; left = after; steps = state .steps; run = next; low = state .low; high = state .high }; answer = record { number = m; place = row } })
+      stops-whole last-row l m p n = rw l (record {
+        answered = rejects row (taken-whole drawn (r .done) (r .walk) here m (sym number-own ∙ z) p) n;
+        next = λ q. absurd (n q);
+      })
 
-      pub rows-ready : RowsReady (state .degree) ends list (next .first) (row + 1)
+      pub rows-ready : RowsReady most (state .degree) ends list (next .first) (row + 1)
       rows-ready = record {
         long = goes .marks-length;
         order = omega (arith, began);
         read = omega (arith, read);
-        most = omega (arith, r .below, r .admitted .edges);
-        edges = λ k l. edge-size (r .n) ends (goes .rows k (omega (arith, l)) .edge);
+        within = omega (arith, r .below, r .admitted .edges);
+        edges = λ k l. edge-size (plan (r .n) ends) (goes .rows k (omega (arith, l)) .edge);
         fit = λ e l. let f = r .admitted .fit e l in record { left = omega (arith, f .left, bounded); right = omega (arith, f .right, bounded); different = f .different };
         few = goes .few;
       }
@@ -239,19 +254,19 @@ module _ {ends : List ℕ} {used : List Bool} {list : List ℕ} {row : ℕ} {sta
 
       -- or passed
       pub passes : (last-row : Bool) → last-row ≡ true → (degrees : List ℕ) → RowsAdded (state .degree) degrees ends list (next .first) (row + 1)
-          → stepNumber plan (r .done) longer ≡ 0 → (m : ℕ) → m ≡ 0 → (fresh : Run) → fresh ≡ record { first = row + 1; start = 0; at = 0; fresh = true }
-          → SteppedAt plan list marked (r .done) (r .walk) row last-row
-          (record { degree = degrees; left = after; steps = state .steps + 1; run = fresh; low = next .start; high = next .at; number = m })
-      passes last-row l degrees a p m q fresh k = rw (l, q, k) (record {
-        number = taken-whole plan (r .done) (r .walk) here 0 (sym number-own ∙ z) (sym p);
-        next = λ q. record { used-length = used-length; marked = used-done marked (r .done) longer used-marked; holds = subst Then same holds };
+          → stepNumber drawn (r .done) longer ≡ 0 → (fresh : Run) → fresh ≡ record { first = row + 1; start = 0; at = 0; fresh = true }
+          → SteppedAt most drawn list marked (r .done) (r .walk) row last-row
+          (record { state = record { degree = degrees; left = after; steps = state .steps + 1; run = fresh; low = next .start; high = next .at }; answer = record { number = 0; place = 0 } })
+      passes last-row l degrees a p fresh k = rw (l, k) (record {
+        answered = goes-by row (taken-whole drawn (r .done) (r .walk) here 0 (sym number-own ∙ z) (sym p));
+        next = λ q. record { used-length = used-length; marked = used-done most marked (r .done) longer used-marked; holds = subst Then same holds };
       })
         where
           same : suc row ≡ row + 1
           same = omega arith
 
           Then : ℕ → Type 0
-          Then k = Holds plan list (longer ∷ r .done) [] (suc row) degrees after (state .steps + 1) (record { first = k; start = 0; at = 0; fresh = true }) (next .start) (next .at)
+          Then k = Holds most drawn list (longer ∷ r .done) [] (suc row) degrees after (state .steps + 1) (record { first = k; start = 0; at = 0; fresh = true }) (next .start) (next .at)
 
           holds : Then (suc row)
           holds = finished (r .n) ends goes (r .admitted .vertices) began p (subst (RowsAdded (state .degree) degrees ends list (next .first)) (sym same) a)

@@ -7,16 +7,19 @@ use Prim.Native.Nat.{ℕ, suc, _+_, _*_, _/_, _-_, _≤_, _<_}
 use lib.Dec.{eqb, ltb}
 use lib.ListN.{length, getD, set, drop}
 use Rattle.connectivity.specs.Lists.{Distinct, mem}
-use Rattle.connectivity.specs.Tells.{Tells}
-use Rattle.connectivity.specs.Graph.{Graph, Joins, graphOf, always}
+use Rattle.graph.specs.Tells.{Tells}
+use Rattle.connectivity.specs.Plan.{plan, graph, Limits}
+use Rattle.connectivity.specs.Graph.{Graph, Joins}
 use Rattle.connectivity.specs.Walk.{Leg, Walk, Between, edgesOf, allInner, allEdges, degree, far}
 use Rattle.connectivity.specs.Mader.{Steps}
-use Rattle.connectivity.specs.Admission.{Admitted, EndsFit, limits}
+use Rattle.connectivity.specs.Admission.{Answer, answer, passed, Admitted, EndsFit}
 use Rattle.connectivity.specs.Judge.{Row, rowsOf, legOf, rowNumber, stepNumber, isLast}
 use Rattle.connectivity.proofs.Fresh.{Fresh}
 use Rattle.connectivity.proofs.Stretch.{Within}
 use Rattle.verify_firm.specs.declared.state.Run.{Run}
+use Rattle.graph.specs.Admission.{toldBy}
 use Rattle.verify_firm.specs.declared.state.State.{State}
+use Rattle.verify_firm.specs.declared.state.Taken.{Taken}
 
 -- Row k of the list.
 abbrev pub stepAt : List ℕ → ℕ → ℕ
@@ -33,7 +36,7 @@ rowAt list k = record { step = stepAt list k; edge = edgeAt list k; from = fromA
 
 -- the rows from n on and below m are the legs of step s
 pub data Lies (list : List ℕ) (s : ℕ) : ℕ → List Leg → ℕ → Type 0 where
-  none : {n : ℕ} → Lies list s n [] n
+  no-row : {n : ℕ} → Lies list s n [] n
   one : {n m : ℕ} {legs : List Leg} → stepAt list n ≡ s → Lies list s (suc n) legs m → Lies list s n (legOf (rowAt list n) ∷ legs) m
 
 -- the rows below n are the steps `done`, of which the latest comes first
@@ -65,12 +68,12 @@ pub record Stands (g : Graph) (done : List (List Leg)) (low high : ℕ) : Type 0
   pub steps : 3 ≤ length done → Steps g done
 
 -- `done` are the whole steps and `walk` the rows below `row` of the one after them; the marks say what the check has to know of them.
-pub record Holds (g : Graph) (list : List ℕ) (done : List (List Leg)) (walk : List Leg) (row : ℕ) (marks left : List ℕ) (steps : ℕ) (run : Run)
+pub record Holds (most : Limits) (g : Graph) (list : List ℕ) (done : List (List Leg)) (walk : List Leg) (row : ℕ) (marks left : List ℕ) (steps : ℕ) (run : Run)
     (low high : ℕ) : Type 0 where
-  pub marks-length : length marks ≡ 1000
-  pub left-length : length left ≡ 1000
+  pub marks-length : length marks ≡ most .vertices
+  pub left-length : length left ≡ most .vertices
   -- each vertex's edges in whole steps
-  pub degrees : (v : ℕ) → v < 1000 → getD marks v 0 ≡ degree g (allEdges done) v
+  pub degrees : (v : ℕ) → v < most .vertices → getD marks v 0 ≡ degree g (allEdges done) v
   pub few : (v : ℕ) → getD marks v 0 ≤ run .first
   pub steps-done : steps ≡ length done
   pub laid : Laid list done (run .first)
@@ -84,13 +87,13 @@ pub record Holds (g : Graph) (list : List ℕ) (done : List (List Leg)) (walk : 
   pub rows : (k : ℕ) → k < row → Joins g (edgeAt list k) (fromAt list k) (far g (edgeAt list k) (fromAt list k))
 
 -- used edges
-abbrev pub Used : List Bool → List (List Leg) → List Leg → Type 0
-Used used done walk = (e : ℕ) → e < 4000 → getD used e false ≡ (mem e (edgesOf walk) || mem e (allEdges done))
+abbrev pub Used : Limits → List Bool → List (List Leg) → List Leg → Type 0
+Used most used done walk = (e : ℕ) → e < most .edges → getD used e false ≡ (mem e (edgesOf walk) || mem e (allEdges done))
 
-pub record Represents (g : Graph) (list : List ℕ) (used : List Bool) (done : List (List Leg)) (walk : List Leg) (row : ℕ) (state : State) : Type 0 where
-  pub used-length : length used ≡ 4000
-  pub marked : Used used done walk
-  pub holds : Holds g list done walk row (state .degree) (state .left) (state .steps) (state .run) (state .low) (state .high)
+pub record Represents (most : Limits) (g : Graph) (list : List ℕ) (used : List Bool) (done : List (List Leg)) (walk : List Leg) (row : ℕ) (state : State) : Type 0 where
+  pub used-length : length used ≡ most .edges
+  pub marked : Used most used done walk
+  pub holds : Holds most g list done walk row (state .degree) (state .left) (state .steps) (state .run) (state .low) (state .high)
 
 -- The parts of a row's test.
 
@@ -138,80 +141,80 @@ FitsLinks marks list run from to =
     ((3 ≤ getD marks (run .start) 0) ⊎ (3 ≤ getD marks (run .at) 0)) ⊎ (Joined marks list (from - 1) (to - 1) → ⊥)
 
 -- the rows below n can be read, and their vertices have marks
-pub record RowsFit (marks list : List ℕ) (n : ℕ) : Type 0 where
+pub record RowsFit (most : Limits) (marks list : List ℕ) (n : ℕ) : Type 0 where
   pub rows : 3 * n ≤ length list
   pub from : (k : ℕ) → k < n → fromAt list k < length marks
-  pub most : n ≤ 4000
+  pub within : n ≤ most .edges
 
 -- what the test for links reads: where an end is no branch, its link mark tells a row
-pub record Reads (marks list : List ℕ) (run : Run) (from to : ℕ) : Type 0 where
+pub record Reads (most : Limits) (marks list : List ℕ) (run : Run) (from to : ℕ) : Type 0 where
   pub start : run .start < length marks
   pub at : run .at < length marks
-  pub start-row : getD marks (run .start) 0 < 3 → (1 ≤ from) × RowsFit marks list from
-  pub at-row : getD marks (run .at) 0 < 3 → (1 ≤ to) × RowsFit marks list to
+  pub start-row : getD marks (run .start) 0 < 3 → (1 ≤ from) × RowsFit most marks list from
+  pub at-row : getD marks (run .at) 0 < 3 → (1 ≤ to) × RowsFit most marks list to
 
 -- a step that is whole, and what is said of it
-pub record Whole (marks list : List ℕ) (steps : ℕ) (run : Run) (low high from to : ℕ) : Type 0 where
+pub record Whole (most : Limits) (marks list : List ℕ) (steps : ℕ) (run : Run) (low high from to : ℕ) : Type 0 where
   pub g : Graph
-  pub bound : g .bound ≤ 1000
+  pub bound : g .bound ≤ most .vertices
   pub done : List (List Leg)
   pub walk : List Leg
   pub row : ℕ
   pub left : List ℕ
   pub read : 3 * row ≤ length list
-  pub most : row ≤ 4000
+  pub within : row ≤ most .edges
   pub begun : run .first < row
-  pub holds : Holds g list done walk row marks left steps run low high
+  pub holds : Holds most g list done walk row marks left steps run low high
   pub start-mark : from ≡ getD left (run .start) 0
   pub at-mark : to ≡ getD left (run .at) 0
 
-abbrev pub StepTold : List ℕ → List ℕ → ℕ → Run → ℕ → ℕ → ℕ → ℕ → ℕ → Type 0
-StepTold marks list steps run low high from to r =
-    (w : Whole marks list steps run low high from to) → r ≡ stepNumber (w .g) (w .done) (w .walk)
+abbrev pub StepTold : Limits → List ℕ → List ℕ → ℕ → Run → ℕ → ℕ → ℕ → ℕ → ℕ → Type 0
+StepTold most marks list steps run low high from to r =
+    (w : Whole most marks list steps run low high from to) → r ≡ stepNumber (w .g) (w .done) (w .walk)
 
 -- Edges that count as built: an edge adds one to the mark of each of its ends.
 
-pub record EdgeReady (marks ends : List ℕ) (e most : ℕ) : Type 0 where
-  pub long : length marks ≡ 1000
+pub record EdgeReady (most : Limits) (marks ends : List ℕ) (e : ℕ) : Type 0 where
+  pub long : length marks ≡ most .vertices
   pub edge : e < length ends / 2
   pub left : getD ends (2 * e) 0 < length marks
   pub right : getD ends (2 * e + 1) 0 < length marks
   pub different : getD ends (2 * e) 0 ≡ getD ends (2 * e + 1) 0 → ⊥
-  pub few : (v : ℕ) → getD marks v 0 ≤ most
+  pub few : (v : ℕ) → getD marks v 0 ≤ most .edges
 
 pub record EdgeAdded (marks after ends : List ℕ) (e : ℕ) : Type 0 where
   pub length-same : length after ≡ length marks
   pub more : (v : ℕ) → getD after v 0 ≡ cond (eqb (getD ends (2 * e) 0) v || eqb (getD ends (2 * e + 1) 0) v) 1 0 + getD marks v 0
 
-pub record RowsReady (marks ends list : List ℕ) (first end : ℕ) : Type 0 where
-  pub long : length marks ≡ 1000
+pub record RowsReady (most : Limits) (marks ends list : List ℕ) (first end : ℕ) : Type 0 where
+  pub long : length marks ≡ most .vertices
   pub order : first ≤ end
   pub read : 3 * end ≤ length list
-  pub most : end ≤ 4000
+  pub within : end ≤ most .edges
   pub edges : (k : ℕ) → k < end → edgeAt list k < length ends / 2
-  pub fit : (e : ℕ) → e < length ends / 2 → EndsFit (length marks) ends e
+  pub fit : (e : ℕ) → e < length ends / 2 → EndsFit (plan (length marks) ends) e
   pub few : (v : ℕ) → getD marks v 0 ≤ first
 
 pub record RowsAdded (marks after ends list : List ℕ) (first end : ℕ) : Type 0 where
   pub length-same : length after ≡ length marks
   pub few : (v : ℕ) → getD after v 0 ≤ end
   pub more : (n s : ℕ) (legs : List Leg) → Lies list s first legs end
-      → (v : ℕ) → getD after v 0 ≡ degree (graphOf n always ends) (edgesOf legs) v + getD marks v 0
+      → (v : ℕ) → getD after v 0 ≡ degree (graph (plan n ends)) (edgesOf legs) v + getD marks v 0
 
 -- One row.
 
-abbrev pub Begins : State → Type 0
-Begins r = (n : ℕ) (ends list : List ℕ) (used : List Bool) → length used ≡ 4000 → ((e : ℕ) → getD used e false ≡ false)
-    → Represents (graphOf n always ends) list used [] [] 0 r
+abbrev pub Begins : Limits → State → Type 0
+Begins most r = (n : ℕ) (ends list : List ℕ) (used : List Bool) → length used ≡ most .edges → ((e : ℕ) → getD used e false ≡ false)
+    → Represents most (graph (plan n ends)) list used [] [] 0 r
 
-pub record Ready (ends : List ℕ) (used : List Bool) (list : List ℕ) (row : ℕ) (state : State) : Type 0 where
+pub record Ready (most : Limits) (ends : List ℕ) (used : List Bool) (list : List ℕ) (row : ℕ) (state : State) : Type 0 where
   pub n : ℕ
-  pub admitted : Admitted limits n ends
+  pub admitted : Admitted most (plan n ends)
   pub listed : length list ≡ 3 * (length ends / 2)
   pub below : row < length ends / 2
   pub done : List (List Leg)
   pub walk : List Leg
-  pub represents : Represents (graphOf n always ends) list used done walk row state
+  pub represents : Represents most (graph (plan n ends)) list used done walk row state
 
 -- what is said of a row: its own rejection, and where it is the last of its step, the step's
 abbrev pub takenNumber : Graph → List (List Leg) → List Leg → Bool → Row → ℕ
@@ -226,14 +229,19 @@ doneThen done walk last r = cond last ((walk ++ (legOf r ∷ [])) ∷ done) done
 abbrev pub walkThen : List Leg → Bool → Row → List Leg
 walkThen walk last r = cond last [] (walk ++ (legOf r ∷ []))
 
-pub record SteppedAt (g : Graph) (list : List ℕ) (after : List Bool) (done : List (List Leg)) (walk : List Leg) (row : ℕ) (last : Bool) (t : State) : Type 0 where
-  pub number : t .number ≡ takenNumber g done walk last (rowAt list row)
-  pub next : t .number ≡ 0
-      → Represents g list after (doneThen done walk last (rowAt list row)) (walkThen walk last (rowAt list row)) (suc row) t
+-- the answer to a row: its number at its place, or success
+abbrev pub rowAnswer : ℕ → ℕ → Answer
+rowAnswer number row = cond (eqb number 0) passed (answer number row)
 
-abbrev pub Stepped : List ℕ → List Bool → List Bool → List ℕ → ℕ → Bool → State → State → Type 0
-Stepped ends used after list row last state t =
-    (r : Ready ends used list row state) → SteppedAt (graphOf (r .n) always ends) list after (r .done) (r .walk) row last t
+-- the answer to the row and the state after it, which is of use where the row has passed
+pub record SteppedAt (most : Limits) (g : Graph) (list : List ℕ) (after : List Bool) (done : List (List Leg)) (walk : List Leg) (row : ℕ) (last : Bool) (t : Taken) : Type 0 where
+  pub answered : t .answer ≡ toldBy (rowAnswer (takenNumber g done walk last (rowAt list row)) row)
+  pub next : t .answer .number ≡ 0
+      → Represents most g list after (doneThen done walk last (rowAt list row)) (walkThen walk last (rowAt list row)) (suc row) (t .state)
+
+abbrev pub Stepped : Limits → List ℕ → List Bool → List Bool → List ℕ → ℕ → Bool → State → Taken → Type 0
+Stepped most ends used after list row last state t =
+    (r : Ready most ends used list row state) → SteppedAt most (graph (plan (r .n) ends)) list after (r .done) (r .walk) row last t
 
 -- 16
 abbrev pub Closed : List ℕ → ℕ → ℕ → Type 0

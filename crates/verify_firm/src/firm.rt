@@ -7,17 +7,17 @@ ghost use mathlib.Core.Path.{_≡_};
 ghost use mathlib.Core.List.{[]};
 ghost use Prim.Native.Nat.{_/_, _*_, _+_, _≤_, _<_};
 ghost use lib.ListN.{length};
-ghost use Rattle.connectivity.specs.Graph.{graphOf, always};
-ghost use Rattle.connectivity.specs.Admission.{Admitted, limits};
+ghost use Rattle.connectivity.specs.Plan.{plan, graph, limits};
+ghost use Rattle.connectivity.specs.Admission.{Admitted};
 ghost use Rattle.connectivity.specs.Judge.{rowsOf, judgeRows, judgeFirm};
 ghost use Rattle.graph.specs.Admission.{toldBy};
-ghost use Rattle.connectivity.specs.Tells.{Tells};
+ghost use Rattle.graph.specs.Tells.{Tells};
 ghost use Rattle.verify_firm.specs.Marks.{Closed, lastAt};
 
 // 9 unless the list has three numbers for each edge; then the rows.
 pub(crate) fn firm_admitted(vertices: u16, ends: &[u16], edges: u16, list: &[u16]) -> Answer
-    requires { ⌜ (edges ≡ length (now ends) / 2) × Admitted limits vertices (now ends) ⌝ }
-    ensures { λ r. ⌜ r ≡ toldBy (judgeFirm (graphOf vertices always (now (ends .entry))) (now (list .entry))) ⌝ }
+    requires { ⌜ (edges ≡ length (now ends) / 2) × Admitted limits (plan vertices (now ends)) ⌝ }
+    ensures { λ r. ⌜ r ≡ toldBy (judgeFirm (graph (plan vertices (now (ends .entry)))) (now (list .entry))) ⌝ }
 {
     if list.len() != 3 * (edges as usize) {
         return answer(9, 0);
@@ -27,19 +27,21 @@ pub(crate) fn firm_admitted(vertices: u16, ends: &[u16], edges: u16, list: &[u16
 
 // The first row's rejection, with its place; or 16; or 0.
 fn judge_rows(vertices: u16, ends: &[u16], edges: u16, list: &[u16]) -> Answer
-    requires { ⌜ (edges ≡ length (now ends) / 2) × Admitted limits vertices (now ends) × (length (now list) ≡ 3 * edges) ⌝ }
-    ensures { λ r. ⌜ r ≡ toldBy (judgeRows (graphOf vertices always (now (ends .entry))) [] [] 0 (rowsOf (now (list .entry)))) ⌝ }
+    requires { ⌜ (edges ≡ length (now ends) / 2) × Admitted limits (plan vertices (now ends)) × (length (now list) ≡ 3 * edges) ⌝ }
+    ensures { λ r. ⌜ r ≡ toldBy (judgeRows (graph (plan vertices (now (ends .entry)))) [] [] 0 (rowsOf (now (list .entry)))) ⌝ }
 {
     let mut used = [false; Graph::MAX_EDGES];
     let mut state = State::new();
     let mut row: u16 = 0;
     while row < edges {
         let last = is_last(list, row, edges);
-        state = state.step(ends, &mut used, list, row, last);
-        let number = state.number;
+        let taken = state.step(ends, &mut used, list, row, last);
+        let found = taken.answer;
+        let number = found.number;
         if number != 0 {
-            return answer(number, row);
+            return found;
         }
+        state = taken.state;
         row += 1;
     }
     let steps = state.steps;

@@ -3,8 +3,7 @@ use graph::Admission;
 use graph::Answer;
 use graph::Graph;
 ghost use mathlib.Core.Path.{_≡_};
-ghost use Rattle.connectivity.specs.Graph.{always};
-ghost use Rattle.connectivity.specs.Admission.{limits};
+ghost use Rattle.connectivity.specs.Plan.{plan, graph, limits};
 ghost use Rattle.connectivity.specs.Judge.{judge};
 ghost use Rattle.graph.specs.Admission.{toldBy};
 
@@ -14,7 +13,7 @@ mod firm; // firm.rt: the rows in turn
 // A verdict of kind 0 with the numbers `list` about a plan: 0 and 0 if it passes, else the plan's own 1 to 5 or the first of 9 to 16 in
 // 01's order. It only reads.
 pub fn check_firm(vertices: u16, ends: &[u16], list: &[u16]) -> Answer
-    ensures { λ r. ⌜ r ≡ toldBy (judge limits vertices always (now (ends .entry)) 0 (now (list .entry))) ⌝ }
+    ensures { λ r. ⌜ r ≡ toldBy (judge limits (plan vertices (now (ends .entry))) 0 (now (list .entry))) ⌝ }
 {
     let made = Graph::new(vertices, ends);
     match made {

@@ -1,11 +1,13 @@
 // The build state: what the rows of a firm verdict leave to be known, and the step that takes up one row.
+use graph::Answer;
 use graph::Graph;
 ghost use mathlib.Core.Path.{_≡_};
 ghost use mathlib.Core.Bool.{true, cond, _||_};
 ghost use Prim.Native.Nat.{_/_, _*_, _+_, _≤_, _<_};
 ghost use lib.Dec.{eqb};
 ghost use lib.ListN.{length, getD};
-ghost use Rattle.connectivity.specs.Tells.{Tells};
+ghost use Rattle.connectivity.specs.Plan.{limits};
+ghost use Rattle.graph.specs.Tells.{Tells};
 ghost use Rattle.verify_firm.specs.Marks.{rowMark, StaysFresh, WentOn, Opens, Parallels, FitsEar, Joined, FitsLinks, StepTold, Whole, Reads, RowsFit, EdgeReady, EdgeAdded, RowsReady, RowsAdded, Begins, Ready, Stepped};
 
 // The step that runs: its first row, where it began, where it has come to. It is fresh while it has left no vertex twice and its inner
@@ -18,29 +20,33 @@ pub(crate) struct Run {
 }
 
 // A mark for each vertex: `degree` counts its edges in whole steps; `left` is 0, or one more than the row that leaves it as an inner
-// vertex, from which its link is found. `low` and `high` are the ends of the latest whole step, `number` rejects the latest row, or is 0.
+// vertex, from which its link is found. `low` and `high` are the ends of the latest whole step.
 pub(crate) struct State {
-    pub degree: [u16; Graph::MAX_VERTICES as usize],
-    pub left: [u16; Graph::MAX_VERTICES as usize],
+    pub degree: [u16; Graph::MAX_VERTICES],
+    pub left: [u16; Graph::MAX_VERTICES],
     pub steps: u16,
     pub run: Run,
     pub low: u16,
     pub high: u16,
-    pub number: u16,
+}
+
+// A row taken up: the state, and the answer to the row, which is 0 and 0 or rejects it.
+pub(crate) struct Taken {
+    pub state: State,
+    pub answer: Answer,
 }
 
 impl State {
     pub(crate) fn new() -> State
-        ensures { λ r. ⌜ Begins r ⌝ }
+        ensures { λ r. ⌜ Begins limits r ⌝ }
     {
         State {
-            degree: [0u16; Graph::MAX_VERTICES as usize],
-            left: [0u16; Graph::MAX_VERTICES as usize],
+            degree: [0u16; Graph::MAX_VERTICES],
+            left: [0u16; Graph::MAX_VERTICES],
             steps: 0,
             run: begins(0),
             low: 0,
             high: 0,
-            number: 0,
         }
     }
 
@@ -52,9 +58,9 @@ impl State {
         list: &[u16],
         row: u16,
         last: bool,
-    ) -> State
-        requires { ⌜ Ready (now ends) (now used) (now list) row self ⌝ }
-        ensures { λ r. ⌜ Stepped (now (ends .entry)) (now (used .entry)) (now (used .exit)) (now (list .entry)) row last self r ⌝ }
+    ) -> Taken
+        requires { ⌜ Ready limits (now ends) (now used) (now list) row self ⌝ }
+        ensures { λ r. ⌜ Stepped limits (now (ends .entry)) (now (used .entry)) (now (used .exit)) (now (list .entry)) row last self r ⌝ }
     {
         let k = 3 * (row as usize);
         let e = list[k + 1];
@@ -62,9 +68,8 @@ impl State {
         let steps = self.steps;
         let run = self.run;
         let number = row_number(ends, used, list[k], e, v, steps, row, run);
-        self.number = number;
         if number != 0 {
-            return self;
+            return rejected(self, number, row);
         }
         used[e as usize] = true;
         let to = far(ends, e, v);
@@ -72,16 +77,15 @@ impl State {
         let on = go_on(run, row, v, to, built, &mut self.left);
         self.run = on;
         if !last {
-            return self;
+            return passed(self);
         }
         let low = self.low;
         let high = self.high;
         let from = self.left[on.start as usize];
         let came = self.left[on.at as usize];
         let found = step_number(&self.degree, list, steps, on, low, high, from, came);
-        self.number = found;
         if found != 0 {
-            return self;
+            return rejected(self, found, row);
         }
         let first = on.first;
         add_rows(&mut self.degree, ends, list, first, row + 1);
@@ -89,7 +93,31 @@ impl State {
         self.low = on.start;
         self.high = on.at;
         self.run = begins(row + 1);
-        self
+        passed(self)
+    }
+}
+
+fn rejected(state: State, number: u16, row: u16) -> Taken
+    ensures { λ r. ⌜ r ≡ record { state = state; answer = record { number = number; place = row } } ⌝ }
+{
+    Taken {
+        state: state,
+        answer: Answer {
+            number: number,
+            place: row,
+        },
+    }
+}
+
+fn passed(state: State) -> Taken
+    ensures { λ r. ⌜ r ≡ record { state = state; answer = record { number = 0; place = 0 } } ⌝ }
+{
+    Taken {
+        state: state,
+        answer: Answer {
+            number: 0,
+            place: 0,
+        },
     }
 }
 
@@ -116,7 +144,7 @@ fn row_number(
     row: u16,
     run: Run,
 ) -> u16
-    requires { ⌜ (length (now ends) / 2 ≤ 4000) × (length (now used) ≡ 4000) ⌝ }
+    requires { ⌜ (length (now ends) / 2 ≤ limits .edges) × (length (now used) ≡ limits .edges) ⌝ }
     ensures { λ r. ⌜ r ≡ rowMark (now (ends .entry)) (now (used .entry)) steps row run (record { step = s; edge = e; from = v }) ⌝ }
 {
     if s != steps {
@@ -172,9 +200,9 @@ fn go_on(
     v: u16,
     to: u16,
     built: u16,
-    left: &mut [u16; Graph::MAX_VERTICES as usize],
+    left: &mut [u16; Graph::MAX_VERTICES],
 ) -> Run
-    requires { ⌜ (v < 1000) × (row < 4000) ⌝ }
+    requires { ⌜ (v < limits .vertices) × (row < limits .edges) ⌝ }
     ensures { λ r. ⌜ WentOn (now (left .entry)) run row v to built (now (left .exit)) r ⌝ }
 {
     let first = run.first;
@@ -227,8 +255,8 @@ fn step_number(
     from: u16,
     to: u16,
 ) -> u16
-    requires { ⌜ Whole (now degree) (now list) steps run low high from to ⌝ }
-    ensures { λ r. ⌜ StepTold (now (degree .entry)) (now (list .entry)) steps run low high from to r ⌝ }
+    requires { ⌜ Whole limits (now degree) (now list) steps run low high from to ⌝ }
+    ensures { λ r. ⌜ StepTold limits (now (degree .entry)) (now (list .entry)) steps run low high from to r ⌝ }
 {
     if steps == 0 {
         if opens(run, to) {
@@ -317,7 +345,7 @@ fn fits_ear(degree: &[u16], run: Run) -> bool
 
 // 15: an end is a branch, or the ends lie inside different links.
 fn fits_links(degree: &[u16], list: &[u16], run: Run, from: u16, to: u16) -> bool
-    requires { ⌜ Reads (now degree) (now list) run from to ⌝ }
+    requires { ⌜ Reads limits (now degree) (now list) run from to ⌝ }
     ensures { λ r. ⌜ Tells r (FitsLinks (now (degree .entry)) (now (list .entry)) run from to) ⌝ }
 {
     let start = run.start;
@@ -336,7 +364,7 @@ fn fits_links(degree: &[u16], list: &[u16], run: Run, from: u16, to: u16) -> boo
 
 // The rows `i` and `j` are of different steps, or a branch stands there or between.
 fn apart(degree: &[u16], list: &[u16], i: u16, j: u16) -> bool
-    requires { ⌜ (i ≤ j) × RowsFit (now degree) (now list) (j + 1) ⌝ }
+    requires { ⌜ (i ≤ j) × RowsFit limits (now degree) (now list) (j + 1) ⌝ }
     ensures { λ r. ⌜ Tells r (Joined (now (degree .entry)) (now (list .entry)) i j → ⊥) ⌝ }
 {
     if list[3 * (i as usize)] != list[3 * (j as usize)] {
@@ -355,13 +383,13 @@ fn apart(degree: &[u16], list: &[u16], i: u16, j: u16) -> bool
 
 // The edges of the rows from `first` on and below `end` count as built.
 fn add_rows(
-    degree: &mut [u16; Graph::MAX_VERTICES as usize],
+    degree: &mut [u16; Graph::MAX_VERTICES],
     ends: &[u16],
     list: &[u16],
     first: u16,
     end: u16,
 )
-    requires { ⌜ RowsReady (now degree) (now ends) (now list) first end ⌝ }
+    requires { ⌜ RowsReady limits (now degree) (now ends) (now list) first end ⌝ }
     ensures { λ _. ⌜ RowsAdded (now (degree .entry)) (now (degree .exit)) (now (ends .entry)) (now (list .entry)) first end ⌝ }
 {
     let mut k = first as usize;
@@ -371,8 +399,8 @@ fn add_rows(
     }
 }
 
-fn add_edge(degree: &mut [u16; Graph::MAX_VERTICES as usize], ends: &[u16], e: u16)
-    requires { ⌜ EdgeReady (now degree) (now ends) e 4000 ⌝ }
+fn add_edge(degree: &mut [u16; Graph::MAX_VERTICES], ends: &[u16], e: u16)
+    requires { ⌜ EdgeReady limits (now degree) (now ends) e ⌝ }
     ensures { λ _. ⌜ EdgeAdded (now (degree .entry)) (now (degree .exit)) (now (ends .entry)) e ⌝ }
 {
     let k = 2 * (e as usize);

@@ -10,13 +10,14 @@ use lib.Dec.{eqb, ltb, leb}
 use lib.ListN.{length, take, drop, length-drop}
 use lib.Seq.{take-take, take-all, length-take-le}
 use borrow.Author.Tests.{ltb-false, leb-true}
-use Rattle.connectivity.specs.Admission.{Limits, limits, answer}
-use Rattle.text.specs.Column.{five, largest, lineSize, same, lineFits, numbers, linesFit, linesNumbers}
-use Rattle.text.specs.Plan.{Reading, headerFirst, headerSecond, behindHeader, readEnds, readPlan}
-use Rattle.text.specs.Verdict.{perLine, linesOf, needed, countFits, listRead, readVerdict}
+use Rattle.connectivity.specs.Plan.{Limits}
+use Rattle.connectivity.specs.Admission.{answer}
+use Rattle.text.specs.Column.{lineSize, same, lineFits, numbers, linesFit, linesNumbers}
+use Rattle.text.specs.Plan.{PlanReading, headerFirst, headerSecond, behindHeader, readEnds, readPlan}
+use Rattle.text.specs.Verdict.{VerdictReading, perLine, linesOf, needed, countFits, listRead, readVerdict}
 use Rattle.text.proofs.Laws.{and-true, line-copied, numbers-copied}
 use Rattle.text.proofs.Writing.{per-line-most}
-use Rattle.verify_texts.specs.Texts.{planIn, verdictIn, judgeTextsBy, judgeTexts}
+use Rattle.verify_texts.specs.Texts.{planIn, verdictIn, judgeTexts}
 
 and-no : (t : Bool) → (t && false) ≡ false
 and-no true = refl
@@ -73,10 +74,10 @@ module _ (ws : List ℕ) (most : ℕ) (limits : Limits) (text : List ℕ) (k : �
       m : ℕ
       m = headerSecond ws text
 
-      body : List ℕ → Bool → Bool → Bool → Reading
+      body : List ℕ → Bool → Bool → Bool → PlanReading
       body rest a b c =
-          cond a (cond b (Reading.refused (answer 2 0)) (cond c (Reading.refused (answer 3 0)) (cond (ltb (2 * m) (2 * m)) (Reading.refused (answer 6 0))
-          (cond (linesFit ws most 2 m rest) (readEnds n (linesNumbers ws 2 m rest)) (Reading.refused (answer 7 0)))))) (Reading.refused (answer 7 0))
+          cond a (cond b (PlanReading.refused (answer 2 0)) (cond c (PlanReading.refused (answer 3 0)) (cond (ltb (2 * m) (2 * m)) (PlanReading.refused (answer 6 0))
+          (cond (linesFit ws most 2 m rest) (readEnds n (linesNumbers ws 2 m rest)) (PlanReading.refused (answer 7 0)))))) (PlanReading.refused (answer 7 0))
 
       go : (a b c : Bool) → ltb (limits .edges) m ≡ c → body (behindHeader ws front) a b c ≡ body (behindHeader ws text) a b c
       go false b c p = refl
@@ -98,10 +99,10 @@ module _ (ws : List ℕ) (most : ℕ) (limits : Limits) (text : List ℕ) (k : �
       count : ℕ
       count = headerSecond ws text
 
-      body : List ℕ → Bool → Reading
+      body : List ℕ → Bool → VerdictReading
       body rest a =
-          cond a (cond (ltb (needed kind count) (needed kind count)) (Reading.refused (answer 6 0))
-          (cond (linesFit ws most (perLine kind) (linesOf kind count) rest) (Reading.read kind (listRead ws kind count rest)) (Reading.refused (answer 8 0)))) (Reading.refused (answer 8 0))
+          cond a (cond (ltb (needed kind count) (needed kind count)) (VerdictReading.refused (answer 6 0))
+          (cond (linesFit ws most (perLine kind) (linesOf kind count) rest) (VerdictReading.read kind (listRead ws kind count rest)) (VerdictReading.refused (answer 8 0)))) (VerdictReading.refused (answer 8 0))
 
       go : (a : Bool) → (lineFits ws most 2 text && countFits limits kind count) ≡ a → body (behindHeader ws front) a ≡ body (behindHeader ws text) a
       go false p = refl
@@ -126,7 +127,9 @@ module _ (ws : List ℕ) (most : ℕ) (limits : Limits) (text : List ℕ) (k : �
     | no p ↦ verdict-long (omega arith) two more
   ]
 
--- for 01's columns and limits: 44,012 bytes of a plan and 64,012 of a verdict are enough
-pub fronts-judged : (plan verdict : List ℕ) → judgeTexts (take 44012 plan) (take 64012 verdict) ≡ judgeTexts plan verdict
-unfolding judgeTextsBy
-fronts-judged plan verdict = rw (plan-longer five largest limits plan 44012 (omega arith), verdict-longer five largest limits verdict 64012 (omega arith) (omega arith))
+-- so of both texts: what a program reads of each is one byte more than the longest in the form
+pub fronts-judged : (ws : List ℕ) (most : ℕ) (limits : Limits) (plan verdict : List ℕ) (k l : ℕ) → 2 ≤ limits .edges
+    → lineSize ws 2 + limits .edges * lineSize ws 2 < k → lineSize ws 2 + limits .edges * lineSize ws 3 < l
+    → judgeTexts ws most limits (take k plan) (take l verdict) ≡ judgeTexts ws most limits plan verdict
+unfolding judgeTexts
+fronts-judged ws most limits plan verdict k l two p v = rw (plan-longer ws most limits plan k p, verdict-longer ws most limits verdict l two v)

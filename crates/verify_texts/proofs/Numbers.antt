@@ -7,10 +7,11 @@ use native.Mathlib.Omega.{arith}
 use lib.Dec.{eqb, ltb, leb}
 use lib.ListN.{length}
 use Rattle.connectivity.specs.Lists.{all}
-use Rattle.connectivity.specs.Graph.{Graph, graphOf, isEdge, vertices, edges}
+use Rattle.connectivity.specs.Plan.{Plan, graph, Limits}
+use Rattle.connectivity.specs.Graph.{Graph, isEdge, vertices, edges}
 use Rattle.connectivity.specs.Cut.{disconnects}
 use Rattle.connectivity.specs.Walk.{Leg, allEdges, isBranch}
-use Rattle.connectivity.specs.Admission.{Limits, Answer, andThen, edgeNumber, endsAnswer, admission}
+use Rattle.connectivity.specs.Admission.{Answer, andThen, edgeNumber, endsAnswer, admission}
 use Rattle.connectivity.specs.Judge.{Row, rowsOf, legOf, stepFits, edgeFits, fromFits, rowNumber, pathsFit, earFits, linksFit, stepNumber, closingNumber, isLast, judgeRows, ascending, judgeFirm, judgeWeak, judgeGraph, judge}
 use Rattle.connectivity.proofs.Admission.{cond-both}
 
@@ -35,10 +36,11 @@ ends-five n e [] = omega arith
 ends-five n e (a ∷ []) = omega arith
 ends-five n e (a ∷ (b ∷ ends)) = cond-both (λ (x : Answer). x .number ≤ 5) (eqb (edgeNumber n a b) 0) (ends-five n (suc e) ends) (edge-five n a b)
 
-admission-own : (limits : Limits) (n : ℕ) (ends : List ℕ) → Own ((admission limits n ends) .number)
+admission-own : (most : Limits) (p : Plan) → Own ((admission most p) .number)
 unfolding admission
-admission-own limits n ends = cond-both Owned (eqb (length ends % 2) 0)
-    (cond-both Owned (ltb n 2 || ltb (limits .vertices) n) (inl (omega arith)) (cond-both Owned (ltb (limits .edges) (length ends / 2)) (inl (omega arith)) (inl (ends-five n 0 ends))))
+admission-own most p = cond-both Owned (eqb (length (p .ends) % 2) 0)
+    (cond-both Owned (ltb (p .vertices) 2 || ltb (most .vertices) (p .vertices)) (inl (omega arith))
+    (cond-both Owned (ltb (most .edges) (length (p .ends) / 2)) (inl (omega arith)) (inl (ends-five (p .vertices) 0 (p .ends)))))
     (inl (omega arith))
 
 row-own : (g : Graph) (done : List (List Leg)) (walk : List Leg) (r : Row) → Own (rowNumber g done walk r)
@@ -84,6 +86,6 @@ graph-own : (g : Graph) (kind : ℕ) (list : List ℕ) → Owned (judgeGraph g k
 unfolding judgeGraph
 graph-own g kind list = cond-both Owned (eqb kind 0) (firm-own g list) (cond-both Owned (eqb kind 1) (weak-own g list) (inr (omega arith, omega arith)))
 
-pub judge-own : (limits : Limits) (n : ℕ) (kept : ℕ → Bool) (ends : List ℕ) (kind : ℕ) (list : List ℕ) → Own ((judge limits n kept ends kind list) .number)
+pub judge-own : (most : Limits) (p : Plan) (kind : ℕ) (list : List ℕ) → Own ((judge most p kind list) .number)
 unfolding judge
-judge-own limits n kept ends kind list = then-own _ _ (admission-own limits n ends) (graph-own (graphOf n kept ends) kind list)
+judge-own most p kind list = then-own _ _ (admission-own most p) (graph-own (graph p) kind list)

@@ -9,16 +9,16 @@ use native.Mathlib.Omega.{arith}
 use lib.Dec.{eqb, ltb, leb}
 use lib.ListN.{length, getD}
 use borrow.Author.Tests.{eqb-true, eqb-false, ltb-false, leb-true, le-ltb}
-use Rattle.connectivity.specs.Graph.{always}
-use Rattle.connectivity.specs.Admission.{Limits, limits, Answer, answer, passed, Admitted, endsAnswer, admission}
+use Rattle.connectivity.specs.Plan.{Plan, plan, Limits}
+use Rattle.connectivity.specs.Admission.{Answer, answer, passed, Admitted, endsAnswer, admission}
 use Rattle.connectivity.specs.Judge.{judge}
-use Rattle.text.specs.Column.{worths, five, largest, lineFits, linesFit, linesNumbers}
-use Rattle.text.specs.Plan.{Reading, Writing, headerFirst, headerSecond, behindHeader, planText, readEnds, readPlan, writePlan}
-use Rattle.text.specs.Verdict.{perLine, linesOf, needed, countFits, hasText, verdictText, listRead, readVerdict, writeVerdict}
+use Rattle.text.specs.Column.{worths, lineFits, linesFit, linesNumbers}
+use Rattle.text.specs.Plan.{PlanReading, Writing, headerFirst, headerSecond, behindHeader, planText, readEnds, readPlan, writePlan}
+use Rattle.text.specs.Verdict.{VerdictReading, perLine, linesOf, needed, countFits, hasText, verdictText, listRead, readVerdict, writeVerdict}
 use Rattle.connectivity.proofs.Admission.{cond-both, admission-number}
 use Rattle.text.proofs.Laws.{and-true}
 use Rattle.text.proofs.RoundTrip.{plan-is, verdict-is, plan-kept, verdict-kept}
-use Rattle.verify_texts.specs.Texts.{planIn, verdictIn, judgeRead, judgeTextsBy, judgeTexts}
+use Rattle.verify_texts.specs.Texts.{planIn, verdictIn, judgeRead, judgeTexts}
 use Rattle.verify_texts.proofs.Numbers.{Own, ends-five, judge-own}
 
 -- the numbers that a verdict's list has, where its header is in the form
@@ -44,12 +44,12 @@ module _ (ws : List ℕ) (most : ℕ) (limits : Limits) (text : List ℕ) (space
       m : ℕ
       m = headerSecond ws text
 
-      found : Reading
-      found = cond (linesFit ws most 2 m (behindHeader ws text)) (readEnds n (linesNumbers ws 2 m (behindHeader ws text))) (Reading.refused (answer 7 0))
+      found : PlanReading
+      found = cond (linesFit ws most 2 m (behindHeader ws text)) (readEnds n (linesNumbers ws 2 m (behindHeader ws text))) (PlanReading.refused (answer 7 0))
 
-      body : ℕ → Bool → Bool → Bool → Reading
+      body : ℕ → Bool → Bool → Bool → PlanReading
       body s a b c =
-          cond a (cond b (Reading.refused (answer 2 0)) (cond c (Reading.refused (answer 3 0)) (cond (ltb s (2 * m)) (Reading.refused (answer 6 0)) found))) (Reading.refused (answer 7 0))
+          cond a (cond b (PlanReading.refused (answer 2 0)) (cond c (PlanReading.refused (answer 3 0)) (cond (ltb s (2 * m)) (PlanReading.refused (answer 6 0)) found))) (PlanReading.refused (answer 7 0))
 
       go : (a b c : Bool) → ltb (limits .edges) m ≡ c → body space a b c ≡ body (2 * m) a b c
       go false b c p = refl
@@ -67,11 +67,11 @@ module _ (ws : List ℕ) (most : ℕ) (limits : Limits) (text : List ℕ) (space
       count : ℕ
       count = headerSecond ws text
 
-      found : Reading
-      found = cond (linesFit ws most (perLine kind) (linesOf kind count) (behindHeader ws text)) (Reading.read kind (listRead ws kind count (behindHeader ws text))) (Reading.refused (answer 8 0))
+      found : VerdictReading
+      found = cond (linesFit ws most (perLine kind) (linesOf kind count) (behindHeader ws text)) (VerdictReading.read kind (listRead ws kind count (behindHeader ws text))) (VerdictReading.refused (answer 8 0))
 
-      body : ℕ → Bool → Reading
-      body s a = cond a (cond (ltb s (needed kind count)) (Reading.refused (answer 6 0)) found) (Reading.refused (answer 8 0))
+      body : ℕ → Bool → VerdictReading
+      body s a = cond a (cond (ltb s (needed kind count)) (VerdictReading.refused (answer 6 0)) found) (VerdictReading.refused (answer 8 0))
 
       room : (lineFits ws most 2 text && countFits limits kind count) ≡ true → needed kind count ≤ space
       room p = ⊎-elim (λ q. omega arith) (λ q. omega arith) (needed-most limits kind count (and-true (lineFits ws most 2 text) (countFits limits kind count) p .1))
@@ -88,27 +88,34 @@ own-possible : (k : ℕ) → Own k → Possible k
 own-possible k o = ⊎-elim (λ h. inl h) (λ h. inr (omega (arith, h .0), h .1)) o
 
 -- a refusal of a text is one of them, and not 0
-abbrev Proper : Reading → Type 0
-Proper (Reading.refused a) = (a .number ≡ 0 → ⊥) × Possible (a .number)
-Proper (Reading.read n list) = Unit {0}
+abbrev Refuses : Answer → Type 0
+Refuses a = (a .number ≡ 0 → ⊥) × Possible (a .number)
 
-high : (k : ℕ) → 7 ≤ k → k ≤ 17 → Proper (Reading.refused (answer k 0))
+abbrev PlanProper : PlanReading → Type 0
+PlanProper (PlanReading.refused a) = Refuses a
+PlanProper (PlanReading.read p) = Unit {0}
+
+abbrev Proper : VerdictReading → Type 0
+Proper (VerdictReading.refused a) = Refuses a
+Proper (VerdictReading.read kind list) = Unit {0}
+
+high : (k : ℕ) → 7 ≤ k → k ≤ 17 → Refuses (answer k 0)
 high k p h = (λ z. omega arith, inr (p, h))
 
 -- of a plan text 1 to 5 or 7
-abbrev PlanOwn : Reading → Type 0
-PlanOwn (Reading.refused a) = (1 ≤ a .number) × ((a .number ≤ 5) ⊎ (a .number ≡ 7))
-PlanOwn (Reading.read n list) = Unit {0}
+abbrev PlanOwn : PlanReading → Type 0
+PlanOwn (PlanReading.refused a) = (1 ≤ a .number) × ((a .number ≤ 5) ⊎ (a .number ≡ 7))
+PlanOwn (PlanReading.read p) = Unit {0}
 
-own-proper : (x : Reading) → PlanOwn x → Proper x
-own-proper (Reading.refused a) (p, o) = (λ z. omega (arith, p, z), ⊎-elim (λ h. inl h) (λ h. inr (omega (arith, h), omega (arith, h))) o)
-own-proper (Reading.read n list) u = tt
+own-proper : (x : PlanReading) → PlanOwn x → PlanProper x
+own-proper (PlanReading.refused a) (p, o) = (λ z. omega (arith, p, z), ⊎-elim (λ h. inl h) (λ h. inr (omega (arith, h), omega (arith, h))) o)
+own-proper (PlanReading.read p) u = tt
 
 ends-own : (n : ℕ) (ends : List ℕ) → PlanOwn (readEnds n ends)
 unfolding readEnds
 ends-own n ends = go (eqb ((endsAnswer n 0 ends) .number) 0) refl
   where
-    go : (t : Bool) → eqb ((endsAnswer n 0 ends) .number) 0 ≡ t → PlanOwn (cond t (Reading.read n ends) (Reading.refused (endsAnswer n 0 ends)))
+    go : (t : Bool) → eqb ((endsAnswer n 0 ends) .number) 0 ≡ t → PlanOwn (cond t (PlanReading.read (plan n ends)) (PlanReading.refused (endsAnswer n 0 ends)))
     go true p = tt
     go false p = (omega (arith, eqb-false ((endsAnswer n 0 ends) .number) 0 p), inl (ends-five n 0 ends))
 
@@ -126,10 +133,10 @@ module _ (ws : List ℕ) (most : ℕ) (limits : Limits) where
       (cond-both PlanOwn (linesFit ws most 2 m rest) (ends-own n (linesNumbers ws 2 m rest)) (omega arith, inr refl))))
       (omega arith, inr refl))
 
-  pub plan-number : (text : List ℕ) (a : Answer) → planIn ws most limits text ≡ Reading.refused a → (1 ≤ a .number) × ((a .number ≤ 5) ⊎ (a .number ≡ 7))
+  pub plan-number : (text : List ℕ) (a : Answer) → planIn ws most limits text ≡ PlanReading.refused a → (1 ≤ a .number) × ((a .number ≤ 5) ⊎ (a .number ≡ 7))
   plan-number text a p = subst PlanOwn p (plan-own text)
 
-  plan-proper : (text : List ℕ) → Proper (planIn ws most limits text)
+  plan-proper : (text : List ℕ) → PlanProper (planIn ws most limits text)
   plan-proper text = own-proper (planIn ws most limits text) (plan-own text)
 
   verdict-proper : (text : List ℕ) → Proper (verdictIn ws most limits text)
@@ -142,64 +149,63 @@ module _ (ws : List ℕ) (most : ℕ) (limits : Limits) where
       (cond-both Proper (linesFit ws most (perLine kind) (linesOf kind count) (behindHeader ws text)) tt (high 8 (omega arith) (omega arith)))
       (high 8 (omega arith) (omega arith)))
 
-  read-possible : (x y : Reading) → Proper x → Proper y → Possible ((judgeRead limits x y) .number)
+  read-possible : (x : PlanReading) (y : VerdictReading) → PlanProper x → Proper y → Possible ((judgeRead limits x y) .number)
   unfolding judgeRead
-  read-possible (Reading.refused a) y p q = p .1
-  read-possible (Reading.read n ends) (Reading.refused a) p q = q .1
-  read-possible (Reading.read n ends) (Reading.read kind list) p q = own-possible ((judge limits n always ends kind list) .number) (judge-own limits n always ends kind list)
+  read-possible (PlanReading.refused a) y p q = p .1
+  read-possible (PlanReading.read d) (VerdictReading.refused a) p q = q .1
+  read-possible (PlanReading.read d) (VerdictReading.read kind list) p q = own-possible ((judge limits d kind list) .number) (judge-own limits d kind list)
 
   -- so each answer's number is one of 01's, and never 6
-  pub possible : (plan verdict : List ℕ) → Possible ((judgeTextsBy ws most limits plan verdict) .number)
-  unfolding judgeTextsBy
+  pub possible : (plan verdict : List ℕ) → Possible ((judgeTexts ws most limits plan verdict) .number)
+  unfolding judgeTexts
   possible plan verdict = read-possible (planIn ws most limits plan) (verdictIn ws most limits verdict) (plan-proper plan) (verdict-proper verdict)
 
-  pub never-six : (plan verdict : List ℕ) → (judgeTextsBy ws most limits plan verdict) .number ≡ 6 → ⊥
+  pub never-six : (plan verdict : List ℕ) → (judgeTexts ws most limits plan verdict) .number ≡ 6 → ⊥
   never-six plan verdict z = ⊎-elim (λ h. omega arith) (λ h. omega (arith, h .0)) (possible plan verdict)
 
 -- the texts of a plan and of a verdict that passes
 pub record Passing (ws : List ℕ) (limits : Limits) (plan verdict : List ℕ) : Type 0 where
-  pub vertices : ℕ
-  pub ends : List ℕ
+  pub drawn : Plan
   pub kind : ℕ
   pub list : List ℕ
-  pub plan-is : plan ≡ planText ws vertices ends
+  pub plan-is : plan ≡ planText ws drawn
   pub verdict-is : verdict ≡ verdictText ws kind list
-  pub passes : judge limits vertices always ends kind list ≡ passed
+  pub passes : judge limits drawn kind list ≡ passed
 
 -- 01: only such texts pass
 module _ (ws : List ℕ) (most : ℕ) (limits : Limits) (plan verdict : List ℕ) where
-  read-passing : (x y : Reading) → planIn ws most limits plan ≡ x → verdictIn ws most limits verdict ≡ y → Proper x → Proper y → judgeRead limits x y ≡ passed → Passing ws limits plan verdict
+  read-passing : (x : PlanReading) (y : VerdictReading) → planIn ws most limits plan ≡ x → verdictIn ws most limits verdict ≡ y → PlanProper x → Proper y
+      → judgeRead limits x y ≡ passed → Passing ws limits plan verdict
   unfolding planIn verdictIn judgeRead
-  read-passing (Reading.refused a) y p q proper fine z = absurd (proper .0 (ap (λ (x : Answer). x .number) z))
-  read-passing (Reading.read n ends) (Reading.refused a) p q proper fine z = absurd (fine .0 (ap (λ (x : Answer). x .number) z))
-  read-passing (Reading.read n ends) (Reading.read kind list) p q proper fine z = record {
-    vertices = n;
-    ends = ends;
+  read-passing (PlanReading.refused a) y p q proper fine z = absurd (proper .0 (ap (λ (x : Answer). x .number) z))
+  read-passing (PlanReading.read d) (VerdictReading.refused a) p q proper fine z = absurd (fine .0 (ap (λ (x : Answer). x .number) z))
+  read-passing (PlanReading.read d) (VerdictReading.read kind list) p q proper fine z = record {
+    drawn = d;
     kind = kind;
     list = list;
-    plan-is = plan-is ws most limits plan _ n ends p;
+    plan-is = plan-is ws most limits plan _ d p;
     verdict-is = verdict-is ws most limits verdict _ kind list q;
     passes = z;
   }
 
-  pub passing : judgeTextsBy ws most limits plan verdict ≡ passed → Passing ws limits plan verdict
-  unfolding judgeTextsBy
+  pub passing : judgeTexts ws most limits plan verdict ≡ passed → Passing ws limits plan verdict
+  unfolding judgeTexts
   passing = read-passing (planIn ws most limits plan) (verdictIn ws most limits verdict) refl refl (plan-proper ws most limits plan) (verdict-proper ws most limits verdict)
 
 -- what was written is the text of an admitted plan, or of a verdict with a text form
-plan-written : (ws : List ℕ) (limits : Limits) (n : ℕ) (ends : List ℕ) (room : ℕ) (text : List ℕ) → writePlan ws limits n ends room ≡ Writing.written text
-    → Admitted limits n ends × (text ≡ planText ws n ends)
+plan-written : (ws : List ℕ) (limits : Limits) (p : Plan) (room : ℕ) (text : List ℕ) → writePlan ws limits p room ≡ Writing.written text
+    → Admitted limits p × (text ≡ planText ws p)
 unfolding writePlan
-plan-written ws limits n ends room text = go (eqb ((admission limits n ends) .number) 0) refl (ltb room (length (planText ws n ends)))
+plan-written ws limits p room text = go (eqb ((admission limits p) .number) 0) refl (ltb room (length (planText ws p)))
   where
-    go : (t : Bool) → eqb ((admission limits n ends) .number) 0 ≡ t → (s : Bool)
-        → cond t (cond s (Writing.refused (answer 6 0)) (Writing.written (planText ws n ends))) (Writing.refused (admission limits n ends)) ≡ Writing.written text
-        → Admitted limits n ends × (text ≡ planText ws n ends)
-    go false p s q = let z : _≡_ {A = ℕ} 0 1 = cc in absurd (omega arith)
-    go true p true q = let z : _≡_ {A = ℕ} 0 1 = cc in absurd (omega arith)
-    go true p false q = (admission-number limits n ends .0 (eqb-true ((admission limits n ends) .number) 0 p), cc)
+    go : (t : Bool) → eqb ((admission limits p) .number) 0 ≡ t → (s : Bool)
+        → cond t (cond s (Writing.refused (answer 6 0)) (Writing.written (planText ws p))) (Writing.refused (admission limits p)) ≡ Writing.written text
+        → Admitted limits p × (text ≡ planText ws p)
+    go false z s q = let z : _≡_ {A = ℕ} 0 1 = cc in absurd (omega arith)
+    go true z true q = let z : _≡_ {A = ℕ} 0 1 = cc in absurd (omega arith)
+    go true z false q = (admission-number limits p .0 (eqb-true ((admission limits p) .number) 0 z), cc)
 
-verdict-written : (ws : List ℕ) (limits : Limits) (kind : ℕ) (list : List ℕ) (room : ℕ) (text : List ℕ) → writeVerdict ws limits kind list room ≡ Writing.written text
+pub verdict-written : (ws : List ℕ) (limits : Limits) (kind : ℕ) (list : List ℕ) (room : ℕ) (text : List ℕ) → writeVerdict ws limits kind list room ≡ Writing.written text
     → (hasText limits kind list ≡ true) × (text ≡ verdictText ws kind list)
 unfolding writeVerdict
 verdict-written ws limits kind list room text = go (hasText limits kind list) refl (ltb room (length (verdictText ws kind list)))
@@ -214,24 +220,17 @@ verdict-written ws limits kind list room text = go (hasText limits kind list) re
 -- 01: what is written of a plan and a verdict is answered as that plan and verdict, in columns of w digits, for every largest value that
 -- has no more digits and all limits that are not above it
 module _ (w most : ℕ) (digits : most < 10 ^ w) (limits : Limits) (vertices : limits .vertices ≤ most) (edges : limits .edges ≤ most) (seven : 7 ≤ most) where
-  pub judge-written : (n : ℕ) (ends : List ℕ) (kind : ℕ) (list plan verdict : List ℕ) (room space : ℕ)
-      → writePlan (worths w) limits n ends room ≡ Writing.written plan → writeVerdict (worths w) limits kind list space ≡ Writing.written verdict → ((i : ℕ) → getD list i 0 ≤ most)
-      → judgeTextsBy (worths w) most limits plan verdict ≡ judge limits n always ends kind list
-  unfolding judgeTextsBy judgeRead
-  judge-written n ends kind list plan verdict room space p q small =
-      let a = plan-written (worths w) limits n ends room plan p in
+  pub judge-written : (p : Plan) (kind : ℕ) (list plan verdict : List ℕ) (room space : ℕ)
+      → writePlan (worths w) limits p room ≡ Writing.written plan → writeVerdict (worths w) limits kind list space ≡ Writing.written verdict → ((i : ℕ) → getD list i 0 ≤ most)
+      → judgeTexts (worths w) most limits plan verdict ≡ judge limits p kind list
+  unfolding judgeTexts judgeRead
+  judge-written p kind list plan verdict room space h q small =
+      let a = plan-written (worths w) limits p room plan h in
       let b = verdict-written (worths w) limits kind list space verdict q in
-      let large = 2 * limits .edges + length ends in
+      let large = 2 * limits .edges + length (p .ends) in
       let long = 3 * limits .edges + length list + 2 in
-      let x : planIn (worths w) most limits plan ≡ Reading.read n ends = sym (plan-space (worths w) most limits plan large (omega arith))
-      ∙ rw (a .1) (plan-kept w most digits limits vertices edges n ends large (a .0) (omega arith)) in
-      let y : verdictIn (worths w) most limits verdict ≡ Reading.read kind list = sym (verdict-space (worths w) most limits verdict long (omega arith) (omega arith))
+      let x : planIn (worths w) most limits plan ≡ PlanReading.read p = sym (plan-space (worths w) most limits plan large (omega arith))
+      ∙ rw (a .1) (plan-kept w most digits limits vertices edges p large (a .0) (omega arith)) in
+      let y : verdictIn (worths w) most limits verdict ≡ VerdictReading.read kind list = sym (verdict-space (worths w) most limits verdict long (omega arith) (omega arith))
       ∙ rw (b .1) (verdict-kept w most digits limits vertices edges seven kind list long (b .0) small (omega arith)) in
       rw (x, y)
-
--- in 01's columns
-pub judge-written-five : (n : ℕ) (ends : List ℕ) (kind : ℕ) (list plan verdict : List ℕ) (room space : ℕ)
-    → writePlan five limits n ends room ≡ Writing.written plan → writeVerdict five limits kind list space ≡ Writing.written verdict → ((i : ℕ) → getD list i 0 ≤ largest)
-    → judgeTexts plan verdict ≡ judge limits n always ends kind list
-unfolding worths
-judge-written-five = judge-written 5 largest (omega arith) limits (omega arith) (omega arith) (omega arith)

@@ -1,30 +1,27 @@
 -- What the check answers to a plan text and a verdict text.
 use mathlib.Core.List.{List}
 use Prim.Native.Nat.{ℕ, _*_}
-use Rattle.connectivity.specs.Graph.{always}
-use Rattle.connectivity.specs.Admission as meaning
+use Rattle.connectivity.specs.Plan.{Limits}
+use Rattle.connectivity.specs.Admission.{Answer}
 use Rattle.connectivity.specs.Judge.{judge}
-use Rattle.text.specs.Column.{five, largest}
-use Rattle.text.specs.Plan.{Reading, headerFirst, headerSecond, readPlan}
-use Rattle.text.specs.Verdict.{needed, readVerdict}
+use Rattle.text.specs.Plan.{PlanReading, headerFirst, headerSecond, readPlan}
+use Rattle.text.specs.Verdict.{VerdictReading, needed, readVerdict}
+
+-- In what follows `ws` are the worths of a column's digits and `most` is the largest value.
 
 -- 01: a text read in stated space: as many numbers as its header asks for, so that 6 is never the answer
-unfoldable pub planIn : List ℕ → ℕ → meaning.Limits → List ℕ → Reading
+unfoldable pub planIn : List ℕ → ℕ → Limits → List ℕ → PlanReading
 planIn ws most limits text = readPlan ws most limits text (2 * headerSecond ws text)
 
-unfoldable pub verdictIn : List ℕ → ℕ → meaning.Limits → List ℕ → Reading
+unfoldable pub verdictIn : List ℕ → ℕ → Limits → List ℕ → VerdictReading
 verdictIn ws most limits text = readVerdict ws most limits text (needed (headerFirst ws text) (headerSecond ws text))
 
 -- 01: the plan is read first, and any refusal there is the answer; then the verdict; then both are judged
-unfoldable pub judgeRead : meaning.Limits → Reading → Reading → meaning.Answer
-judgeRead limits (Reading.refused a) verdict = a
-judgeRead limits (Reading.read n ends) (Reading.refused a) = a
-judgeRead limits (Reading.read n ends) (Reading.read kind list) = judge limits n always ends kind list
+unfoldable pub judgeRead : Limits → PlanReading → VerdictReading → Answer
+judgeRead limits (PlanReading.refused a) verdict = a
+judgeRead limits (PlanReading.read p) (VerdictReading.refused a) = a
+judgeRead limits (PlanReading.read p) (VerdictReading.read kind list) = judge limits p kind list
 
--- for a table of worths, a largest value and limits
-unfoldable pub judgeTextsBy : List ℕ → ℕ → meaning.Limits → List ℕ → List ℕ → meaning.Answer
-judgeTextsBy ws most limits plan verdict = judgeRead limits (planIn ws most limits plan) (verdictIn ws most limits verdict)
-
--- for 01's columns, largest value and limits
-abbrev pub judgeTexts : List ℕ → List ℕ → meaning.Answer
-judgeTexts plan verdict = judgeTextsBy five largest meaning.limits plan verdict
+-- 01: the check of a plan text and a verdict text
+unfoldable pub judgeTexts : List ℕ → ℕ → Limits → List ℕ → List ℕ → Answer
+judgeTexts ws most limits plan verdict = judgeRead limits (planIn ws most limits plan) (verdictIn ws most limits verdict)

@@ -4,17 +4,17 @@ use graph::Answer;
 use graph::Graph;
 use text_read::VerdictRead;
 ghost use mathlib.Core.Path.{_≡_};
-ghost use Rattle.connectivity.specs.Admission.{limits};
+ghost use Rattle.connectivity.specs.Plan.{plan, limits};
 ghost use Rattle.graph.specs.Admission.{toldBy};
 ghost use Rattle.text.specs.Column.{five, largest};
-ghost use Rattle.text.specs.Plan.{Reading};
+ghost use Rattle.text.specs.Plan.{PlanReading};
 ghost use Rattle.verify_texts.specs.Texts.{verdictIn, judgeRead, judgeTexts};
 
 pub mod board; // board.rt: the check for C, as a board's firmware calls it
 
 // The plan is read first, and any refusal there is the answer.
 pub fn check_texts(plan: &[u8], verdict: &[u8]) -> Answer
-    ensures { λ r. ⌜ r ≡ toldBy (judgeTexts (now (plan .entry)) (now (verdict .entry))) ⌝ }
+    ensures { λ r. ⌜ r ≡ toldBy (judgeTexts five largest limits (now (plan .entry)) (now (verdict .entry))) ⌝ }
 {
     let mut ends = [0u16; 2 * Graph::MAX_EDGES];
     let read = text_read::read_plan(plan, &mut ends);
@@ -29,7 +29,7 @@ pub fn check_texts(plan: &[u8], verdict: &[u8]) -> Answer
 
 // Then the verdict, about a plan that has been read.
 fn check_verdict(vertices: u16, ends: &[u16], verdict: &[u8]) -> Answer
-    ensures { λ r. ⌜ r ≡ toldBy (judgeRead limits (Reading.read vertices (now (ends .entry))) (verdictIn five largest limits (now (verdict .entry)))) ⌝ }
+    ensures { λ r. ⌜ r ≡ toldBy (judgeRead limits (PlanReading.read (plan vertices (now (ends .entry)))) (verdictIn five largest limits (now (verdict .entry)))) ⌝ }
 {
     let mut list = [0u16; 3 * Graph::MAX_EDGES];
     let read = text_read::read_verdict(verdict, &mut list);

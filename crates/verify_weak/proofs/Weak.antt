@@ -8,9 +8,10 @@ use lib.Dec.{ltb, leb}
 use lib.ListN.{length, getD, drop}
 use lib.Seq.{drop-cons, drop-length}
 use borrow.Author.Tests.{lt-ltb, le-ltb, le-leb, lt-leb}
-use Rattle.connectivity.specs.Graph.{Graph, graphOf, isEdge}
+use Rattle.connectivity.specs.Plan.{Plan, graph, Limits}
+use Rattle.connectivity.specs.Graph.{Graph, isEdge}
 use Rattle.connectivity.specs.Cut.{disconnects}
-use Rattle.connectivity.specs.Admission.{Limits, answer, passed, andThen, Admitted}
+use Rattle.connectivity.specs.Admission.{answer, passed, andThen, Admitted}
 use Rattle.connectivity.specs.Judge.{ascending, judgeWeak, judgeGraph, judge}
 use Rattle.connectivity.proofs.Admission.{passed-then, failed-then}
 use Rattle.connectivity.proofs.Judge.{judge-admitted}
@@ -65,7 +66,6 @@ module _ (g : Graph) (list : List ℕ) where
     weak-cut t z p = short ∙ passed-then (ascending g 0 0 list) _ z ∙ rw p
 
 -- of kind 1 the weak list is judged
-pub judge-weak : (limits : Limits) (n : ℕ) (kept : ℕ → Bool) (ends list : List ℕ) → Admitted limits n ends
-    → judge limits n kept ends 1 list ≡ judgeWeak (graphOf n kept ends) list
+pub judge-weak : (most : Limits) (p : Plan) (list : List ℕ) → Admitted most p → judge most p 1 list ≡ judgeWeak (graph p) list
 unfolding judgeGraph
-judge-weak limits n kept ends list a = judge-admitted limits n kept ends 1 list a
+judge-weak most p list a = judge-admitted most p 1 list a

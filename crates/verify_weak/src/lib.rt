@@ -2,11 +2,12 @@
 use graph::Admission;
 use graph::Answer;
 use graph::Graph;
+use removal::Split;
 ghost use mathlib.Core.Path.{_≡_};
 ghost use Prim.Native.Nat.{_/_, _≤_};
 ghost use lib.ListN.{length};
-ghost use Rattle.connectivity.specs.Graph.{graphOf, always};
-ghost use Rattle.connectivity.specs.Admission.{Admitted, limits};
+ghost use Rattle.connectivity.specs.Plan.{plan, graph, limits};
+ghost use Rattle.connectivity.specs.Admission.{Admitted};
 ghost use Rattle.connectivity.specs.Judge.{judgeWeak, judge};
 ghost use Rattle.graph.specs.Admission.{toldBy};
 ghost use Rattle.verify_weak.specs.Weak.{InTurn};
@@ -14,7 +15,7 @@ ghost use Rattle.verify_weak.specs.Weak.{InTurn};
 // A verdict of kind 1 with the numbers `list` about a plan: 0 and 0 if it passes, else the plan's own 1 to 5, or 9, 11 or 17. It only
 // reads.
 pub fn check_weak(vertices: u16, ends: &[u16], list: &[u16]) -> Answer
-    ensures { λ r. ⌜ r ≡ toldBy (judge limits vertices always (now (ends .entry)) 1 (now (list .entry))) ⌝ }
+    ensures { λ r. ⌜ r ≡ toldBy (judge limits (plan vertices (now (ends .entry))) 1 (now (list .entry))) ⌝ }
 {
     let made = Graph::new(vertices, ends);
     match made {
@@ -25,8 +26,8 @@ pub fn check_weak(vertices: u16, ends: &[u16], list: &[u16]) -> Answer
 
 // The same of an admitted plan: 9 for more than two edges, 11 in turn, 17 if they do not disconnect.
 fn weak_admitted(vertices: u16, ends: &[u16], edges: u16, list: &[u16]) -> Answer
-    requires { ⌜ (edges ≡ length (now ends) / 2) × Admitted limits vertices (now ends) ⌝ }
-    ensures { λ r. ⌜ r ≡ toldBy (judgeWeak (graphOf vertices always (now (ends .entry))) (now (list .entry))) ⌝ }
+    requires { ⌜ (edges ≡ length (now ends) / 2) × Admitted limits (plan vertices (now ends)) ⌝ }
+    ensures { λ r. ⌜ r ≡ toldBy (judgeWeak (graph (plan vertices (now (ends .entry)))) (now (list .entry))) ⌝ }
 {
     if 2 < list.len() {
         return answer(9, 0);
@@ -36,10 +37,12 @@ fn weak_admitted(vertices: u16, ends: &[u16], edges: u16, list: &[u16]) -> Answe
     if number != 0 {
         return turn;
     }
-    if removal::is_cut(vertices, ends, list) {
-        return answer(0, 0);
+    let split = removal::split_by(vertices, ends, list);
+    match split {
+        Split::Refused(refusal) => refusal,
+        Split::Disconnected => answer(0, 0),
+        Split::Connected => answer(17, 0),
     }
-    answer(17, 0)
 }
 
 fn answer(number: u16, place: u16) -> Answer

@@ -29,7 +29,7 @@ same-length c = search needs
 returns : tie.Need-returns
 returns c =
     let found = c .before .before in
-    answers (found .before .before .before .before .write-record .ensures) (c .said .ensures ∙ ap finding (sym (found .found .given .1)))
+    answers _ (found .before .before .before .before .write-record .ensures) (c .said .ensures ∙ ap finding (sym (found .found .given .1)))
 
 same-length-2 : tie.Need-same-length-2
 same-length-2 c = search needs
@@ -37,7 +37,7 @@ same-length-2 c = search needs
 returns-2 : tie.Need-returns-2
 returns-2 c =
     let found = c .before in
-    answers (found .before .before .before .before .write-record .ensures) (ap finding (sym (found .found2 .given .1)))
+    answers _ (found .before .before .before .before .write-record .ensures) (ap finding (sym (found .found2 .given .1)))
 
 same-length-3 : tie.Need-same-length-3
 same-length-3 c = search needs
@@ -45,7 +45,7 @@ same-length-3 c = search needs
 returns-3 : tie.Need-returns-3
 returns-3 c =
     let told = c .before in
-    answers (told .before .before .before .before .write-record .ensures) (c .said2 .ensures ∙ ap finding (sym (told .enum-told .given .1)))
+    answers _ (told .before .before .before .before .write-record .ensures) (c .said2 .ensures ∙ ap finding (sym (told .enum-told .given .1)))
 
 pub verdict-spec : {M : Type 1} → statement M
 verdict-spec =

@@ -4,9 +4,9 @@ use Prim.Native.Nat.{ℕ, _*_, _≤_}
 use native.Mathlib.Omega.{arith}
 use lib.ListN.{length, take, length-take, length-replicate}
 use borrow.Author.Needs.{needs}
-use Rattle.connectivity.specs.Admission.{limits}
+use Rattle.connectivity.specs.Plan.{plan, limits}
 use Rattle.text.specs.Column.{five, largest}
-use Rattle.text.specs.Plan.{Reading}
+use Rattle.text.specs.Plan.{PlanReading}
 use Rattle.verify_texts.specs.Texts.{planIn}
 use Rattle.verify_texts.proofs.Stored.{plan-stored, plan-told}
 use Rattle.certify_texts.specs.Says.{read}
@@ -17,8 +17,8 @@ use Rattle.certify_texts.proofs.verdict_text.Tie as tie
 -- the front of the table is the plan's ends
 stored : (o : tie.After-read2) → let ends = o .before .before .before .read-plan .last .1 .0 in let graph = o .read2 .given .0 .0 in
     (2 * graph .edges ≤ length ends)
-    × (planIn five largest limits (o .before .before .before .before .before .before .before .args .plan .now) ≡ Reading.read (graph .vertices) (take (2 * graph .edges) ends))
-stored o = plan-stored _ _ _ _ (o .before .before .before .read-plan .ensures) (omega (arith, length-replicate {A = ℕ} 8000 0)) _ (o .read2 .given .1)
+    × (planIn five largest limits (o .before .before .before .before .before .before .before .args .plan .now) ≡ PlanReading.read (plan (graph .vertices) (take (2 * graph .edges) ends)))
+stored o = plan-stored five largest limits _ _ _ _ (o .before .before .before .read-plan .ensures) (omega (arith, length-replicate {A = ℕ} (2 * limits .edges) 0)) _ (o .read2 .given .1)
 
 slice-aggregate-read-plan : tie.Need-slice-aggregate-read-plan
 slice-aggregate-read-plan c = search needs
@@ -48,7 +48,7 @@ slice-aggregate-write-admitted : tie.Need-slice-aggregate-write-admitted
 slice-aggregate-write-admitted c = simp length-take (omega (arith, stored (c .before .before .before) .0))
 
 write-admitted-requires : tie.Need-write-admitted-requires
-write-admitted-requires c κs = planned _ (stored (c .before .before .before .before) .1)
+write-admitted-requires c κs = planned five largest limits _ (stored (c .before .before .before .before) .1)
 
 same-length : tie.Need-same-length
 same-length c = search needs
@@ -56,7 +56,7 @@ same-length c = search needs
 returns : tie.Need-returns
 returns c =
     let o = c .before .before .before .before .before in
-    let (b, q, e) = plan-told _ _ _ _ (o .before .before .before .read-plan .ensures) (omega (arith, length-replicate {A = ℕ} 8000 0)) _ (o .read .given .1) in
+    let (b, q, e) = plan-told five largest limits _ _ _ _ (o .before .before .before .read-plan .ensures) (omega (arith, length-replicate {A = ℕ} (2 * limits .edges) 0)) _ (o .read .given .1) in
     says-refused b q e (c .before .before .write-refusal .ensures)
 
 same-length-2 : tie.Need-same-length-2

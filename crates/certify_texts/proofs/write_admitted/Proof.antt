@@ -5,6 +5,7 @@ use Prim.Native.Nat.{ℕ, _*_, _/_, _≤_}
 use native.Mathlib.Omega.{arith}
 use lib.ListN.{length, take, length-take, length-replicate}
 use borrow.Author.Needs.{needs}
+use Rattle.connectivity.specs.Plan.{plan, limits}
 use Rattle.certify.specs.Answered.{named}
 use Rattle.certify_texts.specs.Says.{SaysOf}
 use Rattle.certify_texts.proofs.Saying.{never-refused, says-weak, says-firm}
@@ -13,8 +14,8 @@ use Rattle.certify_texts.proofs.write_admitted.Tie as tie
 
 -- a weak plan
 said-weak : (o : tie.After-enum-told) → let start = o .before .before .before .before .before .before .before in let cut = o .before .before .before .verdict .result .cut in
-    (cut .count ≤ 2) × SaysOf (start .args .vertices) (start .args .ends .now) 1 (named cut)
-said-weak o = says-weak (o .before .before .before .before .before .before .before .pre) (length-replicate {A = ℕ} 12000 0) (o .before .before .before .verdict .ensures) (o .enum-told .given .1)
+    (cut .count ≤ 2) × SaysOf limits (plan (start .args .vertices) (start .args .ends .now)) 1 (named cut)
+said-weak o = says-weak (o .before .before .before .before .before .before .before .pre) (length-replicate {A = ℕ} (3 * limits .edges) 0) (o .before .before .before .verdict .ensures) (o .enum-told .given .1)
 
 slice-aggregate-verdict : tie.Need-slice-aggregate-verdict
 slice-aggregate-verdict c = search needs
@@ -55,7 +56,7 @@ same-length c = search needs
 returns : tie.Need-returns
 returns c =
     let o = c .before .before .before .before .before in
-    never-refused (o .before .before .before .before .before .before .before .pre) (length-replicate {A = ℕ} 12000 0) (o .before .before .before .verdict .ensures) (o .outcome .given .1)
+    never-refused (o .before .before .before .before .before .before .before .pre) (length-replicate {A = ℕ} (3 * limits .edges) 0) (o .before .before .before .verdict .ensures) (o .outcome .given .1)
 
 same-length-2 : tie.Need-same-length-2
 same-length-2 c = search needs
@@ -71,7 +72,7 @@ returns-3 c =
     let o = c .before .before .before .before .before in record {
       kind = 0;
       list = _;
-      says = says-firm (o .before .before .before .before .before .before .before .pre) (length-replicate {A = ℕ} 12000 0) (o .before .before .before .verdict .ensures) (o .enum-told2 .given .1);
+      says = says-firm (o .before .before .before .before .before .before .before .pre) (length-replicate {A = ℕ} (3 * limits .edges) 0) (o .before .before .before .verdict .ensures) (o .enum-told2 .given .1);
       written = c .before .before .write-verdict .ensures;
     }
 

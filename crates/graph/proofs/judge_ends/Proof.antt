@@ -4,6 +4,7 @@ use Prim.Native.Nat.{ℕ, _+_, _*_, _/_, _-_, _≤_, _<_}
 use native.Mathlib.Omega.{arith}
 use lib.ListN.{length, getD, drop, length-drop}
 use borrow.Author.Needs.{needs}
+use Rattle.connectivity.specs.Plan.{limits}
 use Rattle.connectivity.specs.Admission.{endsAnswer}
 use Rattle.graph.specs.Admission.{toldBy}
 use Rattle.graph.proofs.Laws.{ends-next, ends-stop, ends-over}
@@ -11,7 +12,7 @@ use Rattle.graph.proofs.judge_ends.Statement.{statement}
 use Rattle.graph.proofs.judge_ends.Tie as tie
 
 abbrev Inv-loop : tie.InvT-loop
-Inv-loop vertices ends edges e₀ e = (e ≤ edges) × (edges ≡ length ends / 2) × (edges ≤ 4000) × (endsAnswer vertices 0 ends ≡ endsAnswer vertices e (drop (2 * e) ends))
+Inv-loop vertices ends edges e₀ e = (e ≤ edges) × (edges ≡ length ends / 2) × (edges ≤ limits .edges) × (endsAnswer vertices 0 ends ≡ endsAnswer vertices e (drop (2 * e) ends))
 
 abbrev μ-loop : tie.MeasureT-loop
 μ-loop vertices ends edges e₀ e = edges - e

@@ -1,12 +1,14 @@
 -- `label` meets its contract: the search is refused only where the plan is, and sees every vertex exactly where the graph is connected.
-use mathlib.Core.Path.{refl, ap}
+use mathlib.Core.Path.{ap}
 use native.Mathlib.Omega.{arith}
 use borrow.Author.Needs.{needs}
-use Prim.Native.Nat.{ℕ}
+use Prim.Native.Nat.{ℕ, _-_}
 use lib.ListN.{replicate, length-replicate}
-use Rattle.connectivity.specs.Admission.{Answer, limits, Admitted}
+use Rattle.connectivity.specs.Plan.{plan, limits}
+use Rattle.connectivity.specs.Admission.{Answer, Admitted}
 use Rattle.graph.proofs.Lent.{lent-passed, lent-refused, refused-own}
 use Rattle.search.proofs.From0.{no-goal, not-admitted}
+use Rattle.search.proofs.Outcomes.{by-cases}
 use Rattle.labels.proofs.Spanning.{searched}
 use Rattle.labels.proofs.Answers.{answers-refused}
 use Rattle.labels.proofs.label.Statement.{statement}
@@ -49,23 +51,26 @@ label-seen-requires : tie.Need-label-seen-requires
 label-seen-requires c κs =
     let found = c .before .before .before .before in
     let explore = found .before .before .before .before in
-    let e = rw (found .found2 .given .1) at (explore .explore .ensures) in
+    let e = rw (found .found2 .given .1) at (by-cases _ _ _ _ _ _ _ _ _ (explore .explore .ensures)) in
     let a = lent-passed _ (ap (λ (x : Answer). x .number) (e .0)) in
-    (a, searched 999 4000 a (e .1) (e .2), omega (arith, a .vertices), omega (arith, a .vertices))
+    (a, searched (limits .vertices - 1) (limits .edges) a (e .1) (e .2), omega (arith, a .vertices), omega (arith, a .vertices))
 
 returns : tie.Need-returns
 returns c =
     let explore = c .before .before .before .before .before in
-    let e = rw (c .before .found .given .1) at (explore .explore .ensures) in
+    let e = rw (c .before .found .given .1) at (by-cases _ _ _ _ _ _ _ _ _ (explore .explore .ensures)) in
     let a = explore .before .before .before .before .before .before .before .args in
-    let bad : Admitted limits (a .vertices) (a .ends .now) → ⊥ = not-admitted (replicate 4000 0) (replicate 1000 0) (replicate 1000 0) (length-replicate {A = ℕ} 4000 0) (length-replicate {A = ℕ} 1000 0) (length-replicate {A = ℕ} 1000 0) (e .0 .0) in
+    let bad : Admitted limits (plan (a .vertices) (a .ends .now)) → ⊥ =
+    let edges = length-replicate {A = ℕ} (limits .edges) 0 in
+    let vertices = length-replicate {A = ℕ} (limits .vertices) 0 in
+    not-admitted (replicate (limits .edges) 0) (replicate (limits .vertices) 0) (replicate (limits .vertices) 0) edges vertices vertices (e .0 .0) in
     answers-refused _ _ _ (lent-refused _ bad (refused-own _ bad (e .0)))
 
 returns-2 : tie.Need-returns-2
 returns-2 c =
     let explore = c .before .before .before .before in
-    let e = rw (c .enum-told .given .1) at (explore .explore .ensures) in
-    absurd (no-goal 999 (e .2))
+    let e = rw (c .enum-told .given .1) at (by-cases _ _ _ _ _ _ _ _ _ (explore .explore .ensures)) in
+    absurd (no-goal (limits .vertices - 1) (e .2))
 
 same-length : tie.Need-same-length
 same-length c = search needs

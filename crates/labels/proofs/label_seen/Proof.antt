@@ -7,6 +7,7 @@ use borrow.Author.Needs.{needs}
 use borrow.Author.Tests.{lt-ltb, le-ltb}
 use lib.Dec.{ltb, leb→le}
 use lib.ListN.{length}
+use Rattle.connectivity.specs.Plan.{plan}
 use Rattle.graph.proofs.Lent.{lent-short}
 use Rattle.labels.specs.Answered.{enough}
 use Rattle.labels.proofs.Answers.{answers-refused, answers-disconnected, answers-labelled}
@@ -24,9 +25,11 @@ all-seen c = let a = c .before .before .before .before .before .before .args in 
 returns : tie.Need-returns
 returns c =
     let start = c .before .before .before .before .before in
+    let n = start .args .vertices in
     let ends = start .args .ends .now in
     let labels = start .args .labels .now in
-    answers-refused _ ends labels (lent-short (enough ends labels) (start .pre .0) (λ t. let r = leb→le (length ends / 2) (length labels) t in omega (arith, r, c .if1 .taken)))
+    answers-refused _ ends labels (lent-short (enough (plan n ends) labels) (start .pre .0)
+    (λ t. let r = leb→le (length ends / 2) (length labels) t in omega (arith, r, c .if1 .taken)))
 
 returns-2 : tie.Need-returns-2
 returns-2 c =

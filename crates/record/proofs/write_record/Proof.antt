@@ -19,14 +19,14 @@ judge-admitted-requires : tie.Need-judge-admitted-requires
 judge-admitted-requires c κs =
     let made = c .before .before in
     let new = made .before .before in
-    let p = constructed-admitted _ _ (sym (new .new .ensures) ∙ made .made2 .given .1) in
+    let p = constructed-admitted _ _ (new .new .ensures) (made .made2 .given .1) in
     (p .2, p .0)
 
 returns : tie.Need-returns
 returns c =
     let made = c .before in
     let new = made .before .before in
-    let p = constructed-refused _ _ (sym (new .new .ensures) ∙ made .made .given .1) in
+    let p = constructed-refused _ _ (new .new .ensures) (made .made .given .1) in
     answers-refused _ _ _ (p .0) (p .1) refl
 
 same-length : tie.Need-same-length

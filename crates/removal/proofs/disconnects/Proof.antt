@@ -1,8 +1,8 @@
 -- `disconnects` meets its contract: the search is refused only where the plan is, and meets no goal.
-use mathlib.Core.Path.{refl}
 use native.Mathlib.Omega.{arith}
 use borrow.Author.Needs.{needs}
 use Rattle.graph.proofs.Lent.{lent-refused}
+use Rattle.removal.proofs.Parted.{answers-refused}
 use Rattle.removal.proofs.disconnects.Statement.{statement}
 use Rattle.removal.proofs.disconnects.Tie as tie
 
@@ -34,7 +34,7 @@ returns : tie.Need-returns
 returns c =
     let found = c .before in
     let e = rw (found .found .given .1) at (found .before .before .before .without .ensures) in
-    (lent-refused _ (e .0) (e .1), refl)
+    answers-refused _ _ _ _ (lent-refused _ (e .0) (e .1))
 
 returns-2 : tie.Need-returns-2
 returns-2 c = absurd (rw (c .enum-told .given .1) at (c .before .before .before .without .ensures))

@@ -1,5 +1,5 @@
 -- `tell` meets its contract: 6 where there is too little space, else the marks are copied and the count is compared.
-use mathlib.Core.Path.{_≡_, refl}
+use mathlib.Core.Path.{_≡_}
 use mathlib.Core.List.{List}
 use Prim.Native.Nat.{ℕ}
 use native.Mathlib.Omega.{arith}
@@ -7,16 +7,17 @@ use borrow.Author.Needs.{needs}
 use borrow.Author.Tests.{lt-ltb, le-ltb}
 use lib.ListN.{length}
 use lib.Dec.{leb, leb→le, le→leb}
-use Rattle.connectivity.specs.Admission.{passed, limits, Admitted}
+use Rattle.connectivity.specs.Plan.{plan, limits}
+use Rattle.connectivity.specs.Admission.{passed, Admitted}
 use Rattle.graph.specs.Admission.{lent}
 use Rattle.graph.proofs.Lent.{lent-enough, lent-short}
-use Rattle.removal.proofs.Parted.{parted}
+use Rattle.removal.proofs.Parted.{answers-refused, answers-said}
 use Rattle.removal.proofs.tell.Statement.{statement}
 use Rattle.removal.proofs.tell.Tie as tie
 
 -- there is a place for each vertex
 enough : (c : tie.After-copy) {ends : List ℕ} → let a = c .before .before .before .before .before .args in
-    Admitted limits (a .vertices) ends → lent (a .vertices) ends (leb (a .vertices) (length (a .reached .now))) ≡ passed
+    Admitted limits (plan (a .vertices) ends) → lent limits (plan (a .vertices) ends) (leb (a .vertices) (length (a .reached .now))) ≡ passed
 enough c h =
     let a = c .before .before .before .before .before .args in
     lent-enough (leb (a .vertices) (length (a .reached .now))) h (le→leb (a .vertices) (length (a .reached .now)) (omega arith))
@@ -26,7 +27,7 @@ returns c =
     let start = c .before .before .before in
     let n = start .args .vertices in
     let space = length (start .args .reached .now) in
-    λ ends cut l. (lent-short (leb n space) (l .admitted) (λ t. let r = leb→le n space t in omega arith), refl)
+    λ ends cut l. answers-refused _ _ _ _ (lent-short (leb n space) (l .admitted) (λ t. let r = leb→le n space t in omega arith))
 
 copy-requires : tie.Need-copy-requires
 copy-requires c κs = search needs
@@ -38,7 +39,7 @@ returns-2 : tie.Need-returns-2
 returns-2 c =
     let copy = c .before .before .before in
     let start = copy .before .before .before .before .before in
-    λ ends cut l. (enough copy (l .admitted), rw (lt-ltb (start .args .count) (start .args .vertices) (omega arith)) at (parted l (copy .copy .ensures)))
+    λ ends cut l. answers-said _ _ _ _ (enough copy (l .admitted)) l (copy .copy .ensures) (lt-ltb (start .args .count) (start .args .vertices) (omega arith))
 
 same-length-2 : tie.Need-same-length-2
 same-length-2 c = search needs
@@ -47,7 +48,7 @@ returns-3 : tie.Need-returns-3
 returns-3 c =
     let copy = c .before .before .before in
     let start = copy .before .before .before .before .before in
-    λ ends cut l. (enough copy (l .admitted), rw (le-ltb (start .args .count) (start .args .vertices) (omega arith)) at (parted l (copy .copy .ensures)))
+    λ ends cut l. answers-said _ _ _ _ (enough copy (l .admitted)) l (copy .copy .ensures) (le-ltb (start .args .count) (start .args .vertices) (omega arith))
 
 pub tell-spec : {M : Type 1} → statement M
 tell-spec =

@@ -1,5 +1,6 @@
 -- `without` meets its contract: what the search has seen is what vertex 0 reaches once the cut is removed.
 use borrow.Author.Needs.{needs}
+use Rattle.search.proofs.Outcomes.{by-cases}
 use Rattle.removal.proofs.Parted.{searched}
 use Rattle.removal.proofs.without.Statement.{statement}
 use Rattle.removal.proofs.without.Tie as tie
@@ -34,7 +35,8 @@ returns c =
     let remove = explore .before .before .before .before .before .before in
     let start = remove .before .before .before .before .before in
     let last = explore .explore .last .1 .1 .1 .1 in
-    searched (start .args .vertices) (start .args .ends .now) (start .args .first .now) (last .0) (last .1 .0) (explore .explore .result) (remove .remove .ensures) (start .pre) (explore .explore .ensures)
+    searched (start .args .vertices) (start .args .ends .now) (start .args .first .now) (last .0) (last .1 .0) (explore .explore .result)
+    (remove .remove .ensures) (start .pre) (by-cases _ _ _ _ _ _ _ _ (explore .explore .result) (explore .explore .ensures))
 
 pub without-spec : {M : Type 1} → statement M
 without-spec =

@@ -1,7 +1,8 @@
 -- `explore` meets its contract: a plan that the constructor refuses is refused by its answer, any other is searched.
-use mathlib.Core.Path.{_≡_, refl, sym, _∙_}
+use mathlib.Core.Path.{refl}
 use borrow.Author.Needs.{needs}
 use Rattle.graph.proofs.Lent.{constructed-refused, constructed-admitted, lent-refused}
+use Rattle.search.proofs.Outcomes.{from-cases}
 use Rattle.search.proofs.explore.Statement.{statement}
 use Rattle.search.proofs.explore.Tie as tie
 
@@ -18,15 +19,15 @@ explore-admitted-requires : tie.Need-explore-admitted-requires
 explore-admitted-requires c κs =
     let made = c .before .before .before in
     let new = made .before .before in
-    let p = constructed-admitted _ _ (sym (new .new .ensures) ∙ made .made2 .given .1) in
+    let p = constructed-admitted _ _ (new .new .ensures) (made .made2 .given .1) in
     (p .2, p .0)
 
 returns : tie.Need-returns
 returns c =
     let made = c .before in
     let new = made .before .before in
-    let p = constructed-refused _ _ (sym (new .new .ensures) ∙ made .made .given .1) in
-    let r = lent-refused _ (p .0) (p .1) in (r, refl, refl)
+    let p = constructed-refused _ _ (new .new .ensures) (made .made .given .1) in
+    from-cases _ _ _ _ _ _ _ _ _ (lent-refused _ (p .0) (p .1), refl, refl)
 
 same-length : tie.Need-same-length
 same-length c = search needs

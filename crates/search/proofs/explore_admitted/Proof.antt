@@ -5,7 +5,7 @@ use native.Mathlib.Omega.{arith}
 use borrow.Author.Needs.{needs}
 use lib.ListN.{length}
 use Rattle.search.proofs.Growth.{begun-state, begun-plain, found}
-use Rattle.search.proofs.Outcomes.{fit, enough-room, short-room}
+use Rattle.search.proofs.Outcomes.{fit, enough-room, short-room, from-cases}
 use Rattle.search.proofs.explore_admitted.Statement.{statement}
 use Rattle.search.proofs.explore_admitted.Tie as tie
 
@@ -25,6 +25,7 @@ returns c =
     let start = c .before .before .before .before .before .before .before in
     let a = start .args in
     let short = rw (start .pre .0, c .if1 .taken) at (c .before .is-short .ensures) in
+    from-cases _ _ _ _ _ _ _ _ _
     (short-room (a .vertices) (a .ends .now) (a .roles .now) (a .dead .now) (a .first .now) (a .order .now) (start .pre .1) short, refl, refl)
 
 begin-requires : tie.Need-begin-requires
@@ -60,7 +61,11 @@ returns-2 c =
     let else1 = begin .before .before .before in
     let e = rounds .rounds .ensures in
     let a = at-start else1 .args in
-    (enough-room (a .vertices) (a .ends .now) (a .roles .now) (a .dead .now) (a .first .now) (a .order .now) (at-start else1 .pre .1) (room else1), found (begin .begin .ensures) (e .state) (e .more), e .stopped (c .if2 .taken))
+    from-cases _ _ _ _ _ _ _ _ _ (
+      enough-room (a .vertices) (a .ends .now) (a .roles .now) (a .dead .now) (a .first .now) (a .order .now) (at-start else1 .pre .1) (room else1),
+      found (begin .begin .ensures) (e .state) (e .more),
+      e .stopped (c .if2 .taken),
+    )
 
 same-length-3 : tie.Need-same-length-3
 same-length-3 c =
@@ -79,7 +84,11 @@ returns-3 c =
     let else1 = begin .before .before .before in
     let e = rounds .rounds .ensures in
     let a = at-start else1 .args in
-    (enough-room (a .vertices) (a .ends .now) (a .roles .now) (a .dead .now) (a .first .now) (a .order .now) (at-start else1 .pre .1) (room else1), found (begin .begin .ensures) (e .state) (e .more), e .whole (c .if2 .left))
+    from-cases _ _ _ _ _ _ _ _ _ (
+      enough-room (a .vertices) (a .ends .now) (a .roles .now) (a .dead .now) (a .first .now) (a .order .now) (at-start else1 .pre .1) (room else1),
+      found (begin .begin .ensures) (e .state) (e .more),
+      e .whole (c .if2 .left),
+    )
 
 pub explore-admitted-spec : {M : Type 1} → statement M
 explore-admitted-spec =

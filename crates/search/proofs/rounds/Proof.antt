@@ -3,7 +3,7 @@ use mathlib.Core.Path.{_≡_, sym, _∙_}
 use mathlib.Core.Bool.{true≢false, false≢true}
 use Prim.Native.Nat.{_-_}
 use native.Mathlib.Omega.{arith}
-use Rattle.connectivity.specs.Graph.{graphOf, always}
+use Rattle.connectivity.specs.Plan.{plan, graph}
 use Rattle.search.specs.Search.{Live, Pass, Start, Goal}
 use Rattle.search.proofs.Growth.{Rounds, rounds-start, rounds-step, rounds-end, more-trans, at-most, fit-more}
 use Rattle.search.proofs.Leads.{joins-below}
@@ -15,7 +15,7 @@ use Rattle.search.proofs.sweep.Reads as sweep-reads
 
 abbrev Inv-loop : tie.InvT-loop
 Inv-loop vertices ends edges roles dead starts first₀ order₀ count₀ was₀ first order count was =
-    Rounds (graphOf vertices always ends) (Live dead) (Pass roles) (Start roles) (Goal roles) vertices first₀ order₀ starts first order count was
+    Rounds (graph (plan vertices ends)) (Live dead) (Pass roles) (Start roles) (Goal roles) vertices first₀ order₀ starts first order count was
 
 abbrev μ-loop : tie.MeasureT-loop
 μ-loop vertices ends edges roles dead starts first₀ order₀ count₀ was₀ first order count was = vertices - was

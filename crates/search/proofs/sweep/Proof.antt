@@ -3,7 +3,7 @@ use mathlib.Core.Path.{_≡_, refl}
 use mathlib.Core.Bool.{true≢false, false≢true}
 use Prim.Native.Nat.{ℕ, _-_, _≤_}
 use native.Mathlib.Omega.{arith}
-use Rattle.connectivity.specs.Graph.{graphOf, always}
+use Rattle.connectivity.specs.Plan.{plan, graph}
 use Rattle.search.specs.Search.{Live, Pass, Start, Goal}
 use Rattle.search.specs.Sweep.{More}
 use Rattle.search.proofs.Growth.{noted-below, Sweeping, sweeping-start, sweeping-step, sweeping-met, step-state, step-more, more-trans}
@@ -18,7 +18,7 @@ use Rattle.search.proofs.note.Reads as note-reads
 
 abbrev Inv-loop : tie.InvT-loop
 Inv-loop vertices ends edges roles dead from first₀ order₀ count₀ e₀ first order count e =
-    (e ≤ edges) × Sweeping (graphOf vertices always ends) (Live dead) (Pass roles) (Start roles) (Goal roles) vertices first₀ order₀ from first order count e
+    (e ≤ edges) × Sweeping (graph (plan vertices ends)) (Live dead) (Pass roles) (Start roles) (Goal roles) vertices first₀ order₀ from first order count e
 
 abbrev μ-loop : tie.MeasureT-loop
 μ-loop vertices ends edges roles dead from first₀ order₀ count₀ e₀ first order count e = edges - e

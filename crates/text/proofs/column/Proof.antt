@@ -3,18 +3,18 @@ use mathlib.Core.Path.{_≡_, refl}
 use Prim.Native.Nat.{_-_, _≤_}
 use native.Mathlib.Omega.{arith}
 use native.Mathlib.Numerals.{add-one}
-use lib.ListN.{length, drop, length-set}
+use lib.ListN.{length, drop, length-set, drop-of-length-le}
 use lib.Seq.{sets}
-use Rattle.text.specs.Column.{five, column}
-use Rattle.text.proofs.Laws.{column-next, worth-some, no-worth}
+use Rattle.text.specs.Column.{worths, five, column}
+use Rattle.text.proofs.Laws.{column-next, worth-some}
 use Rattle.text.proofs.column.Statement.{statement}
 use Rattle.text.proofs.column.Tie as tie
 
 abbrev Inv-loop : tie.InvT-loop
-Inv-loop x bytes₀ i₀ bytes i = (i ≤ 5) × (length bytes ≡ 5) × (sets bytes i (column (drop i five) x) ≡ column five x)
+Inv-loop x bytes₀ i₀ bytes i = (i ≤ length five) × (length bytes ≡ length five) × (sets bytes i (column (drop i five) x) ≡ column five x)
 
 abbrev μ-loop : tie.MeasureT-loop
-μ-loop x bytes₀ i₀ bytes i = 5 - i
+μ-loop x bytes₀ i₀ bytes i = length five - i
 
 loop-holds : tie.Need-loop-holds Inv-loop μ-loop
 unfolding column
@@ -27,7 +27,8 @@ array-read-byte-at : tie.Need-array-read-byte-at Inv-loop μ-loop
 array-read-byte-at c = omega arith
 
 byte-at-requires : tie.Need-byte-at-requires Inv-loop μ-loop
-byte-at-requires c κs = worth-some (c .before .loop .i) (omega arith)
+unfolding worths
+byte-at-requires c κs = worth-some (length five) (c .before .loop .i) (omega arith)
 
 array-write-bytes : tie.Need-array-write-bytes Inv-loop μ-loop
 array-write-bytes c = omega arith
@@ -47,7 +48,7 @@ loop-again c =
 
 returns : tie.Need-returns Inv-loop μ-loop
 unfolding column
-returns c = let l = c .before .loop in rw (no-worth (l .i) (omega arith)) at (l .inv .2)
+returns c = let l = c .before .loop in rw (drop-of-length-le five {i = l .i} (omega arith)) at (l .inv .2)
 
 pub column-spec : {M : Type 1} → statement M
 column-spec =

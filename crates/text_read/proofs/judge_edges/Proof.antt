@@ -6,15 +6,17 @@ use native.Mathlib.Omega.{arith}
 use lib.ListN.{length, drop, getD, length-drop}
 use borrow.Author.Needs.{needs}
 use Rattle.text.specs.Column.{five, largest, numbers, linesFit, linesNumbers}
+use Rattle.text.specs.Plan.{behindHeader}
 use Rattle.text.proofs.Laws.{lines-true}
 use Rattle.text_read.proofs.Edges.{edge-next, edge-stop, edges-over}
+use Rattle.connectivity.specs.Plan.{limits}
 use Rattle.connectivity.specs.Admission.{edgeNumber, endsAnswer}
 use Rattle.graph.specs.Admission.{toldBy}
 use Rattle.text_read.proofs.judge_edges.Statement.{statement}
 use Rattle.text_read.proofs.judge_edges.Tie as tie
 
 abbrev Inv-loop : tie.InvT-loop
-Inv-loop text vertices edges next₀ e₀ next e = (e ≤ edges) × (edges ≤ 4000) × (next ≤ length text) × (linesFit five largest 2 (edges - e) (drop next text) ≡ true) × (endsAnswer vertices 0 (linesNumbers five 2 edges (drop 11 text)) ≡ endsAnswer vertices e (linesNumbers five 2 (edges - e) (drop next text)))
+Inv-loop text vertices edges next₀ e₀ next e = (e ≤ edges) × (edges ≤ limits .edges) × (next ≤ length text) × (linesFit five largest 2 (edges - e) (drop next text) ≡ true) × (endsAnswer vertices 0 (linesNumbers five 2 edges (behindHeader five text)) ≡ endsAnswer vertices e (linesNumbers five 2 (edges - e) (drop next text)))
 
 abbrev μ-loop : tie.MeasureT-loop
 μ-loop text vertices edges next₀ e₀ next e = edges - e
@@ -26,7 +28,7 @@ two-numbers-requires : tie.Need-two-numbers-requires Inv-loop μ-loop
 two-numbers-requires c κs =
     let l = c .before in
     let a = l .before .before .args in
-    (l .loop .inv .2, lines-true 2 (a .edges - l .loop .e) (l .loop .next) (a .text .now) (omega arith) largest (l .loop .inv .3) .0)
+    (l .loop .inv .2, lines-true five 2 (a .edges - l .loop .e) (l .loop .next) (a .text .now) (omega arith) largest (l .loop .inv .3) .0)
 
 judge-edge-requires : tie.Need-judge-edge-requires Inv-loop μ-loop
 judge-edge-requires c κs = search needs
@@ -46,7 +48,7 @@ returns : tie.Need-returns Inv-loop μ-loop
 returns c =
     let l = c .before .before .before .before in
     let a = l .before .before .args in
-    let q = l .loop .inv .4 ∙ edge-stop (a .vertices) (l .loop .e) (l .loop .next) (a .edges - l .loop .e) (a .text .now) (omega arith) (λ p. c .if1 .taken (judged (c .before) ∙ p)) in
+    let q = l .loop .inv .4 ∙ edge-stop five (a .vertices) (l .loop .e) (l .loop .next) (a .edges - l .loop .e) (a .text .now) (omega arith) (λ p. c .if1 .taken (judged (c .before) ∙ p)) in
     ap (λ (n : ℕ). record { number = n; place = l .loop .e }) (judged (c .before)) ∙ sym (ap toldBy q)
 
 add-e : tie.Need-add-e Inv-loop μ-loop
@@ -59,21 +61,21 @@ loop-again : tie.Need-loop-again Inv-loop μ-loop
 loop-again c =
     let l = c .before .before .before .before in
     let a = l .before .before .args in
-    let q = lines-true 2 (a .edges - l .loop .e) (l .loop .next) (a .text .now) (omega arith) largest (l .loop .inv .3) in
+    let q = lines-true five 2 (a .edges - l .loop .e) (l .loop .next) (a .text .now) (omega arith) largest (l .loop .inv .3) in
     let p : a .edges - (l .loop .e + 1) ≡ a .edges - l .loop .e - 1 = omega arith in
     let n = c .before .before .two-numbers .ensures .2 in (
       omega arith,
       omega arith,
       omega (arith, length-drop (l .loop .next) (a .text .now), n, q .2),
       rw (p, n) (q .1),
-      rw (p, n) (l .loop .inv .4 ∙ edge-next (a .vertices) (l .loop .e) (l .loop .next) (a .edges - l .loop .e) (a .text .now) (omega arith) (sym (judged (c .before)) ∙ c .if1 .left)),
+      rw (p, n) (l .loop .inv .4 ∙ edge-next five (a .vertices) (l .loop .e) (l .loop .next) (a .edges - l .loop .e) (a .text .now) (omega arith) (sym (judged (c .before)) ∙ c .if1 .left)),
     )
 
 returns-2 : tie.Need-returns-2 Inv-loop μ-loop
 returns-2 c =
     let l = c .before in
     let a = l .before .before .args in
-    sym (ap toldBy (l .loop .inv .4 ∙ edges-over (a .vertices) (l .loop .e) (a .edges - l .loop .e) (drop (l .loop .next) (a .text .now)) (omega arith)))
+    sym (ap toldBy (l .loop .inv .4 ∙ edges-over five (a .vertices) (l .loop .e) (a .edges - l .loop .e) (drop (l .loop .next) (a .text .now)) (omega arith)))
 
 pub judge-edges-spec : {M : Type 1} → statement M
 judge-edges-spec =

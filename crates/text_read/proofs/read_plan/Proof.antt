@@ -1,20 +1,21 @@
 -- `read_plan` meets its contract: each way out cites the law for its tests.
 use mathlib.Core.Path.{_≡_, refl, sym, ap, _∙_}
 use mathlib.Core.Bool.{true}
-use mathlib.Core.List.{List}
-use Prim.Native.Nat.{ℕ}
+use mathlib.Core.List.{List, [], _∷_}
+use Prim.Native.Nat.{ℕ, _/_}
 use native.Mathlib.Omega.{arith}
-use lib.ListN.{length, drop}
+use lib.ListN.{length}
 use borrow.Author.Needs.{needs}
 use borrow.Author.Tests.{not-true, not-false}
-use Prim.Native.Nat.{_/_}
-use Rattle.connectivity.specs.Admission.{limits, endsAnswer}
+use Rattle.connectivity.specs.Plan.{plan, limits}
+use Rattle.connectivity.specs.Admission.{served, endsAnswer}
+use Rattle.graph.specs.Admission.{handed}
 use Rattle.graph.specs.declared.Answer.{Answer}
 use Rattle.graph.specs.declared.Admission.{Admission}
 use Rattle.text.specs.Column.{five, largest, lineFits, linesFit, linesNumbers}
-use Rattle.text.specs.Plan.{Reading}
+use Rattle.text.specs.Plan.{PlanReading, behindHeader}
 use Rattle.text.proofs.Laws.{line-long}
-use Rattle.text.proofs.Reading.{refusal, length-lines-numbers, sets-filled, no-header, too-few, too-many, too-long, no-space, no-lines, misfit, fits}
+use Rattle.text.proofs.Reading.{noPlan, length-lines-numbers, sets-filled, no-header, too-few, too-many, too-long, no-space, no-lines, misfit, fits}
 use Rattle.text_read.proofs.Result.{reads-plan}
 use Rattle.text_read.proofs.read_plan.Statement.{statement}
 use Rattle.text_read.proofs.read_plan.Tie as tie
@@ -31,7 +32,7 @@ form : (c : tie.Else1) → lineFits five largest 2 (txt c) ≡ true
 form c = sym (c .before .line-fits .ensures) ∙ not-false _ (c .if1 .left)
 
 -- the lines are in the form
-good : (c : tie.Else6) → linesFit five largest 2 (c .before .before .before .before .before .before .before .two-numbers .result .second) (drop 11 (txt (c .before .before .before .before .before .before .before .before))) ≡ true
+good : (c : tie.Else6) → linesFit five largest 2 (c .before .before .before .before .before .before .before .two-numbers .result .second) (behindHeader five (txt (c .before .before .before .before .before .before .before .before))) ≡ true
 good c = sym (c .before .lines-fit .ensures) ∙ not-false _ (c .if6 .left)
 
 line-fits-requires : tie.Need-line-fits-requires
@@ -44,8 +45,8 @@ returns : tie.Need-returns
 returns c =
     let s = c .before .before in
     let a = s .before .before .before .args in
-    reads-plan (a .text .now) (a .ends .now) (a .ends .now) (c .refused-plan .result) (refusal 7)
-    (no-header five largest limits (a .text .now) (length (a .ends .now)) (sym (s .line-fits .ensures) ∙ not-true _ (c .before .if1 .taken))) (c .refused-plan .ensures) refl
+    reads-plan (noPlan 7)
+    (no-header five largest limits (a .text .now) (length (a .ends .now)) (sym (s .line-fits .ensures) ∙ not-true _ (c .before .if1 .taken))) (ap handed (c .refused-plan .ensures)) refl
 
 two-numbers-requires : tie.Need-two-numbers-requires
 two-numbers-requires c κs = (omega arith, form c)
@@ -61,8 +62,11 @@ returns-2 c =
     let d = c .before .before in
     let e = d .before .two-numbers in
     let s = d .before .before in
-    reads-plan (txt s) (lent s) (lent s) (c .refused-plan2 .result) (refusal 2)
-    (too-few five largest limits (txt s) (length (lent s)) (e .result .first) (e .result .second) (e .ensures .0) (e .ensures .1) (form s) (omega arith)) (c .refused-plan2 .ensures) refl
+    reads-plan (noPlan 2)
+    (too-few five largest limits (txt s) (length (lent s)) (e .result .first) (e .result .second) (e .ensures .0) (e .ensures .1) (form s) (omega arith)) (ap handed (c .refused-plan2 .ensures)) refl
+
+cast-if3 : tie.Need-cast-if3
+cast-if3 c = search needs
 
 refused-plan-requires-3 : tie.Need-refused-plan-requires-3
 refused-plan-requires-3 c κs = search needs
@@ -72,8 +76,8 @@ returns-3 c =
     let d = c .before .before .before in
     let e = d .before .two-numbers in
     let s = d .before .before in
-    reads-plan (txt s) (lent s) (lent s) (c .refused-plan3 .result) (refusal 2)
-    (too-many five largest limits (txt s) (length (lent s)) (e .result .first) (e .result .second) (e .ensures .0) (e .ensures .1) (form s) (omega arith) (omega arith)) (c .refused-plan3 .ensures) refl
+    reads-plan (noPlan 2)
+    (too-many five largest limits (txt s) (length (lent s)) (e .result .first) (e .result .second) (e .ensures .0) (e .ensures .1) (form s) (omega arith) (omega arith)) (ap handed (c .refused-plan3 .ensures)) refl
 
 refused-plan-requires-4 : tie.Need-refused-plan-requires-4
 refused-plan-requires-4 c κs = search needs
@@ -83,8 +87,8 @@ returns-4 c =
     let d = c .before .before .before .before in
     let e = d .before .two-numbers in
     let s = d .before .before in
-    reads-plan (txt s) (lent s) (lent s) (c .refused-plan4 .result) (refusal 3)
-    (too-long five largest limits (txt s) (length (lent s)) (e .result .first) (e .result .second) (e .ensures .0) (e .ensures .1) (form s) (omega arith) (omega arith) (omega arith)) (c .refused-plan4 .ensures) refl
+    reads-plan (noPlan 3)
+    (too-long five largest limits (txt s) (length (lent s)) (e .result .first) (e .result .second) (e .ensures .0) (e .ensures .1) (form s) (omega arith) (omega arith) (omega arith)) (ap handed (c .refused-plan4 .ensures)) refl
 
 mul-if5 : tie.Need-mul-if5
 mul-if5 c = search needs
@@ -97,8 +101,8 @@ returns-5 c =
     let d = c .before .before .before .before .before in
     let e = d .before .two-numbers in
     let s = d .before .before in
-    reads-plan (txt s) (lent s) (lent s) (c .refused-plan5 .result) (refusal 6)
-    (no-space five largest limits (txt s) (length (lent s)) (e .result .first) (e .result .second) (e .ensures .0) (e .ensures .1) (form s) (omega arith) (omega arith) (omega arith) (omega arith)) (c .refused-plan5 .ensures) refl
+    reads-plan (noPlan 6)
+    (no-space five largest limits (txt s) (length (lent s)) (e .result .first) (e .result .second) (e .ensures .0) (e .ensures .1) (form s) (omega arith) (omega arith) (omega arith) (omega arith)) (ap handed (c .refused-plan5 .ensures)) refl
 
 lines-fit-requires : tie.Need-lines-fit-requires
 lines-fit-requires c κs =
@@ -117,8 +121,8 @@ returns-6 c =
     let d = o .before .before .before .before in
     let e = d .before .two-numbers in
     let s = d .before .before in
-    reads-plan (txt s) (lent s) (lent s) (c .refused-plan6 .result) (refusal 7)
-    (no-lines five largest limits (txt s) (length (lent s)) (e .result .first) (e .result .second) (e .ensures .0) (e .ensures .1) (form s) (omega (arith, o .before .before .before)) (omega (arith, o .before .before)) (omega (arith, o .before)) (omega (arith, o .if5 .left)) (sym (c .before .before .lines-fit .ensures) ∙ not-true _ (c .before .if6 .taken))) (c .refused-plan6 .ensures) refl
+    reads-plan (noPlan 7)
+    (no-lines five largest limits (txt s) (length (lent s)) (e .result .first) (e .result .second) (e .ensures .0) (e .ensures .1) (form s) (omega (arith, o .before .before .before)) (omega (arith, o .before .before)) (omega (arith, o .before)) (omega (arith, o .if5 .left)) (sym (c .before .before .lines-fit .ensures) ∙ not-true _ (c .before .if6 .taken))) (ap handed (c .refused-plan6 .ensures)) refl
 
 judge-edges-requires : tie.Need-judge-edges-requires
 judge-edges-requires c κs =
@@ -135,9 +139,9 @@ returns-7 c =
     let e = d .before .two-numbers in
     let s = d .before .before in
     let j = c .before .judge-edges in
-    let z = endsAnswer (e .result .first) 0 (linesNumbers five 2 (e .result .second) (drop 11 (txt s))) in
-    reads-plan (txt s) (lent s) (lent s) (Admission.Refused (j .result)) (Reading.refused z)
-    (misfit five largest limits (txt s) (length (lent s)) (e .result .first) (e .result .second) (e .ensures .0) (e .ensures .1) (form s) (omega (arith, o .before .before .before)) (omega (arith, o .before .before)) (omega (arith, o .before)) (omega (arith, o .if5 .left)) (good (c .before .before)) (λ q. c .if7 .taken (ap (λ (x : Answer). x .number) (j .ensures) ∙ q))) (ap Admission.Refused (j .ensures)) refl
+    let z = endsAnswer (e .result .first) 0 (linesNumbers five 2 (e .result .second) (behindHeader five (txt s))) in
+    reads-plan (PlanReading.refused z)
+    (misfit five largest limits (txt s) (length (lent s)) (e .result .first) (e .result .second) (e .ensures .0) (e .ensures .1) (form s) (omega (arith, o .before .before .before)) (omega (arith, o .before .before)) (omega (arith, o .before)) (omega (arith, o .if5 .left)) (good (c .before .before)) (λ q. c .if7 .taken (ap (λ (x : Answer). x .number) (j .ensures) ∙ q))) (ap (λ (x : Answer). handed (Admission.Refused x)) (j .ensures)) refl
 
 store-lines-requires : tie.Need-store-lines-requires
 store-lines-requires c κs =
@@ -157,12 +161,12 @@ returns-8 c =
     let e = d .before .two-numbers in
     let s = d .before .before in
     let j = c .before .before .before .before .before .judge-edges in
-    let xs = linesNumbers five 2 (e .result .second) (drop 11 (txt s)) in
-    let n = length-lines-numbers five 2 (e .result .second) (drop 11 (txt s)) in
+    let xs = linesNumbers five 2 (e .result .second) (behindHeader five (txt s)) in
+    let n = length-lines-numbers five 2 (e .result .second) (behindHeader five (txt s)) in
     let half : length xs / 2 ≡ e .result .second = omega arith in
-    reads-plan (txt s) (lent s) (c .before .before .store-lines .last .1 .1 .1 .1 .0) (Admission.Admitted (record { vertices = e .result .first; edges = e .result .second })) (Reading.read (e .result .first) xs)
+    reads-plan (PlanReading.read (plan (e .result .first) xs))
     (fits five largest limits (txt s) (length (lent s)) (e .result .first) (e .result .second) (e .ensures .0) (e .ensures .1) (form s) (omega (arith, o .before .before .before)) (omega (arith, o .before .before)) (omega (arith, o .before)) (omega (arith, o .if5 .left)) (good (c .before .before .before .before .before .before)) (sym (ap (λ (x : Answer). x .number) (j .ensures)) ∙ c .before .before .before .before .if7 .left))
-    (ap (λ (m : ℕ). Admission.Admitted (record { vertices = e .result .first; edges = m })) (sym half))
+    (ap (λ (m : ℕ). served (e .result .first ∷ (m ∷ []))) (sym half))
     (c .before .before .store-lines .ensures ∙ sets-filled (lent s) xs (omega (arith, n, o .if5 .left)))
 
 pub read-plan-spec : {M : Type 1} → statement M
@@ -176,6 +180,7 @@ read-plan-spec =
     cast-edges
     refused-plan-requires-2
     returns-2
+    cast-if3
     refused-plan-requires-3
     returns-3
     refused-plan-requires-4

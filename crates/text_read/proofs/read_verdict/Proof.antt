@@ -4,17 +4,18 @@ use mathlib.Core.Bool.{true}
 use mathlib.Core.List.{List, [], _∷_}
 use Prim.Native.Nat.{ℕ}
 use native.Mathlib.Omega.{arith}
-use lib.ListN.{length, drop, set}
+use lib.ListN.{length}
 use lib.Seq.{sets}
 use borrow.Author.Needs.{needs}
 use borrow.Author.Tests.{not-true, not-false}
-use Rattle.connectivity.specs.Admission.{limits}
-use Rattle.text_read.specs.declared.VerdictRead.{VerdictRead}
+use Rattle.connectivity.specs.Plan.{limits}
+use Rattle.connectivity.specs.Admission.{served}
+use Rattle.text_read.specs.Entry.{handed}
 use Rattle.text.specs.Column.{five, largest, lineFits, linesFit, linesNumbers}
-use Rattle.text.specs.Plan.{Reading}
-use Rattle.text.specs.Verdict.{perLine, linesOf, countFits}
+use Rattle.text.specs.Plan.{behindHeader}
+use Rattle.text.specs.Verdict.{VerdictReading, perLine, linesOf, countFits}
 use Rattle.text.proofs.Laws.{line-long}
-use Rattle.text.proofs.Reading.{refusal, length-lines-numbers, sets-filled, bad-header, bad-count, no-room, bad-lines, verdict-fits, refusal-read, lines-read}
+use Rattle.text.proofs.Reading.{noVerdict, length-lines-numbers, sets-filled, bad-header, bad-count, no-room, bad-lines, verdict-fits, refusal-read, lines-read}
 use Rattle.text.proofs.Writing.{per-line-most}
 use Rattle.text_read.proofs.Result.{reads-verdict}
 use Rattle.text_read.proofs.read_verdict.Statement.{statement}
@@ -35,7 +36,7 @@ counted c = sym (c .before .count-fits .ensures) ∙ not-false _ (c .if2 .left)
 judged : (c : tie.After-lines-fit)
     → let d = c .before .before .before .before .before .before .before in
     let e = d .before .two-numbers in
-    c .lines-fit .result ≡ linesFit five largest (perLine (e .result .first)) (linesOf (e .result .first) (e .result .second)) (drop 11 (txt (d .before .before)))
+    c .lines-fit .result ≡ linesFit five largest (perLine (e .result .first)) (linesOf (e .result .first) (e .result .second)) (behindHeader five (txt (d .before .before)))
 judged c = c .lines-fit .ensures ∙ rw (c .before .before .per-line .ensures, c .before .lines-of .ensures)
 
 line-fits-requires : tie.Need-line-fits-requires
@@ -48,8 +49,8 @@ returns : tie.Need-returns
 returns c =
     let s = c .before .before in
     let a = s .before .before .before .args in
-    reads-verdict (a .text .now) (a .list .now) (a .list .now) (c .refused-verdict .result) (refusal 8)
-    (bad-header five largest limits (a .text .now) (length (a .list .now)) (sym (s .line-fits .ensures) ∙ not-true _ (c .before .if1 .taken))) (c .refused-verdict .ensures) refl
+    reads-verdict (noVerdict 8)
+    (bad-header five largest limits (a .text .now) (length (a .list .now)) (sym (s .line-fits .ensures) ∙ not-true _ (c .before .if1 .taken))) (ap handed (c .refused-verdict .ensures)) refl
 
 two-numbers-requires : tie.Need-two-numbers-requires
 two-numbers-requires c κs = (omega arith, form c)
@@ -68,8 +69,8 @@ returns-2 c =
     let d = c .before .before .before in
     let e = d .before .two-numbers in
     let s = d .before .before in
-    reads-verdict (txt s) (lent s) (lent s) (c .refused-verdict2 .result) (refusal 8)
-    (bad-count five largest limits (txt s) (length (lent s)) (e .result .first) (e .result .second) (e .ensures .0) (e .ensures .1) (form s) (sym (c .before .before .count-fits .ensures) ∙ not-true _ (c .before .if2 .taken))) (c .refused-verdict2 .ensures) refl
+    reads-verdict (noVerdict 8)
+    (bad-count five largest limits (txt s) (length (lent s)) (e .result .first) (e .result .second) (e .ensures .0) (e .ensures .1) (form s) (sym (c .before .before .count-fits .ensures) ∙ not-true _ (c .before .if2 .taken))) (ap handed (c .refused-verdict2 .ensures)) refl
 
 numbers-needed-requires : tie.Need-numbers-needed-requires
 numbers-needed-requires c κs = search needs
@@ -82,8 +83,8 @@ returns-3 c =
     let d = c .before .before .before .before .before in
     let e = d .before .two-numbers in
     let s = d .before .before in
-    reads-verdict (txt s) (lent s) (lent s) (c .refused-verdict3 .result) (refusal 6)
-    (no-room five largest limits (txt s) (length (lent s)) (e .result .first) (e .result .second) (e .ensures .0) (e .ensures .1) (form s) (counted (c .before .before .before)) (omega (arith, c .before .before .numbers-needed .ensures, c .before .if3 .taken))) (c .refused-verdict3 .ensures) refl
+    reads-verdict (noVerdict 6)
+    (no-room five largest limits (txt s) (length (lent s)) (e .result .first) (e .result .second) (e .ensures .0) (e .ensures .1) (form s) (counted (c .before .before .before)) (omega (arith, c .before .before .numbers-needed .ensures, c .before .if3 .taken))) (ap handed (c .refused-verdict3 .ensures)) refl
 
 per-line-requires : tie.Need-per-line-requires
 per-line-requires c κs = search needs
@@ -108,8 +109,8 @@ returns-4 c =
     let d = v .before .before .before .before in
     let e = d .before .two-numbers in
     let s = d .before .before in
-    reads-verdict (txt s) (lent s) (lent s) (c .refused-verdict4 .result) (refusal 8)
-    (bad-lines five largest limits (txt s) (length (lent s)) (e .result .first) (e .result .second) (e .ensures .0) (e .ensures .1) (form s) (counted (v .before .before)) (omega (arith, v .before .numbers-needed .ensures, v .if3 .left)) (sym (judged (c .before .before)) ∙ not-true _ (c .before .if4 .taken))) (c .refused-verdict4 .ensures) refl
+    reads-verdict (noVerdict 8)
+    (bad-lines five largest limits (txt s) (length (lent s)) (e .result .first) (e .result .second) (e .ensures .0) (e .ensures .1) (form s) (counted (v .before .before)) (omega (arith, v .before .numbers-needed .ensures, v .if3 .left)) (sym (judged (c .before .before)) ∙ not-true _ (c .before .if4 .taken))) (ap handed (c .refused-verdict4 .ensures)) refl
 
 slice-write-list : tie.Need-slice-write-list
 slice-write-list c =
@@ -117,7 +118,7 @@ slice-write-list c =
     let d = v .before .before .before .before in
     let e = d .before .two-numbers in
     let s = d .before .before in
-    omega (arith, refusal-read five (e .result .first) (e .result .second) (drop 11 (txt s)) (c .if5 .taken) .1, v .before .numbers-needed .ensures, v .if3 .left)
+    omega (arith, refusal-read five (e .result .first) (e .result .second) (behindHeader five (txt s)) (c .if5 .taken) .1, v .before .numbers-needed .ensures, v .if3 .left)
 
 same-length : tie.Need-same-length
 same-length c = search needs
@@ -128,9 +129,9 @@ returns-5 c =
     let d = v .before .before .before .before in
     let e = d .before .two-numbers in
     let s = d .before .before in
-    let x = refusal-read five (e .result .first) (e .result .second) (drop 11 (txt s)) (c .if5 .taken) in
-    reads-verdict (txt s) (lent s) (set (lent s) 0 (e .result .second)) (VerdictRead.Read (e .result .first) 1) (Reading.read (e .result .first) (e .result .second ∷ []))
-    (verdict-fits five largest limits (txt s) (length (lent s)) (e .result .first) (e .result .second) (e .ensures .0) (e .ensures .1) (form s) (counted (v .before .before)) (omega (arith, v .before .numbers-needed .ensures, v .if3 .left)) (sym (judged (c .before .before)) ∙ not-false _ (c .before .if4 .left)) ∙ ap (Reading.read (e .result .first)) (x .0))
+    let x = refusal-read five (e .result .first) (e .result .second) (behindHeader five (txt s)) (c .if5 .taken) in
+    reads-verdict (VerdictReading.read (e .result .first) (e .result .second ∷ []))
+    (verdict-fits five largest limits (txt s) (length (lent s)) (e .result .first) (e .result .second) (e .ensures .0) (e .ensures .1) (form s) (counted (v .before .before)) (omega (arith, v .before .numbers-needed .ensures, v .if3 .left)) (sym (judged (c .before .before)) ∙ not-false _ (c .before .if4 .left)) ∙ ap (VerdictReading.read (e .result .first)) (x .0))
     refl
     (sets-filled (lent s) (e .result .second ∷ []) (omega (arith, x .1, v .before .numbers-needed .ensures, v .if3 .left)))
 
@@ -140,12 +141,12 @@ store-lines-requires c κs =
     let d = v .before .before .before .before in
     let e = d .before .two-numbers in
     let s = d .before .before in
-    let x = lines-read five (e .result .first) (e .result .second) (drop 11 (txt s)) (c .before .if5 .left) in
+    let x = lines-read five (e .result .first) (e .result .second) (behindHeader five (txt s)) (c .before .if5 .left) in
     let k = c .before .before .before .before .before .per-line .ensures in (
       omega (arith, line-long five largest 2 (txt s) (form s)),
       omega (arith, k, per-line-most (e .result .first)),
       rw k (omega (arith, x .1, v .before .numbers-needed .ensures, v .if3 .left)),
-      rw k (ap (λ (m : ℕ). linesFit five largest (perLine (e .result .first)) m (drop 11 (txt s))) (sym (x .2)) ∙ sym (judged (c .before .before .before)) ∙ not-false _ (c .before .before .if4 .left)),
+      rw k (ap (λ (m : ℕ). linesFit five largest (perLine (e .result .first)) m (behindHeader five (txt s))) (sym (x .2)) ∙ sym (judged (c .before .before .before)) ∙ not-false _ (c .before .before .if4 .left)),
     )
 
 same-length-2 : tie.Need-same-length-2
@@ -158,15 +159,15 @@ returns-6 c =
     let e = d .before .two-numbers in
     let s = d .before .before in
     let o = c .before .before .before .before in
-    let x = lines-read five (e .result .first) (e .result .second) (drop 11 (txt s)) (o .if5 .left) in
+    let x = lines-read five (e .result .first) (e .result .second) (behindHeader five (txt s)) (o .if5 .left) in
     let k = o .before .before .before .before .per-line .ensures in
-    let xs = linesNumbers five (perLine (e .result .first)) (e .result .second) (drop 11 (txt s)) in
-    let n = length-lines-numbers five (perLine (e .result .first)) (e .result .second) (drop 11 (txt s)) in
+    let xs = linesNumbers five (perLine (e .result .first)) (e .result .second) (behindHeader five (txt s)) in
+    let n = length-lines-numbers five (perLine (e .result .first)) (e .result .second) (behindHeader five (txt s)) in
     let size : v .before .numbers-needed .result ≡ length xs = v .before .numbers-needed .ensures ∙ x .1 ∙ sym n in
-    reads-verdict (txt s) (lent s) (c .before .before .store-lines .last .1 .1 .1 .1 .0) (VerdictRead.Read (e .result .first) (v .before .numbers-needed .result)) (Reading.read (e .result .first) xs)
-    (verdict-fits five largest limits (txt s) (length (lent s)) (e .result .first) (e .result .second) (e .ensures .0) (e .ensures .1) (form s) (counted (v .before .before)) (omega (arith, v .before .numbers-needed .ensures, v .if3 .left)) (sym (judged (o .before .before)) ∙ not-false _ (o .before .if4 .left)) ∙ ap (Reading.read (e .result .first)) (x .0))
-    (ap (VerdictRead.Read (e .result .first)) size)
-    (c .before .before .store-lines .ensures ∙ ap (λ (w : ℕ). sets (lent s) 0 (linesNumbers five w (e .result .second) (drop 11 (txt s)))) k
+    reads-verdict (VerdictReading.read (e .result .first) xs)
+    (verdict-fits five largest limits (txt s) (length (lent s)) (e .result .first) (e .result .second) (e .ensures .0) (e .ensures .1) (form s) (counted (v .before .before)) (omega (arith, v .before .numbers-needed .ensures, v .if3 .left)) (sym (judged (o .before .before)) ∙ not-false _ (o .before .if4 .left)) ∙ ap (VerdictReading.read (e .result .first)) (x .0))
+    (ap (λ (m : ℕ). served (e .result .first ∷ (m ∷ []))) size)
+    (c .before .before .store-lines .ensures ∙ ap (λ (w : ℕ). sets (lent s) 0 (linesNumbers five w (e .result .second) (behindHeader five (txt s)))) k
     ∙ sets-filled (lent s) xs (omega (arith, size, v .if3 .left)))
 
 pub read-verdict-spec : {M : Type 1} → statement M

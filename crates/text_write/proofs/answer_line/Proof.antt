@@ -6,17 +6,17 @@ use native.Mathlib.Omega.{arith}
 use lib.ListN.{length, length-replicate, drop-of-length-le}
 use lib.Seq.{sets}
 use borrow.Author.Needs.{needs}
-use Rattle.text.specs.Column.{five, line, lines}
+use Rattle.text.specs.Column.{five, line, lines, lineSize}
 use Rattle.text_write.specs.Entry.{answerText}
 use Rattle.text.proofs.Laws.{length-line}
 use Rattle.text.proofs.Reading.{sets-filled}
 use Rattle.text_write.proofs.answer_line.Statement.{statement}
 use Rattle.text_write.proofs.answer_line.Tie as tie
 
-header-alone : (xs lent list : List ℕ) (k : ℕ) → length lent ≡ length (line five xs) → sets lent 0 (line five xs ++ lines five k 0 list) ≡ line five xs
+header-alone : (ws xs lent list : List ℕ) (k : ℕ) → length lent ≡ length (line ws xs) → sets lent 0 (line ws xs ++ lines ws k 0 list) ≡ line ws xs
 unfolding lines
-header-alone xs lent list k p =
-    let l = line five xs in
+header-alone ws xs lent list k p =
+    let l = line ws xs in
     rw (append-nil l)
     (sets-filled lent l (omega arith) ∙ ap (λ (rest : List ℕ). l ++ rest) (drop-of-length-le lent {i = length l} (omega arith)) ∙ append-nil l)
 
@@ -34,7 +34,7 @@ unfolding answerText
 returns c =
     let answer = c .before .before .before .before .args .answer in
     let pair = answer .number ∷ (answer .place ∷ []) in
-    c .before .write-text .ensures ∙ header-alone pair _ _ 1 (omega (arith, length-replicate {A = ℕ} 11 0, length-line five pair))
+    c .before .write-text .ensures ∙ header-alone five pair _ _ 1 (omega (arith, length-replicate {A = ℕ} (lineSize five 2) 0, length-line five pair))
 
 pub answer-line-spec : {M : Type 1} → statement M
 answer-line-spec =

@@ -3,7 +3,7 @@ use mathlib.Core.Path.{sym, _∙_}
 use native.Mathlib.Omega.{arith}
 use borrow.Author.Needs.{needs}
 use borrow.Author.Tests.{not-true, not-false}
-use Rattle.connectivity.specs.Admission.{limits}
+use Rattle.connectivity.specs.Plan.{limits}
 use Rattle.text.proofs.Writing.{has-text-is, count-small}
 use Rattle.text_write.proofs.has_text.Statement.{statement}
 use Rattle.text_write.proofs.has_text.Tie as tie
@@ -23,7 +23,7 @@ returns c =
 
 cast-numbers-needed : tie.Need-cast-numbers-needed
 cast-numbers-needed c =
-    omega (arith, count-small (c .before .before .before .before .args .kind) (c .before .before .count-of .result) (sym (c .before .count-fits .ensures) ∙ not-false _ (c .if1 .left)))
+    omega (arith, count-small limits (omega arith) (c .before .before .before .before .args .kind) (c .before .before .count-of .result) (sym (c .before .count-fits .ensures) ∙ not-false _ (c .if1 .left)))
 
 numbers-needed-requires : tie.Need-numbers-needed-requires
 numbers-needed-requires c κs = search needs

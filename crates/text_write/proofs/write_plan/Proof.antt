@@ -1,19 +1,22 @@
 -- `write_plan` meets its contract: each way out cites the law for its tests.
-use mathlib.Core.Path.{_≡_, refl, sym, ap, _∙_}
+use mathlib.Core.Path.{_≡_, refl, ap, _∙_}
 use mathlib.Core.List.{[], _∷_, _++_}
 use Prim.Native.Nat.{ℕ, _+_, _*_}
 use native.Mathlib.Omega.{arith}
 use lib.ListN.{length}
 use lib.Seq.{sets}
 use borrow.Author.Needs.{needs}
-use Rattle.connectivity.specs.Admission.{answer, limits, admission}
-use Rattle.graph.proofs.Lent.{constructed-refused}
+use Rattle.connectivity.specs.Plan.{plan, limits}
+use Rattle.connectivity.specs.Admission.{served, answer, admission}
+use Rattle.graph.specs.declared.Answer.{Answer}
+use Rattle.graph.proofs.Lent.{constructed-refused, constructed-admitted}
 use Rattle.text_write.specs.declared.Written.{Written}
-use Rattle.text.specs.Column.{five, line, lines}
+use Rattle.text_write.specs.Entry.{handed}
+use Rattle.text.specs.Column.{five, line, lines, lineSize}
 use Rattle.text.specs.Plan.{Writing, planText}
 use Rattle.text.proofs.Reading.{sets-filled}
-use Rattle.text.proofs.Writing.{plan-refused, plan-even, length-plan, plan-short, plan-written}
-use Rattle.text_write.proofs.Result.{writes-plan, plan-made}
+use Rattle.text.proofs.Writing.{plan-refused, length-plan, plan-short, plan-written}
+use Rattle.text_write.proofs.Result.{writes-plan}
 use Rattle.text_write.proofs.write_plan.Statement.{statement}
 use Rattle.text_write.proofs.write_plan.Tie as tie
 
@@ -43,32 +46,27 @@ returns c =
     let k = c .before .before .before in
     let s = k .before .before .before in
     let a = s .before .before .before .args in
-    let y = k .before .admission2 .given in
-    let p = plan-made (a .vertices) (a .ends .now) (sym (s .new .ensures) ∙ y .1) in
-    let v = plan-even five limits (a .vertices) (a .ends .now) (length (a .text .now)) (p .0) in
-    let n = length-plan five limits (a .vertices) (a .ends .now) (length (a .text .now)) (p .0) in
-    writes-plan (a .vertices) (a .ends .now) (a .text .now) (a .text .now) (c .refused-writing .result) (Writing.refused (answer 6 0))
-    (plan-short five limits (a .vertices) (a .ends .now) (length (a .text .now)) (p .0) (omega arith)) (c .refused-writing .ensures) refl
+    let q = plan (a .vertices) (a .ends .now) in
+    let p = constructed-admitted limits q (s .new .ensures) (k .before .admission2 .given .1) in
+    let n = length-plan five limits q (length (a .text .now)) (p .0) in
+    writes-plan (Writing.refused (answer 6 0)) (plan-short five limits q (length (a .text .now)) (p .0) (omega (arith, n, p .2, c .before .if1 .taken))) (ap handed (c .refused-writing .ensures)) refl
 
 write-text-requires : tie.Need-write-text-requires
 write-text-requires c κs =
     let k = c .before .before .before in
     let s = k .before .before .before in
     let a = s .before .before .before .args in
-    let y = k .before .admission2 .given in
-    let p = plan-made (a .vertices) (a .ends .now) (sym (s .new .ensures) ∙ y .1) in
-    let v = plan-even five limits (a .vertices) (a .ends .now) (length (a .text .now)) (p .0) in
-    let n = length-plan five limits (a .vertices) (a .ends .now) (length (a .text .now)) (p .0) in
-    (omega arith, omega arith, omega (arith, n, p .1, c .before .if1 .left))
+    let q = plan (a .vertices) (a .ends .now) in
+    let p = constructed-admitted limits q (s .new .ensures) (k .before .admission2 .given .1) in
+    (omega arith, omega (arith, p .2, p .0 .even), omega (arith, c .before .if1 .left))
 
 returns-2 : tie.Need-returns-2
 returns-2 c =
     let s = c .before .before .before in
     let a = s .before .before .before .args in
-    let y = c .before .admission .given in
-    let p = constructed-refused (a .vertices) (a .ends .now) (sym (s .new .ensures) ∙ y .1) in
-    writes-plan (a .vertices) (a .ends .now) (a .text .now) (a .text .now) (Written.Refused (y .0 .0)) (Writing.refused (admission limits (a .vertices) (a .ends .now)))
-    (plan-refused five limits (a .vertices) (a .ends .now) (length (a .text .now)) (p .0)) (ap Written.Refused (p .1)) refl
+    let q = plan (a .vertices) (a .ends .now) in
+    let p = constructed-refused limits q (s .new .ensures) (c .before .admission .given .1) in
+    writes-plan (Writing.refused (admission limits q)) (plan-refused five limits q (length (a .text .now)) (p .0)) (ap (λ (x : Answer). handed (Written.Refused x)) (p .1)) refl
 
 same-length : tie.Need-same-length
 same-length c = search needs
@@ -80,16 +78,16 @@ returns-3 c =
     let s = k .before .before .before in
     let a = s .before .before .before .args in
     let y = k .before .admission2 .given in
-    let p = plan-made (a .vertices) (a .ends .now) (sym (s .new .ensures) ∙ y .1) in
-    let v = plan-even five limits (a .vertices) (a .ends .now) (length (a .text .now)) (p .0) in
-    let n = length-plan five limits (a .vertices) (a .ends .now) (length (a .text .now)) (p .0) in
-    let xs = planText five (a .vertices) (a .ends .now) in
+    let q = plan (a .vertices) (a .ends .now) in
+    let p = constructed-admitted limits q (s .new .ensures) (y .1) in
+    let n = length-plan five limits q (length (a .text .now)) (p .0) in
+    let xs = planText five q in
     let w = c .before .before .write-text in
-    let size : 11 + y .0 .0 .edges * 11 ≡ length xs = omega (arith, n, p .1) in
-    writes-plan (a .vertices) (a .ends .now) (a .text .now) (w .last .1 .1 .1 .1 .1 .0) (Written.Bytes (11 + y .0 .0 .edges * 11)) (Writing.written xs)
-    (plan-written five limits (a .vertices) (a .ends .now) (length (a .text .now)) (p .0) (omega (arith, size, c .before .before .before .before .if1 .left)))
-    (ap Written.Bytes size)
-    (w .ensures ∙ ap (λ (m : ℕ). sets (a .text .now) 0 (line five (a .vertices ∷ (m ∷ [])) ++ lines five 2 m (a .ends .now))) (p .1)
+    let size : lineSize five 2 + y .0 .0 .edges * lineSize five 2 ≡ length xs = omega (arith, n, p .2) in
+    writes-plan (Writing.written xs)
+    (plan-written five limits q (length (a .text .now)) (p .0) (omega (arith, size, c .before .before .before .before .if1 .left)))
+    (ap (λ (m : ℕ). served (m ∷ [])) size)
+    (w .ensures ∙ ap (λ (m : ℕ). sets (a .text .now) 0 (line five (a .vertices ∷ (m ∷ [])) ++ lines five 2 m (a .ends .now))) (p .2)
     ∙ sets-filled (a .text .now) xs (omega (arith, size, c .before .before .before .before .if1 .left)))
 
 pub write-plan-spec : {M : Type 1} → statement M

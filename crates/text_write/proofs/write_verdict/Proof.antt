@@ -1,15 +1,17 @@
 -- `write_verdict` meets its contract: each way out cites the law for its tests.
 use mathlib.Core.Path.{_≡_, refl, sym, ap, _∙_}
 use mathlib.Core.Bool.{true}
-use Prim.Native.Nat.{_+_, _*_, _≤_}
+use mathlib.Core.List.{[], _∷_}
+use Prim.Native.Nat.{ℕ, _+_, _*_, _≤_}
 use native.Mathlib.Omega.{arith}
 use lib.ListN.{length}
 use lib.Seq.{sets}
 use borrow.Author.Needs.{needs}
 use borrow.Author.Tests.{not-true, not-false}
-use Rattle.connectivity.specs.Admission.{answer, limits}
-use Rattle.text_write.specs.declared.Written.{Written}
-use Rattle.text.specs.Column.{five}
+use Rattle.connectivity.specs.Plan.{limits}
+use Rattle.connectivity.specs.Admission.{served, answer}
+use Rattle.text_write.specs.Entry.{handed}
+use Rattle.text.specs.Column.{five, lineSize}
 use Rattle.text.specs.Plan.{Writing}
 use Rattle.text.specs.Verdict.{perLine, linesOf, countOf, hasText, verdictText}
 use Rattle.text.proofs.Reading.{sets-filled}
@@ -22,10 +24,10 @@ use Rattle.text_write.proofs.write_verdict.Tie as tie
 record Sized (o : tie.After-lines-of) : Type 0 where
   shown : let a = o .before .before .before .before .before .before .before .args in hasText limits (a .kind) (a .list .now) ≡ true
   wide : o .before .per-line .result ≤ 3
-  few : o .before .before .count-of .result ≤ 4000
+  few : o .before .before .count-of .result ≤ limits .edges
   same : let a = o .before .before .before .before .before .before .before .args in
-      o .lines-of .result * (o .before .per-line .result * 5 + 1) ≡ linesOf (a .kind) (countOf (a .kind) (a .list .now)) * (perLine (a .kind) * 5 + 1)
-  small : o .lines-of .result * (o .before .per-line .result * 5 + 1) ≤ 64000
+      o .lines-of .result * lineSize five (o .before .per-line .result) ≡ linesOf (a .kind) (countOf (a .kind) (a .list .now)) * lineSize five (perLine (a .kind))
+  small : o .lines-of .result * lineSize five (o .before .per-line .result) ≤ limits .edges * lineSize five 3
 
 sized : (o : tie.After-lines-of) → Sized o
 sized o =
@@ -35,8 +37,8 @@ sized o =
     let s = o .before .before .before in
     let a = s .before .before .before .before .args in
     let h = sym (s .before .has-text .ensures) ∙ not-false _ (s .if1 .left) in
-    let z = verdict-size (a .kind) (a .list .now) h in
-    let same : m .result * (k .result * 5 + 1) ≡ linesOf (a .kind) (countOf (a .kind) (a .list .now)) * (perLine (a .kind) * 5 + 1) = rw (m .ensures, k .ensures, q .ensures) in
+    let z = verdict-size five limits (omega arith) (a .kind) (a .list .now) h in
+    let same : m .result * lineSize five (k .result) ≡ linesOf (a .kind) (countOf (a .kind) (a .list .now)) * lineSize five (perLine (a .kind)) = rw (m .ensures, k .ensures, q .ensures) in
     record {
       shown = h;
       wide = omega (arith, k .ensures, per-line-most (a .kind));
@@ -55,8 +57,8 @@ returns : tie.Need-returns
 returns c =
     let s = c .before .before in
     let a = s .before .before .before .args in
-    writes-verdict (a .kind) (a .list .now) (a .text .now) (a .text .now) (c .refused-writing .result) (Writing.refused (answer 8 0))
-    (no-form five limits (a .kind) (a .list .now) (length (a .text .now)) (sym (s .has-text .ensures) ∙ not-true _ (c .before .if1 .taken))) (c .refused-writing .ensures) refl
+    writes-verdict (Writing.refused (answer 8 0))
+    (no-form five limits (a .kind) (a .list .now) (length (a .text .now)) (sym (s .has-text .ensures) ∙ not-true _ (c .before .if1 .taken))) (ap handed (c .refused-writing .ensures)) refl
 
 count-of-requires : tie.Need-count-of-requires
 count-of-requires c κs = search needs
@@ -87,8 +89,8 @@ returns-2 c =
     let z = sized (c .before .before) in
     let a = c .before .before .before .before .before .before .before .before .before .args in
     let n = length-verdict five limits (a .kind) (a .list .now) (length (a .text .now)) (z .shown) in
-    writes-verdict (a .kind) (a .list .now) (a .text .now) (a .text .now) (c .refused-writing2 .result) (Writing.refused (answer 6 0))
-    (verdict-short five limits (a .kind) (a .list .now) (length (a .text .now)) (z .shown) (omega (arith, z .same, n, c .before .if2 .taken))) (c .refused-writing2 .ensures) refl
+    writes-verdict (Writing.refused (answer 6 0))
+    (verdict-short five limits (a .kind) (a .list .now) (length (a .text .now)) (z .shown) (omega (arith, z .same, n, c .before .if2 .taken))) (ap handed (c .refused-writing2 .ensures)) refl
 
 cast-write-text : tie.Need-cast-write-text
 cast-write-text c = omega (arith, sized (c .before) .few)
@@ -119,11 +121,11 @@ returns-3 c =
     let n = length-verdict five limits (a .kind) (a .list .now) (length (a .text .now)) (z .shown) in
     let xs = verdictText five (a .kind) (a .list .now) in
     let w = c .before .before .write-text in
-    let size : 11 + m .result * (k .result * 5 + 1) ≡ length xs = omega (arith, z .same, n) in
+    let size : lineSize five 2 + m .result * lineSize five (k .result) ≡ length xs = omega (arith, z .same, n) in
     let text : w .last .1 .1 .1 .1 .1 .0 ≡ sets (a .text .now) 0 xs = w .ensures ∙ rw (m .ensures, k .ensures, q .ensures) in
-    writes-verdict (a .kind) (a .list .now) (a .text .now) (w .last .1 .1 .1 .1 .1 .0) (Written.Bytes (11 + m .result * (k .result * 5 + 1))) (Writing.written xs)
+    writes-verdict (Writing.written xs)
     (verdict-written five limits (a .kind) (a .list .now) (length (a .text .now)) (z .shown) (omega (arith, size, c .before .before .before .before .if2 .left)))
-    (ap Written.Bytes size)
+    (ap (λ (m : ℕ). served (m ∷ [])) size)
     (text ∙ sets-filled (a .text .now) xs (omega (arith, size, c .before .before .before .before .if2 .left)))
 
 pub write-verdict-spec : {M : Type 1} → statement M

@@ -1,15 +1,20 @@
 -- `main` is safe and ends: the bytes of the verdict text fit in the table that it is written to.
-use Prim.Native.Nat.{ℕ, _≤_}
+use Prim.Native.Nat.{ℕ, _+_, _*_, _≤_}
 use native.Mathlib.Omega.{arith}
 use lib.ListN.{length, length-take, length-replicate}
 use borrow.Author.Needs.{needs}
+use Rattle.connectivity.specs.Plan.{limits}
+use Rattle.text.specs.Column.{five, lineSize}
 use Rattle.certify_texts.proofs.Passing.{bytes-fit}
 use Rattle.verdict.proofs.main.Statement.{statement}
 use Rattle.verdict.proofs.main.Tie as tie
 
--- there is room for the longest text
-fits : (o : tie.After-written) → o .written .given .0 .0 ≤ 64011
-fits o = bytes-fit (o .before .before .before .verdict-text .ensures) (omega (arith, length-replicate {A = ℕ} 64011 0)) (o .written .given .1)
+-- the bytes of the longest text, for which there is room
+abbrev size : ℕ
+size = lineSize five 2 + limits .edges * lineSize five 3
+
+fits : (o : tie.After-written) → o .written .given .0 .0 ≤ size
+fits o = bytes-fit (omega arith) (o .before .before .before .verdict-text .ensures) (omega (arith, length-replicate {A = ℕ} size 0)) (o .written .given .1)
 
 slice-aggregate-read-full : tie.Need-slice-aggregate-read-full
 slice-aggregate-read-full c = search needs

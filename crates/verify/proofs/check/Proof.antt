@@ -5,40 +5,39 @@ use mathlib.Core.List.{List}
 use Prim.Native.Nat.{ℕ}
 use borrow.Author.Needs.{needs}
 use borrow.Author.Tests.{ne-eqb}
-use Rattle.connectivity.specs.Graph.{always}
-use Rattle.connectivity.specs.Admission.{Limits, limits, admission, andThen, answer}
+use Rattle.connectivity.specs.Plan.{Plan, Limits, limits}
+use Rattle.connectivity.specs.Admission.{admission, andThen, answer}
 use Rattle.connectivity.specs.Judge.{judgeGraph, judge}
 use Rattle.graph.specs.Admission.{toldBy}
 use Rattle.verify.proofs.check.Statement.{statement}
 use Rattle.verify.proofs.check.Tie as tie
 
 -- a known kind
-known : (limits : Limits) (n : ℕ) (kept : ℕ → Bool) (ends list : List ℕ) {kind : ℕ} (k : ℕ) → kind ≡ k → judge limits n kept ends kind list ≡ judge limits n kept ends k list
-known limits n kept ends list k p = rw p
+known : (most : Limits) (p : Plan) (list : List ℕ) {kind : ℕ} (k : ℕ) → kind ≡ k → judge most p kind list ≡ judge most p k list
+known most p list k q = rw q
 
 -- any other
-other : (limits : Limits) (n : ℕ) (kept : ℕ → Bool) (ends : List ℕ) (kind : ℕ) (list : List ℕ) → (kind ≡ 0 → ⊥) → (kind ≡ 1 → ⊥)
-    → judge limits n kept ends kind list ≡ andThen (admission limits n ends) (answer 9 0)
+other : (most : Limits) (p : Plan) (kind : ℕ) (list : List ℕ) → (kind ≡ 0 → ⊥) → (kind ≡ 1 → ⊥) → judge most p kind list ≡ andThen (admission most p) (answer 9 0)
 unfolding judge judgeGraph
-other limits n kept ends kind list p q = rw (ne-eqb kind 0 p, ne-eqb kind 1 q)
+other most p kind list h k = rw (ne-eqb kind 0 h, ne-eqb kind 1 k)
 
 check-firm-requires : tie.Need-check-firm-requires
 check-firm-requires c κs = search needs
 
 returns : tie.Need-returns
-returns c = c .check-firm .ensures ∙ sym (ap toldBy (known limits _ always _ _ 0 (c .before .if1 .taken)))
+returns c = c .check-firm .ensures ∙ sym (ap toldBy (known limits _ _ 0 (c .before .if1 .taken)))
 
 check-weak-requires : tie.Need-check-weak-requires
 check-weak-requires c κs = search needs
 
 returns-2 : tie.Need-returns-2
-returns-2 c = c .check-weak .ensures ∙ sym (ap toldBy (known limits _ always _ _ 1 (c .before .if2 .taken)))
+returns-2 c = c .check-weak .ensures ∙ sym (ap toldBy (known limits _ _ 1 (c .before .if2 .taken)))
 
 unknown-requires : tie.Need-unknown-requires
 unknown-requires c κs = search needs
 
 returns-3 : tie.Need-returns-3
-returns-3 c = c .unknown .ensures ∙ sym (ap toldBy (other limits _ always _ _ _ (c .before .before .if1 .left) (c .before .if2 .left)))
+returns-3 c = c .unknown .ensures ∙ sym (ap toldBy (other limits _ _ _ (c .before .before .if1 .left) (c .before .if2 .left)))
 
 pub check-spec : {M : Type 1} → statement M
 check-spec =

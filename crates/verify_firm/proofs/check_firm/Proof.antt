@@ -1,8 +1,7 @@
 -- `check_firm` meets its contract: a plan that the constructor refuses is refused by its answer, any other is judged.
 use mathlib.Core.Path.{_≡_, sym, ap, _∙_}
 use borrow.Author.Needs.{needs}
-use Rattle.connectivity.specs.Graph.{always}
-use Rattle.connectivity.specs.Admission.{limits}
+use Rattle.connectivity.specs.Plan.{plan, limits}
 use Rattle.connectivity.proofs.Judge.{judge-refused}
 use Rattle.graph.specs.Admission.{toldBy}
 use Rattle.graph.proofs.Lent.{constructed-refused, constructed-admitted}
@@ -23,21 +22,21 @@ firm-admitted-requires : tie.Need-firm-admitted-requires
 firm-admitted-requires c κs =
     let made = c .before in
     let new = made .before .before in
-    let p = constructed-admitted _ _ (sym (new .new .ensures) ∙ made .made2 .given .1) in
+    let p = constructed-admitted _ _ (new .new .ensures) (made .made2 .given .1) in
     (p .2, p .0)
 
 returns : tie.Need-returns
 returns c =
     let made = c .before in
     let new = made .before .before in
-    let p = constructed-refused _ _ (sym (new .new .ensures) ∙ made .made .given .1) in
-    p .1 ∙ sym (ap toldBy (judge-refused limits _ always _ _ _ (p .0)))
+    let p = constructed-refused _ _ (new .new .ensures) (made .made .given .1) in
+    p .1 ∙ sym (ap toldBy (judge-refused limits (plan _ _) _ _ (p .0)))
 
 returns-2 : tie.Need-returns-2
 returns-2 c =
     let made = c .before .before in
     let new = made .before .before in
-    let p = constructed-admitted _ _ (sym (new .new .ensures) ∙ made .made2 .given .1) in
+    let p = constructed-admitted _ _ (new .new .ensures) (made .made2 .given .1) in
     c .firm-admitted .ensures ∙ sym (ap toldBy (judge-firm (p .0) _))
 
 pub check-firm-spec : {M : Type 1} → statement M

@@ -1,8 +1,7 @@
 -- `check_weak` meets its contract: a plan that the constructor refuses is refused by its answer, any other is judged.
 use mathlib.Core.Path.{_≡_, sym, ap, _∙_}
 use borrow.Author.Needs.{needs}
-use Rattle.connectivity.specs.Graph.{always}
-use Rattle.connectivity.specs.Admission.{limits}
+use Rattle.connectivity.specs.Plan.{plan, limits}
 use Rattle.connectivity.proofs.Judge.{judge-refused}
 use Rattle.graph.specs.Admission.{toldBy}
 use Rattle.graph.proofs.Lent.{constructed-refused, constructed-admitted}
@@ -23,22 +22,22 @@ weak-admitted-requires : tie.Need-weak-admitted-requires
 weak-admitted-requires c κs =
     let made = c .before in
     let new = made .before .before in
-    let p = constructed-admitted _ _ (sym (new .new .ensures) ∙ made .made2 .given .1) in
+    let p = constructed-admitted _ _ (new .new .ensures) (made .made2 .given .1) in
     (p .2, p .0)
 
 returns : tie.Need-returns
 returns c =
     let made = c .before in
     let new = made .before .before in
-    let p = constructed-refused _ _ (sym (new .new .ensures) ∙ made .made .given .1) in
-    p .1 ∙ sym (ap toldBy (judge-refused limits _ always _ _ _ (p .0)))
+    let p = constructed-refused _ _ (new .new .ensures) (made .made .given .1) in
+    p .1 ∙ sym (ap toldBy (judge-refused limits (plan _ _) _ _ (p .0)))
 
 returns-2 : tie.Need-returns-2
 returns-2 c =
     let made = c .before .before in
     let new = made .before .before in
-    let p = constructed-admitted _ _ (sym (new .new .ensures) ∙ made .made2 .given .1) in
-    c .weak-admitted .ensures ∙ sym (ap toldBy (judge-weak limits _ always _ _ (p .0)))
+    let p = constructed-admitted _ _ (new .new .ensures) (made .made2 .given .1) in
+    c .weak-admitted .ensures ∙ sym (ap toldBy (judge-weak limits _ _ (p .0)))
 
 pub check-weak-spec : {M : Type 1} → statement M
 check-weak-spec =

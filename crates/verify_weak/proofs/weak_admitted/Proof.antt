@@ -1,27 +1,30 @@
 -- `weak_admitted` meets its contract: 9, the first 11, then what the test for cuts says.
 use mathlib.Core.Path.{_≡_, sym, ap, _∙_}
+use mathlib.Core.Bool.{Bool, true, false, cond}
 use mathlib.Core.List.{List}
 use Prim.Native.Nat.{ℕ, _/_}
 use native.Mathlib.Omega.{arith}
 use lib.Dec.{ltb}
 use lib.ListN.{length}
 use borrow.Author.Needs.{needs}
-use Rattle.connectivity.specs.Graph.{graphOf, always}
-use Rattle.connectivity.specs.Admission.{Admitted, limits}
-use Rattle.connectivity.specs.Judge.{ascending}
+use Rattle.connectivity.specs.Plan.{plan, graph, limits}
+use Rattle.connectivity.specs.Cut.{disconnects}
+use Rattle.connectivity.specs.Admission.{Admitted, passed}
+use Rattle.connectivity.specs.Admission as meaning
+use Rattle.connectivity.specs.Judge.{ascending, judgeWeak}
 use Rattle.connectivity.proofs.Admission.{admitted-all}
 use Rattle.graph.specs.declared.Answer.{Answer}
 use Rattle.graph.specs.Admission.{toldBy}
 use Rattle.verify_weak.specs.Weak.{InTurn}
-use Rattle.removal.proofs.Cuts.{cut-admitted}
+use Rattle.removal.proofs.Splits.{split-refused, split-connected, split-disconnected}
 use Rattle.verify_weak.proofs.Weak.{weak-long, weak-turn, weak-cut}
 use Rattle.verify_weak.proofs.weak_admitted.Statement.{statement}
 use Rattle.verify_weak.proofs.weak_admitted.Tie as tie
 
 -- what `rises` says of an admitted plan
-turn : {n edges : ℕ} {ends : List ℕ} {r : Answer} (list : List ℕ) → edges ≡ length ends / 2 → Admitted limits n ends → InTurn edges list r
-    → r ≡ toldBy (ascending (graphOf n always ends) 0 0 list)
-turn {n} {ends = ends} list p a t = t (graphOf n always ends) (λ e. admitted-all a e ∙ ap (ltb e) (sym p))
+turn : {n edges : ℕ} {ends : List ℕ} {r : Answer} (list : List ℕ) → edges ≡ length ends / 2 → Admitted limits (plan n ends) → InTurn edges list r
+    → r ≡ toldBy (ascending (graph (plan n ends)) 0 0 list)
+turn {n} {ends = ends} list p a t = t (graph (plan n ends)) (λ e. admitted-all a e ∙ ap (ltb e) (sym p))
 
 answer-requires : tie.Need-answer-requires
 answer-requires c κs = search needs
@@ -39,32 +42,49 @@ returns-2 c =
     let t = turn (start .args .list .now) (start .pre .0) (start .pre .1) (rises .rises .ensures) in
     t ∙ sym (ap toldBy (weak-turn _ _ (rises .before .if1 .left) (λ z. c .if2 .taken (ap (λ (x : Answer). x .number) t ∙ z))))
 
-is-cut-requires : tie.Need-is-cut-requires
-is-cut-requires c κs = search needs
+-- the numbers rise, so the answer is that of the test for a cut
+cut : (s : tie.After-split-by) (t : Bool) → let a = s .before .before .before .before .before .before .args in
+    disconnects (graph (plan (a .vertices) (a .ends .now))) (a .list .now) ≡ t
+    → judgeWeak (graph (plan (a .vertices) (a .ends .now))) (a .list .now) ≡ cond t passed (meaning.answer 17 0)
+cut s t p =
+    let rises = s .before .before in
+    let start = rises .before .before .before .before in
+    let r = turn (start .args .list .now) (start .pre .0) (start .pre .1) (rises .rises .ensures) in
+    weak-cut _ _ (rises .before .if1 .left) t (sym (ap (λ (x : Answer). x .number) r) ∙ s .before .if2 .left) (sym p)
+
+split-by-requires : tie.Need-split-by-requires
+split-by-requires c κs = search needs
+
+enum-known-split : tie.Need-enum-known-split
+enum-known-split c = search needs
+
+enum-told : tie.Need-enum-told
+enum-told c = search needs
 
 answer-requires-2 : tie.Need-answer-requires-2
 answer-requires-2 c κs = search needs
 
-returns-3 : tie.Need-returns-3
-returns-3 c =
-    let cut = c .before .before in
-    let rises = cut .before .before in
-    let start = rises .before .before .before .before in
-    let t = turn (start .args .list .now) (start .pre .0) (start .pre .1) (rises .rises .ensures) in
-    let z = sym (ap (λ (x : Answer). x .number) t) ∙ cut .before .if2 .left in
-    c .answer2 .ensures ∙ sym (ap toldBy (weak-cut _ _ (rises .before .if1 .left) _ z (sym (c .before .if3 .taken) ∙ cut .is-cut .ensures ∙ cut-admitted _ _ _ (start .pre .1))))
+enum-told-2 : tie.Need-enum-told-2
+enum-told-2 c = search needs
 
 answer-requires-3 : tie.Need-answer-requires-3
 answer-requires-3 c κs = search needs
 
+-- the plan is admitted, so it is not refused
+returns-3 : tie.Need-returns-3
+returns-3 c =
+    let s = c .before .before .before in
+    absurd (split-refused limits _ _ (s .split-by .ensures) (c .before .split .given .1) .0 (s .before .before .before .before .before .before .pre .1))
+
 returns-4 : tie.Need-returns-4
 returns-4 c =
-    let cut = c .before .before in
-    let rises = cut .before .before in
-    let start = rises .before .before .before .before in
-    let t = turn (start .args .list .now) (start .pre .0) (start .pre .1) (rises .rises .ensures) in
-    let z = sym (ap (λ (x : Answer). x .number) t) ∙ cut .before .if2 .left in
-    c .answer3 .ensures ∙ sym (ap toldBy (weak-cut _ _ (rises .before .if1 .left) _ z (sym (c .before .if3 .left) ∙ cut .is-cut .ensures ∙ cut-admitted _ _ _ (start .pre .1))))
+    let s = c .before .before .before in
+    c .answer2 .ensures ∙ sym (ap toldBy (cut s true (split-disconnected limits _ _ (s .split-by .ensures) (c .before .enum-told .given .1) .1)))
+
+returns-5 : tie.Need-returns-5
+returns-5 c =
+    let s = c .before .before .before in
+    c .answer3 .ensures ∙ sym (ap toldBy (cut s false (split-connected limits _ _ (s .split-by .ensures) (c .before .enum-told2 .given .1) .1)))
 
 pub weak-admitted-spec : {M : Type 1} → statement M
 weak-admitted-spec =
@@ -74,8 +94,12 @@ weak-admitted-spec =
     returns
     rises-requires
     returns-2
-    is-cut-requires
+    split-by-requires
+    enum-known-split
+    enum-told
     answer-requires-2
-    returns-3
+    enum-told-2
     answer-requires-3
-    returns-4)
+    returns-3
+    returns-4
+    returns-5)

@@ -2,7 +2,8 @@
 use mathlib.Core.Path.{_≡_, sym, ap, _∙_}
 use borrow.Author.Needs.{needs}
 use Rattle.certify.specs.declared.Outcome.{Outcome}
-use Rattle.certify_texts.specs.Packed.{packedBy}
+use Rattle.certify.specs.Answered.{handedBy}
+use Rattle.certify_texts.specs.Packed.{packed}
 use Rattle.certify_texts.proofs.export.pack.Statement.{statement}
 use Rattle.certify_texts.proofs.export.pack.Tie as tie
 
@@ -25,10 +26,10 @@ returns : tie.Need-returns
 returns c = search needs
 
 returns-2 : tie.Need-returns-2
-returns-2 c = c .join .ensures ∙ sym (ap (λ (o : Outcome). packedBy o (c .before .before .before .before .args .found .cut)) (c .before .enum-told2 .given .1))
+returns-2 c = c .join .ensures ∙ sym (ap (λ (o : Outcome). packed (handedBy o (c .before .before .before .before .args .found .cut))) (c .before .enum-told2 .given .1))
 
 returns-3 : tie.Need-returns-3
-returns-3 c = c .join2 .ensures ∙ sym (ap (λ (o : Outcome). packedBy o (c .before .before .before .before .before .args .found .cut)) (c .before .before .outcome .given .1))
+returns-3 c = c .join2 .ensures ∙ sym (ap (λ (o : Outcome). packed (handedBy o (c .before .before .before .before .before .args .found .cut))) (c .before .before .outcome .given .1))
 
 pub pack-spec : {M : Type 1} → statement M
 pack-spec =

@@ -3,7 +3,7 @@ use borrow.Author.Needs.{needs}
 use mathlib.Core.Path.{_≡_, refl, sym, ap, _∙_}
 use Prim.Native.Nat.{ℕ, _-_, _≤_}
 use native.Mathlib.Omega.{arith}
-use Rattle.connectivity.specs.Graph.{graphOf, always}
+use Rattle.connectivity.specs.Plan.{plan, graph}
 use Rattle.connectivity.specs.Cut.{disconnects, singles, firstOf}
 use Rattle.cuts.specs.Lowest.{firstOne}
 use Rattle.cuts.proofs.First.{from, one-found, one-next, one-over}
@@ -12,7 +12,7 @@ use Rattle.cuts.proofs.lowest.lowest_one.Tie as tie
 
 abbrev Inv-loop : tie.InvT-loop
 Inv-loop vertices ends labels edges e₀ e =
-    (e ≤ edges) × (firstOne (graphOf vertices always ends) edges ≡ firstOf (disconnects (graphOf vertices always ends)) (singles (from e edges)))
+    (e ≤ edges) × (firstOne (graph (plan vertices ends)) edges ≡ firstOf (disconnects (graph (plan vertices ends))) (singles (from e edges)))
 
 abbrev μ-loop : tie.MeasureT-loop
 μ-loop vertices ends labels edges e₀ e = edges - e

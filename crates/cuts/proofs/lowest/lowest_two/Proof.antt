@@ -3,7 +3,7 @@ use borrow.Author.Needs.{needs}
 use mathlib.Core.Path.{_≡_, refl, _∙_}
 use Prim.Native.Nat.{ℕ, _-_, _≤_}
 use native.Mathlib.Omega.{arith}
-use Rattle.connectivity.specs.Graph.{graphOf, always}
+use Rattle.connectivity.specs.Plan.{plan, graph}
 use Rattle.connectivity.specs.Cut.{disconnects, pairs, firstOf}
 use Rattle.cuts.specs.Lowest.{firstTwo}
 use Rattle.cuts.proofs.First.{from, two-found, two-next, two-over}
@@ -12,7 +12,7 @@ use Rattle.cuts.proofs.lowest.lowest_two.Tie as tie
 
 abbrev Inv-loop : tie.InvT-loop
 Inv-loop vertices ends labels edges e₀ e =
-    (e ≤ edges) × (firstTwo (graphOf vertices always ends) edges ≡ firstOf (disconnects (graphOf vertices always ends)) (pairs (from e edges)))
+    (e ≤ edges) × (firstTwo (graph (plan vertices ends)) edges ≡ firstOf (disconnects (graph (plan vertices ends))) (pairs (from e edges)))
 
 abbrev μ-loop : tie.MeasureT-loop
 μ-loop vertices ends labels edges e₀ e = edges - e

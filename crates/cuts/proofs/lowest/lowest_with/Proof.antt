@@ -3,7 +3,7 @@ use borrow.Author.Needs.{needs}
 use mathlib.Core.Path.{_≡_, refl, sym, ap, _∙_}
 use Prim.Native.Nat.{ℕ, _-_, _≤_, _<_}
 use native.Mathlib.Omega.{arith}
-use Rattle.connectivity.specs.Graph.{graphOf, always}
+use Rattle.connectivity.specs.Plan.{plan, graph}
 use Rattle.connectivity.specs.Cut.{disconnects, pairsWith, firstOf}
 use Rattle.cuts.specs.Lowest.{firstWith}
 use Rattle.cuts.proofs.First.{from, with-found, with-next, with-over}
@@ -12,7 +12,7 @@ use Rattle.cuts.proofs.lowest.lowest_with.Tie as tie
 
 abbrev Inv-loop : tie.InvT-loop
 Inv-loop vertices ends labels edges e label d₀ d =
-    (e < d) × (d ≤ edges) × (firstWith (graphOf vertices always ends) edges e ≡ firstOf (disconnects (graphOf vertices always ends)) (pairsWith e (from d edges)))
+    (e < d) × (d ≤ edges) × (firstWith (graph (plan vertices ends)) edges e ≡ firstOf (disconnects (graph (plan vertices ends))) (pairsWith e (from d edges)))
 
 abbrev μ-loop : tie.MeasureT-loop
 μ-loop vertices ends labels edges e label d₀ d = edges - d

@@ -4,7 +4,7 @@ use mathlib.Core.Path.{_≡_, _∙_}
 use mathlib.Core.List.{List}
 use Prim.Native.Nat.{ℕ, _≤_}
 use borrow.Author.Tests.{lt-ltb, le-ltb}
-use Rattle.connectivity.specs.Graph.{graphOf, always}
+use Rattle.connectivity.specs.Plan.{plan, graph}
 use Rattle.connectivity.specs.Cut.{lowestCut}
 use Rattle.cuts.specs.Lowest.{Whole, oneTold, twoTold, firstOne, firstTwo, one, two, uncut}
 use Rattle.cuts.proofs.Filter.{shows-one, shows-both, lowest-one, lowest-two, none-one}
@@ -12,9 +12,9 @@ use Rattle.cuts.proofs.lowest.small_cut.Statement.{statement}
 use Rattle.cuts.proofs.lowest.small_cut.Tie as tie
 
 -- no edge disconnects alone
-found : {n : ℕ} {ends labels : List ℕ} {m : ℕ} (w : Whole n ends labels m) (e : ℕ) → m ≤ e → firstOne (graphOf n always ends) m ≡ oneTold m e
-    → (a b : ℕ) → firstTwo (graphOf n always ends) m ≡ twoTold m a b → lowestCut (graphOf n always ends) ≡ twoTold m a b
-found {n} {ends} {m = m} w e h q a b p = lowest-two (w .admitted) m (w .edges) (w .connected) (none-one (graphOf n always ends) m e h q) ∙ p
+found : {n : ℕ} {ends labels : List ℕ} {m : ℕ} (w : Whole n ends labels m) (e : ℕ) → m ≤ e → firstOne (graph (plan n ends)) m ≡ oneTold m e
+    → (a b : ℕ) → firstTwo (graph (plan n ends)) m ≡ twoTold m a b → lowestCut (graph (plan n ends)) ≡ twoTold m a b
+found {n} {ends} {m = m} w e h q a b p = lowest-two (w .admitted) m (w .edges) (w .connected) (none-one (graph (plan n ends)) m e h q) ∙ p
 
 lowest-one-requires : tie.Need-lowest-one-requires
 lowest-one-requires c κs = shows-one (c .before .before .pre)

@@ -1,7 +1,6 @@
 -- `two_cut` meets its contract: two edges with different labels need no search.
 use borrow.Author.Needs.{needs}
-use mathlib.Core.Path.{sym, _∙_}
-use Rattle.removal.proofs.Cuts.{cut-admitted}
+use mathlib.Core.Path.{sym}
 use Rattle.cuts.proofs.lowest.two_cut.Statement.{statement}
 use Rattle.cuts.proofs.lowest.two_cut.Tie as tie
 
@@ -12,10 +11,10 @@ slice-aggregate-is-cut : tie.Need-slice-aggregate-is-cut
 slice-aggregate-is-cut c = search needs
 
 is-cut-requires : tie.Need-is-cut-requires
-is-cut-requires c κs = search needs
+is-cut-requires c κs = c .before .before .before .pre .0
 
 returns-2 : tie.Need-returns-2
-returns-2 c = c .is-cut .ensures ∙ cut-admitted _ _ _ (c .before .before .before .before .pre .0)
+returns-2 c = c .is-cut .ensures
 
 pub two-cut-spec : {M : Type 1} → statement M
 two-cut-spec = tie.close (tie.spec returns slice-aggregate-is-cut is-cut-requires returns-2)

@@ -2,9 +2,10 @@
 use mathlib.Core.Path.{_≡_, sym, ap, _∙_}
 use native.Mathlib.Omega.{arith}
 use borrow.Author.Needs.{needs}
-use Rattle.connectivity.specs.Admission as meaning
+use Rattle.connectivity.specs.Plan.{limits}
 use Rattle.graph.specs.declared.Answer.{Answer}
 use Rattle.graph.specs.declared.Admission.the-variants.{Refused}
+use Rattle.graph.specs.Admission.{handed}
 use Rattle.graph.proofs.Laws.{odd, too-few, too-many, too-long, misfit, fits}
 use Rattle.graph.proofs.Graph.new.Statement.{statement}
 use Rattle.graph.proofs.Graph.new.Tie as tie
@@ -13,25 +14,25 @@ refused-requires : tie.Need-refused-requires
 refused-requires c κs = search needs
 
 returns : tie.Need-returns
-returns c = c .refused .ensures ∙ sym (odd meaning.limits _ _ (omega arith))
+returns c = ap handed (c .refused .ensures) ∙ sym (odd limits _ (omega arith))
 
 refused-requires-2 : tie.Need-refused-requires-2
 refused-requires-2 c κs = search needs
 
 returns-2 : tie.Need-returns-2
-returns-2 c = c .refused2 .ensures ∙ sym (too-few meaning.limits _ _ (omega arith) (omega arith))
+returns-2 c = ap handed (c .refused2 .ensures) ∙ sym (too-few limits _ (omega arith) (omega arith))
 
 refused-requires-3 : tie.Need-refused-requires-3
 refused-requires-3 c κs = search needs
 
 returns-3 : tie.Need-returns-3
-returns-3 c = c .refused3 .ensures ∙ sym (too-many meaning.limits _ _ (omega arith) (omega arith) (omega arith))
+returns-3 c = ap handed (c .refused3 .ensures) ∙ sym (too-many limits _ (omega arith) (omega arith) (omega arith))
 
 refused-requires-4 : tie.Need-refused-requires-4
 refused-requires-4 c κs = search needs
 
 returns-4 : tie.Need-returns-4
-returns-4 c = c .refused4 .ensures ∙ sym (too-long meaning.limits _ _ (omega arith) (omega arith) (omega arith) (omega arith))
+returns-4 c = ap handed (c .refused4 .ensures) ∙ sym (too-long limits _ (omega arith) (omega arith) (omega arith) (omega arith))
 
 judge-ends-requires : tie.Need-judge-ends-requires
 judge-ends-requires c κs = search needs
@@ -40,7 +41,7 @@ returns-5 : tie.Need-returns-5
 returns-5 c =
     let e = c .before .judge-ends .ensures in
     let same = ap (λ (a : Answer). a .number) e in
-    ap Refused e ∙ sym (misfit meaning.limits _ _ (omega arith) (omega arith) (omega arith) (omega arith) (omega arith))
+    ap (λ (a : Answer). handed (Refused a)) e ∙ sym (misfit limits _ (omega arith) (omega arith) (omega arith) (omega arith) (omega arith))
 
 cast-t9 : tie.Need-cast-t9
 cast-t9 c = search needs
@@ -48,7 +49,7 @@ cast-t9 c = search needs
 returns-6 : tie.Need-returns-6
 returns-6 c =
     let same = ap (λ (a : Answer). a .number) (c .before .judge-ends .ensures) in
-    sym (fits meaning.limits _ _ (omega arith) (omega arith) (omega arith) (omega arith) (omega arith))
+    sym (fits limits _ (omega arith) (omega arith) (omega arith) (omega arith) (omega arith))
 
 pub new-spec : {M : Type 1} → statement M
 new-spec =

@@ -1,4 +1,4 @@
--- `add_ear` meets its contract: with the rows so far built, one ear more is written behind them.
+-- `add_ear` meets its contract: with the rows so far built, one Mader-path more is written behind them.
 use Rattle.record.proofs.Recording.{recording-grows, recording-on}
 use borrow.Author.Needs.{needs}
 use Rattle.record.proofs.build.add_ear.Statement.{statement}

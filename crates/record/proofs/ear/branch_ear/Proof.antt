@@ -1,4 +1,4 @@
--- `branch_ear` meets its contract: some edge is open, and it alone or with a way up to its end is an ear.
+-- `branch_ear` meets its contract: some edge is open, and it alone or with a way up to its end is a Mader-path.
 use mathlib.Core.Path.{refl}
 use native.Mathlib.Omega.{arith}
 use Rattle.record.proofs.FromEdge.{opening, across, u-below, edge-grown}

@@ -1,4 +1,4 @@
--- `edge_ear` meets its contract: the way up from a built vertex, and over the edge, is an ear.
+-- `edge_ear` meets its contract: the way up from a built vertex, and over the edge, is a Mader-path.
 use mathlib.Core.Path.{refl, sym, _∙_}
 use Prim.Native.Nat.{ℕ, _<_}
 use native.Mathlib.Omega.{arith}

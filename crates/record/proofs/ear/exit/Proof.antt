@@ -2,6 +2,7 @@
 use Prim.Native.Nat.{ℕ, _≤_}
 use native.Mathlib.Omega.{arith}
 use lib.ListN.{length, replicate, length-replicate}
+use Rattle.search.proofs.Outcomes.{by-cases}
 use Rattle.record.proofs.Exits.{count-most, exited, must-meet}
 use borrow.Author.Needs.{needs}
 use Rattle.record.proofs.ear.exit.Statement.{statement}
@@ -38,11 +39,12 @@ returns c =
     let r = x .before .before .before .before .before in
     let s = r .before .before .before .before .before .before .before in
     absurd (must-meet (s .pre) (r .ear-roles .ensures) (s .args .first .now) (replicate 1000 0) (x .explore .last .1 .1 .1 .1 .0) (x .explore .last .1 .1 .1 .1 .1 .0)
-    (roles-room r) (s .pre .fits) (omega (arith, s .pre .admitted .vertices, length-replicate {A = ℕ} 1000 0)) (x .explore .result) (x .explore .ensures) (c .match .keys2))
+    (roles-room r) (s .pre .fits) (omega (arith, s .pre .admitted .vertices, length-replicate {A = ℕ} 1000 0)) (x .explore .result)
+    (by-cases _ _ _ _ _ _ _ _ _ (x .explore .ensures)) (c .match .keys2))
 
 sub-result : tie.Need-sub-result
 sub-result c =
-    let e = rw (c .before .found .given .1) at (c .before .before .before .before .before .before .explore .ensures) in
+    let e = rw (c .before .found .given .1) at (by-cases _ _ _ _ _ _ _ _ _ (c .before .before .before .before .before .before .explore .ensures)) in
     omega (arith, e .2 .some)
 
 cast-result : tie.Need-cast-result
@@ -56,7 +58,7 @@ array-read-result c =
     let x = c .before .before .before .before .before .before in
     let r = x .before .before .before .before .before in
     let s = r .before .before .before .before .before .before .before in
-    let e = rw (c .before .found .given .1) at (x .explore .ensures) in
+    let e = rw (c .before .found .given .1) at (by-cases _ _ _ _ _ _ _ _ _ (x .explore .ensures)) in
     omega (arith, e .2 .some, count-most (s .pre .admitted) (s .args .dead .now) (r .ear-roles .ensures) (e .1), s .pre .admitted .vertices)
 
 same-length-2 : tie.Need-same-length-2
@@ -66,7 +68,7 @@ returns-2 : tie.Need-returns-2
 returns-2 c =
     let x = c .before .before .before .before .before .before in
     let r = x .before .before .before .before .before in
-    let e = rw (c .before .found .given .1) at (x .explore .ensures) in
+    let e = rw (c .before .found .given .1) at (by-cases _ _ _ _ _ _ _ _ _ (x .explore .ensures)) in
     exited (r .before .before .before .before .before .before .before .pre .admitted) _ (r .ear-roles .ensures) (e .1) (e .2)
 
 pub exit-spec : {M : Type 1} → statement M

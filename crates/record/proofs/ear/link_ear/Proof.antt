@@ -1,4 +1,4 @@
--- `link_ear` meets its contract: the way up from the vertex outside the link is an ear.
+-- `link_ear` meets its contract: the way up from the vertex outside the link is a Mader-path.
 use mathlib.Core.List.{List}
 use Prim.Native.Nat.{ℕ, _≤_}
 use native.Mathlib.Omega.{arith}

@@ -1,4 +1,4 @@
--- `next_ear` meets its contract: an ear out of a link, or where every built vertex is a branch.
+-- `next_ear` meets its contract: a Mader-path out of a link, or where every built vertex is a branch.
 use borrow.Author.Needs.{needs}
 use Rattle.record.proofs.ear.next_ear.Statement.{statement}
 use Rattle.record.proofs.ear.next_ear.Tie as tie
@@ -22,7 +22,7 @@ returns c = search needs
 branch-ear-requires : tie.Need-branch-ear-requires
 branch-ear-requires c κs =
     let v = c .before .before in
-    record { growing = v .before .before .before .before .before .pre .growing; branches = v .plain-vertex .ensures .none (c .before .if1 .left) }
+    record { growing = v .before .before .before .before .before .pre .growing; branches = v .plain-vertex .ensures .no-plain (c .before .if1 .left) }
 
 same-length-2 : tie.Need-same-length-2
 same-length-2 c = c .before .before .branch-ear .kept .1 .1 .1 .1 .1 .0

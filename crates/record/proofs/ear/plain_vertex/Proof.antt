@@ -30,7 +30,7 @@ is-plain-requires : tie.Need-is-plain-requires Inv-loop μ-loop
 is-plain-requires c κs = search needs
 
 returns : tie.Need-returns Inv-loop μ-loop
-returns c = record { found = λ h. rw (c .if1 .taken) at (c .before .is-plain .ensures); none = λ h. absurd (omega (arith, h)) }
+returns c = record { found = λ h. rw (c .if1 .taken) at (c .before .is-plain .ensures); no-plain = λ h. absurd (omega (arith, h)) }
 
 add-v : tie.Need-add-v Inv-loop μ-loop
 add-v c = omega arith
@@ -45,7 +45,7 @@ loop-again c =
     (omega arith, below-more (λ (u : ℕ). 1 ≤ getD marks u 0 → 3 ≤ getD marks u 0) (l .loop .v) (l .loop .inv .1) (not-plain (rw (c .if1 .left) at (c .before .is-plain .ensures))))
 
 returns-2 : tie.Need-returns-2 Inv-loop μ-loop
-returns-2 c = let l = c .before in record { found = λ h. absurd (omega (arith, h)); none = λ h u k. l .loop .inv .1 u (omega (arith, k)) }
+returns-2 c = let l = c .before in record { found = λ h. absurd (omega (arith, h)); no-plain = λ h u k. l .loop .inv .1 u (omega (arith, k)) }
 
 pub plain-vertex-spec : {M : Type 1} → statement M
 plain-vertex-spec =

@@ -5,6 +5,7 @@ use Prim.Native.Nat.{ℕ, _≤_}
 use native.Mathlib.Omega.{arith}
 use lib.ListN.{length, set, replicate, length-replicate, length-set}
 use borrow.Author.Needs.{needs}
+use Rattle.search.proofs.Outcomes.{by-cases}
 use Rattle.search.proofs.From0.{zeros}
 use Rattle.record.specs.Opening.{Around}
 use Rattle.record.proofs.Roots.{rooted-by}
@@ -47,7 +48,7 @@ returns c =
     let room = thousand p in
     rooted-by (a .vertices) (a .r) (a .x) (a .ends .now) (replicate 1000 0) (replicate 4000 0) (p .admitted) (p .root) (p .other) (p .different) room (zeros 1000) (zeros 4000)
     (a .first .now) (replicate 1000 0) (x .explore .last .1 .1 .1 .1 .0) (x .explore .last .1 .1 .1 .1 .1 .0) (omega (arith, p .admitted .edges, length-replicate {A = ℕ} 4000 0)) (p .long) room
-    (omega (arith, same-length c, p .long)) (x .explore .result) (x .explore .ensures)
+    (omega (arith, same-length c, p .long)) (x .explore .result) (by-cases _ _ _ _ _ _ _ _ _ (x .explore .ensures))
 
 pub search-around-spec : {M : Type 1} → statement M
 search-around-spec =

@@ -4,16 +4,16 @@ use Prim.Native.Nat.{_+_, _-_, _≤_}
 use native.Mathlib.Omega.{arith}
 use lib.ListN.{length, take, drop}
 use borrow.Author.Needs.{needs}
-use Rattle.text.specs.Column.{five, column, same}
+use Rattle.text.specs.Column.{five, column, lineSize, same}
 use Rattle.text.proofs.Laws.{length-column, bytes-same, bytes-differ, bytes-over}
 use Rattle.text_read.proofs.column.column_is.Statement.{statement}
 use Rattle.text_read.proofs.column.column_is.Tie as tie
 
 abbrev Inv-loop : tie.InvT-loop
-Inv-loop line at x bytes i₀ i = (i ≤ 5) × (at + 5 ≤ 16) × (length line ≡ 16) × (length bytes ≡ 5) × (same (column five x) (take 5 (drop at line)) ≡ same (drop i bytes) (drop i (take 5 (drop at line))))
+Inv-loop line at x bytes i₀ i = (i ≤ length five) × (at + length five ≤ lineSize five 3) × (length line ≡ lineSize five 3) × (length bytes ≡ length five) × (same (column five x) (take (length five) (drop at line)) ≡ same (drop i bytes) (drop i (take (length five) (drop at line))))
 
 abbrev μ-loop : tie.MeasureT-loop
-μ-loop line at x bytes i₀ i = 5 - i
+μ-loop line at x bytes i₀ i = length five - i
 
 column-requires : tie.Need-column-requires Inv-loop μ-loop
 column-requires c κs = search needs
@@ -34,7 +34,7 @@ returns : tie.Need-returns Inv-loop μ-loop
 returns c =
     let l = c .before .before .before in
     let a = l .before .before .args in
-    sym (l .loop .inv .4 ∙ bytes-differ (a .line .now) (a .at) (l .loop .i) (omega arith) (omega arith) (l .before .column .result) (l .loop .inv .3) (λ q. omega arith))
+    sym (l .loop .inv .4 ∙ bytes-differ five (a .line .now) (a .at) (l .loop .i) (omega arith) (omega arith) (l .before .column .result) (l .loop .inv .3) (λ q. omega arith))
 
 add-i : tie.Need-add-i Inv-loop μ-loop
 add-i c = omega arith
@@ -50,14 +50,14 @@ loop-again c =
       omega arith,
       omega arith,
       l .loop .inv .3,
-      l .loop .inv .4 ∙ bytes-same (a .line .now) (a .at) (l .loop .i) (omega arith) (omega arith) (l .before .column .result) (l .loop .inv .3) (omega arith),
+      l .loop .inv .4 ∙ bytes-same five (a .line .now) (a .at) (l .loop .i) (omega arith) (omega arith) (l .before .column .result) (l .loop .inv .3) (omega arith),
     )
 
 returns-2 : tie.Need-returns-2 Inv-loop μ-loop
 returns-2 c =
     let l = c .before in
     let a = l .before .before .args in
-    sym (l .loop .inv .4 ∙ bytes-over (a .line .now) (a .at) (l .loop .i) (l .before .column .result) (l .loop .inv .3) (omega arith))
+    sym (l .loop .inv .4 ∙ bytes-over five (a .line .now) (a .at) (l .loop .i) (l .before .column .result) (l .loop .inv .3) (omega arith))
 
 pub column-is-spec : {M : Type 1} → statement M
 column-is-spec =

@@ -1,20 +1,20 @@
 -- `number` meets its contract. The loop's invariant: the value is the sum so far and what the columns from i on are worth.
 use mathlib.Core.Path.{_≡_, ap}
 use mathlib.Core.List.{List}
-use Prim.Native.Nat.{ℕ, _+_, _*_, _-_, _≤_, _<_}
+use Prim.Native.Nat.{ℕ, _+_, _*_, _-_, _^_, _≤_, _<_}
 use native.Mathlib.Omega.{arith}
-use lib.ListN.{length, take, drop, getD}
+use lib.ListN.{length, take, drop, getD, drop-of-length-le}
 use borrow.Author.Needs.{needs}
-use Rattle.text.specs.Column.{five, value}
-use Rattle.text.proofs.Laws.{number-next, value-small, no-worth}
+use Rattle.text.specs.Column.{worths, five, lineSize, value}
+use Rattle.text.proofs.Laws.{number-next, value-most}
 use Rattle.text_read.proofs.column.number.Statement.{statement}
 use Rattle.text_read.proofs.column.number.Tie as tie
 
 abbrev Inv-loop : tie.InvT-loop
-Inv-loop line at sum₀ i₀ sum i = (i ≤ 5) × (at + 5 ≤ 16) × (length line ≡ 16) × (value five (take 5 (drop at line)) ≡ sum + value (drop i five) (drop i (take 5 (drop at line))))
+Inv-loop line at sum₀ i₀ sum i = (i ≤ length five) × (at + length five ≤ lineSize five 3) × (length line ≡ lineSize five 3) × (value five (take (length five) (drop at line)) ≡ sum + value (drop i five) (drop i (take (length five) (drop at line))))
 
 abbrev μ-loop : tie.MeasureT-loop
-μ-loop line at sum₀ i₀ sum i = 5 - i
+μ-loop line at sum₀ i₀ sum i = length five - i
 
 loop-holds : tie.Need-loop-holds Inv-loop μ-loop
 loop-holds c = (omega arith, omega arith, omega arith, omega arith)
@@ -37,13 +37,14 @@ digit-of-requires c κs = search needs
 -- in a turn, the sum after it, the rest and the bound of all
 turn : (c : tie.After-digit-of Inv-loop μ-loop)
     → let l = c .before .before .before in
-    let col = take 5 (drop (l .before .args .at) (l .before .args .line .now)) in
-    (value five col ≡ l .loop .sum + getD five (l .loop .i) 0 * c .digit-of .result + value (drop (l .loop .i + 1) five) (drop (l .loop .i + 1) col)) × (value five col < 100000)
+    let col = take (length five) (drop (l .before .args .at) (l .before .args .line .now)) in
+    (value five col ≡ l .loop .sum + getD five (l .loop .i) 0 * c .digit-of .result + value (drop (l .loop .i + 1) five) (drop (l .loop .i + 1) col)) × (value five col < 10 ^ length five)
+unfolding worths
 turn c =
     let l = c .before .before .before in
     let a = l .before .args in
-    let p = number-next (a .line .now) (a .at) (l .loop .i) (omega arith) (omega arith) (c .digit-of .result) (c .digit-of .ensures) in
-    (omega arith, value-small (take 5 (drop (a .at) (a .line .now))))
+    let p = number-next five (a .line .now) (a .at) (l .loop .i) (omega arith) (omega arith) (c .digit-of .result) (c .digit-of .ensures) in
+    (omega arith, value-most (length five) (take (length five) (drop (a .at) (a .line .now))))
 
 mul-sum-2 : tie.Need-mul-sum-2 Inv-loop μ-loop
 mul-sum-2 c = omega (arith, turn c)
@@ -62,7 +63,7 @@ loop-again c = (omega arith, omega arith, omega arith, turn c .0)
 
 returns : tie.Need-returns Inv-loop μ-loop
 unfolding value
-returns c = let l = c .before .loop in omega (arith, l .inv .3, ap (λ (ws : List ℕ). value ws (drop (l .i) (take 5 (drop (c .before .before .args .at) (c .before .before .args .line .now))))) (no-worth (l .i) (omega arith)))
+returns c = let l = c .before .loop in omega (arith, l .inv .3, ap (λ (ws : List ℕ). value ws (drop (l .i) (take (length five) (drop (c .before .before .args .at) (c .before .before .args .line .now))))) (drop-of-length-le five {i = l .i} (omega arith)))
 
 pub number-spec : {M : Type 1} → statement M
 number-spec =

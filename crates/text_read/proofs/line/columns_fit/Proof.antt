@@ -5,13 +5,13 @@ use native.Mathlib.Omega.{arith}
 use lib.ListN.{length, drop, getD}
 use borrow.Author.Tests.{not-true, not-false}
 use lib.Dec.{eqb}
-use Rattle.text.specs.Column.{five, largest, lineFits}
+use Rattle.text.specs.Column.{five, largest, lineSize, lineFits}
 use Rattle.text.proofs.Laws.{line-next, line-last}
 use Rattle.text_read.proofs.line.columns_fit.Statement.{statement}
 use Rattle.text_read.proofs.line.columns_fit.Tie as tie
 
 abbrev Inv-loop : tie.InvT-loop
-Inv-loop copy columns k₀ k = (k ≤ columns) × (columns ≤ 3) × (length copy ≡ 16) × (lineFits five largest columns copy ≡ lineFits five largest (columns - k) (drop (k * 5) copy))
+Inv-loop copy columns k₀ k = (k ≤ columns) × (columns ≤ 3) × (length copy ≡ lineSize five 3) × (lineFits five largest columns copy ≡ lineFits five largest (columns - k) (drop (k * length five) copy))
 
 abbrev μ-loop : tie.MeasureT-loop
 μ-loop copy columns k₀ k = columns - k
@@ -30,7 +30,7 @@ returns c =
     let l = c .before .before .before in
     let a = l .before .args in
     let q = sym (c .before .column-fits .ensures) ∙ not-true _ (c .if1 .taken) in
-    sym (l .loop .inv .3 ∙ line-next (a .copy .now) (a .columns) (l .loop .k) (omega arith) largest ∙ rw q)
+    sym (l .loop .inv .3 ∙ line-next five (a .copy .now) (a .columns) (l .loop .k) (omega arith) largest ∙ rw q)
 
 add-k : tie.Need-add-k Inv-loop μ-loop
 add-k c = omega arith
@@ -43,7 +43,7 @@ loop-again c =
     let l = c .before .before .before in
     let a = l .before .args in
     let q = sym (c .before .column-fits .ensures) ∙ not-false _ (c .if1 .left) in
-    (omega arith, omega arith, omega arith, l .loop .inv .3 ∙ line-next (a .copy .now) (a .columns) (l .loop .k) (omega arith) largest ∙ rw q)
+    (omega arith, omega arith, omega arith, l .loop .inv .3 ∙ line-next five (a .copy .now) (a .columns) (l .loop .k) (omega arith) largest ∙ rw q)
 
 mul-result : tie.Need-mul-result Inv-loop μ-loop
 mul-result c = omega arith
@@ -56,7 +56,7 @@ returns-2 c =
     let l = c .before .before in
     let a = l .before .args in
     let p : a .columns ≡ l .loop .k = omega arith in
-    ap (λ (j : ℕ). eqb (getD (a .copy .now) (j * 5) 0) 10) p ∙ sym (l .loop .inv .3 ∙ line-last (a .copy .now) (a .columns) (l .loop .k) largest (omega arith) (omega arith))
+    ap (λ (j : ℕ). eqb (getD (a .copy .now) (j * length five) 0) 10) p ∙ sym (l .loop .inv .3 ∙ line-last five (a .copy .now) (a .columns) (l .loop .k) largest (omega arith) (omega arith))
 
 pub columns-fit-spec : {M : Type 1} → statement M
 columns-fit-spec =

@@ -18,7 +18,7 @@ sub-if1 : tie.Need-sub-if1
 sub-if1 c = search needs
 
 returns : tie.Need-returns
-returns c = let a = c .before .before .args in (sym (line-short (drop (a .at) (a .text .now)) largest (a .columns) (omega (arith, length-drop (a .at) (a .text .now)))), λ p. cc)
+returns c = let a = c .before .before .args in (sym (line-short five (drop (a .at) (a .text .now)) largest (a .columns) (omega (arith, length-drop (a .at) (a .text .now)))), λ p. cc)
 
 take-line-requires : tie.Need-take-line-requires
 take-line-requires c κs = search needs

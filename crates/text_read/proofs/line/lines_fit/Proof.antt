@@ -1,10 +1,10 @@
 -- `lines_fit` meets its contract. The loop's invariant: the text fits exactly if it does so from the next line on.
 use mathlib.Core.Path.{_≡_, refl, sym, _∙_}
-use Prim.Native.Nat.{_+_, _*_, _≤_}
+use Prim.Native.Nat.{_+_, _≤_}
 use native.Mathlib.Omega.{arith}
 use lib.ListN.{length, drop, length-drop}
 use borrow.Author.Tests.{not-true, not-false}
-use Rattle.text.specs.Column.{five, largest, linesFit}
+use Rattle.text.specs.Column.{five, largest, lineSize, linesFit}
 use Rattle.text.proofs.Laws.{lines-next, lines-last, line-long}
 use Rattle.text_read.proofs.line.lines_fit.Statement.{statement}
 use Rattle.text_read.proofs.line.lines_fit.Tie as tie
@@ -26,12 +26,12 @@ returns c =
     let l = c .before .before .before in
     let a = l .before .before .args in
     let q = sym (c .before .judge-line .ensures .0) ∙ not-true _ (c .if1 .taken) in
-    sym (l .loop .inv .2 ∙ lines-next (a .columns) (l .loop .left) (l .loop .next) (a .text .now) (omega arith) largest ∙ rw q)
+    sym (l .loop .inv .2 ∙ lines-next five (a .columns) (l .loop .left) (l .loop .next) (a .text .now) (omega arith) largest ∙ rw q)
 
 -- a line that fits is there
 room : (c : tie.Else1 Inv-loop μ-loop)
     → let l = c .before .before .before in
-    l .loop .next + (l .before .before .args .columns * 5 + 1) ≤ length (l .before .before .args .text .now)
+    l .loop .next + lineSize five (l .before .before .args .columns) ≤ length (l .before .before .args .text .now)
 room c =
     let l = c .before .before .before in
     let a = l .before .before .args in
@@ -50,13 +50,13 @@ loop-again c =
     let a = l .before .before .args in
     let q = sym (c .before .judge-line .ensures .0) ∙ not-false _ (c .if1 .left) in
     let n = c .before .judge-line .ensures .1 (not-false _ (c .if1 .left)) in
-    (omega (arith, n, room c), omega arith, rw n (l .loop .inv .2 ∙ lines-next (a .columns) (l .loop .left) (l .loop .next) (a .text .now) (omega arith) largest ∙ rw q))
+    (omega (arith, n, room c), omega arith, rw n (l .loop .inv .2 ∙ lines-next five (a .columns) (l .loop .left) (l .loop .next) (a .text .now) (omega arith) largest ∙ rw q))
 
 returns-2 : tie.Need-returns-2 Inv-loop μ-loop
 returns-2 c =
     let l = c .before in
     let a = l .before .before .args in
-    sym (l .loop .inv .2 ∙ lines-last largest (a .columns) (l .loop .left) (l .loop .next) (a .text .now) (omega arith) (omega arith))
+    sym (l .loop .inv .2 ∙ lines-last five largest (a .columns) (l .loop .left) (l .loop .next) (a .text .now) (omega arith) (omega arith))
 
 pub lines-fit-spec : {M : Type 1} → statement M
 lines-fit-spec =

@@ -5,7 +5,7 @@ use Prim.Native.Nat.{_+_, _*_, _-_, _≤_}
 use native.Mathlib.Omega.{arith}
 use lib.ListN.{length, drop, length-drop}
 use lib.Seq.{sets}
-use Rattle.text.specs.Column.{five, largest, linesFit, linesNumbers}
+use Rattle.text.specs.Column.{five, largest, lineSize, linesFit, linesNumbers}
 use Rattle.text.proofs.Laws.{lines-true, store-lines-next, lines-numbers-last, one-less}
 use Rattle.text_read.proofs.line.store_lines.Statement.{statement}
 use Rattle.text_read.proofs.line.store_lines.Tie as tie
@@ -23,18 +23,18 @@ store-line-requires : tie.Need-store-line-requires Inv-loop μ-loop
 store-line-requires c κs =
     let l = c .before .before in
     let a = l .before .before .before .args in
-    let q = lines-true (a .columns) (l .loop .left) (l .loop .next) (a .text .now) (omega arith) largest (l .loop .inv .3) in
+    let q = lines-true five (a .columns) (l .loop .left) (l .loop .next) (a .text .now) (omega arith) largest (l .loop .inv .3) in
     (l .loop .inv .0, omega arith, omega (arith, one-less (a .columns) (l .loop .left) (omega arith)), q .0)
 
 -- the next line's place in the text and in the list
 turn : (c : tie.After-slice-known2 Inv-loop μ-loop)
     → let l = c .before .before .before .before .before in
     let a = l .before .before .before .args in
-    (l .loop .next + (a .columns * 5 + 1) ≤ length (a .text .now)) × (l .loop .to + a .columns + a .columns * (l .loop .left - 1) ≤ length (l .loop .list))
+    (l .loop .next + lineSize five (a .columns) ≤ length (a .text .now)) × (l .loop .to + a .columns + a .columns * (l .loop .left - 1) ≤ length (l .loop .list))
 turn c =
     let l = c .before .before .before .before .before in
     let a = l .before .before .before .args in
-    let q = lines-true (a .columns) (l .loop .left) (l .loop .next) (a .text .now) (omega arith) largest (l .loop .inv .3) in
+    let q = lines-true five (a .columns) (l .loop .left) (l .loop .next) (a .text .now) (omega arith) largest (l .loop .inv .3) in
     (omega (arith, q .2, length-drop (l .loop .next) (a .text .now)), omega (arith, one-less (a .columns) (l .loop .left) (omega arith)))
 
 add-to : tie.Need-add-to Inv-loop μ-loop
@@ -51,20 +51,20 @@ loop-again c =
     let l = c .before .before .before .before .before in
     let a = l .before .before .before .args in
     let w = c .before .before .store-line in
-    let q = lines-true (a .columns) (l .loop .left) (l .loop .next) (a .text .now) (omega arith) largest (l .loop .inv .3) in
+    let q = lines-true five (a .columns) (l .loop .left) (l .loop .next) (a .text .now) (omega arith) largest (l .loop .inv .3) in
     let t = turn c in (
       rw (w .ensures .0) (t .0),
       omega (arith, w .kept .1 .1 .1 .0),
       omega (arith, t .1, w .kept .1 .1 .1 .0),
       rw (w .ensures .0) (q .1),
-      rw (w .ensures .0, w .ensures .1) (sym (store-lines-next (l .loop .list) (a .text .now) (l .loop .to) (l .loop .next) (a .columns) (l .loop .left) (omega arith)) ∙ l .loop .inv .4),
+      rw (w .ensures .0, w .ensures .1) (sym (store-lines-next five (l .loop .list) (a .text .now) (l .loop .to) (l .loop .next) (a .columns) (l .loop .left) (omega arith)) ∙ l .loop .inv .4),
     )
 
 same-length : tie.Need-same-length Inv-loop μ-loop
 same-length c = omega arith
 
 returns : tie.Need-returns Inv-loop μ-loop
-returns c = let l = c .before in let a = l .before .before .before .args in rw (lines-numbers-last (a .columns) (l .loop .left) (drop (l .loop .next) (a .text .now)) (omega arith)) at (l .loop .inv .4)
+returns c = let l = c .before in let a = l .before .before .before .args in rw (lines-numbers-last five (a .columns) (l .loop .left) (drop (l .loop .next) (a .text .now)) (omega arith)) at (l .loop .inv .4)
 
 pub store-lines-spec : {M : Type 1} → statement M
 store-lines-spec =

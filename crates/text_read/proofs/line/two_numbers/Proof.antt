@@ -17,7 +17,7 @@ cast-t7 : tie.Need-cast-t7
 cast-t7 c =
     let s = c .before .before .before in
     let a = s .before .before .args in
-    let q = pair-true (s .take-line .result .bytes) (drop (a .at) (a .text .now)) (s .take-line .ensures .0) largest (s .before .before .pre .1) in
+    let q = pair-true five (s .take-line .result .bytes) (drop (a .at) (a .text .now)) (s .take-line .ensures .0) largest (s .before .before .pre .1) in
     omega (arith, c .number .ensures, q .0)
 
 number-requires-2 : tie.Need-number-requires-2
@@ -27,7 +27,7 @@ cast-t10 : tie.Need-cast-t10
 cast-t10 c =
     let s = c .before .before .before .before .before .before in
     let a = s .before .before .args in
-    let q = pair-true (s .take-line .result .bytes) (drop (a .at) (a .text .now)) (s .take-line .ensures .0) largest (s .before .before .pre .1) in
+    let q = pair-true five (s .take-line .result .bytes) (drop (a .at) (a .text .now)) (s .take-line .ensures .0) largest (s .before .before .pre .1) in
     omega (arith, c .number2 .ensures, q .1)
 
 returns : tie.Need-returns
@@ -35,8 +35,8 @@ returns c =
     let s = c .before .before .before .before .before .before in
     let a = s .before .before .args in
     let p = s .take-line .ensures .0 in (
-      c .before .before .before .number .ensures ∙ first-copied (s .take-line .result .bytes) (drop (a .at) (a .text .now)) p,
-      c .number2 .ensures ∙ second-copied (s .take-line .result .bytes) (drop (a .at) (a .text .now)) p,
+      c .before .before .before .number .ensures ∙ first-copied five (s .take-line .result .bytes) (drop (a .at) (a .text .now)) p,
+      c .number2 .ensures ∙ second-copied five (s .take-line .result .bytes) (drop (a .at) (a .text .now)) p,
       s .take-line .ensures .2,
     )
 

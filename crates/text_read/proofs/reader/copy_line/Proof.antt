@@ -3,12 +3,13 @@ use mathlib.Core.Path.{_≡_, refl}
 use Prim.Native.Nat.{_-_, _≤_}
 use native.Mathlib.Omega.{arith}
 use lib.ListN.{length, take, drop, length-set}
+use Rattle.text.specs.Column.{five, lineSize}
 use Rattle.text.proofs.Laws.{copy-next}
 use Rattle.text_read.proofs.reader.copy_line.Statement.{statement}
 use Rattle.text_read.proofs.reader.copy_line.Tie as tie
 
 abbrev Inv-loop : tie.InvT-loop
-Inv-loop text at size copy₀ i₀ copy i = (i ≤ size) × (length copy ≡ 16) × (take i copy ≡ take i (drop at text))
+Inv-loop text at size copy₀ i₀ copy i = (i ≤ size) × (length copy ≡ lineSize five 3) × (take i copy ≡ take i (drop at text))
 
 abbrev μ-loop : tie.MeasureT-loop
 μ-loop text at size copy₀ i₀ copy i = size - i

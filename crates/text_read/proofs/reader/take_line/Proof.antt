@@ -41,6 +41,7 @@ use denote.Triple.Table.{entered, cited}
 use denote.Triple.Walked.{says, needs, Stays, stay-none, stay-none-slice, walkOf, goes-none, goes-none-slice, Walks, ends-at, walked, walk-meets}
 use denote.Exit.{yes}
 use denote.Triple.Clauses.{ensured, lasts}
+use Rattle.text.specs.Column.{five, lineSize}
 use Rattle.text_read.specs.declared.reader.Reader.{Reader}
 use Rattle.text_read.specs.declared.reader.Line.{Line}
 use Rattle.text_read.proofs.reader.Reader as T
@@ -62,7 +63,7 @@ use Rattle.text_read.proofs.reader.take_line.Code as code
 
 -- the type of a line's copy
 abbrev Copied : RattleType
-Copied = Array u8 16
+Copied = Array u8 (lineSize five 3)
 
 abbrev stayed : Stays (take-line.ended .signature .params) (take-line.ended .kept)
 stayed = (stay-none-slice (0 ∷ []) tt (plain (λ _. u8)) yes, (stay-none (λ _. usize) yes, (stay-none (λ _. usize) yes, tt)))
@@ -75,7 +76,7 @@ module _ {M : Type 1} (𝓤 : URA M) (H : Heap 𝓤) (A : Atoms 𝓤) (mem : Mem
   abbrev Moving : Contract 𝓤
   Moving = tripleOf 𝓤 H A behind.signature (behind.spec 𝓤 H A mem run)
 
-module _ {M : Type 1} (𝓤 : URA M) (H : Heap 𝓤) (A : Atoms 𝓤) (W : Given 𝓤 H A) (mem : Memory → SProp 𝓤) (run : Routine → Fun 𝓤) (κ : Lft) (q : Share) (s : RefT (List ℕ)) (a n : ℕ) (a-fits : a < 2 ^ 64) (n-fits : n < 2 ^ 64) (within : (a + n ≤ length (now s)) × (n ≤ 16)) where
+module _ {M : Type 1} (𝓤 : URA M) (H : Heap 𝓤) (A : Atoms 𝓤) (W : Given 𝓤 H A) (mem : Memory → SProp 𝓤) (run : Routine → Fun 𝓤) (κ : Lft) (q : Share) (s : RefT (List ℕ)) (a n : ℕ) (a-fits : a < 2 ^ 64) (n-fits : n < 2 ^ 64) (within : (a + n ≤ length (now s)) × (n ≤ lineSize five 3)) where
   abbrev α : NamedLft
   α = namedLft 1 0 tt (κ, tt)
 
@@ -101,7 +102,7 @@ module _ {M : Type 1} (𝓤 : URA M) (H : Heap 𝓤) (A : Atoms 𝓤) (W : Given
   taken r = record { bytes = r; next = a + n }
 
   abbrev Copies : List ℕ → Type 0
-  Copies r = (take n r ≡ take n (past a (now s))) × (length r ≡ 16)
+  Copies r = (take n r ≡ take n (past a (now s))) × (length r ≡ lineSize five 3)
 
   abbrev Moved : Reader → Type 0
   Moved r = (r .text ≡ s) × (r .at ≡ a + n)
@@ -185,7 +186,7 @@ module _ {M : Type 1} (𝓤 : URA M) (H : Heap 𝓤) (A : Atoms 𝓤) (W : Given
         use1 W (later (some (λ (r : List ℕ). ((‵ (flft κ q) ⊛ ‵ ftrue) ⊛ ‵ (Copied .own r (u ∷ []))) ⊛ raw (ensured 𝓤 H A line.ended (line.clauses 𝓤 H A mem run) (κ, tt) (d, (n, tt)) tt r)))) (id⊢ 𝓤 _) $ await ! tt $ pick ! (λ r.
         split ! $ move ! (1 ∷ []) $ use1 W (raw (fact 𝓤 (Copies r))) (line-said r) $ heard ! (Copies r) (λ e. split ! $ move ! (1 ∷ []) $
         peeks ! Copied (Is Copied) (shows 𝓤 H A Copied) r (u ∷ []) (λ is.
-        land ! (from ! (stop !)) (init ! 11 refl (array-lawful 𝓤 H A W u8 (uint-lawful 𝓤 H A W w8) 16 .typed r _ is .0)) $ drop ! $
+        land ! (from ! (stop !)) (init ! 11 refl (array-lawful 𝓤 H A W u8 (uint-lawful 𝓤 H A W w8) (lineSize five 3) .typed r _ is .0)) $ drop ! $
         -- the reader is passed to `behind`
         -- [the token; what the reader and the text own; _9; …; _8; …; _7; …; _6; …; _5; …; _4; …; _3; …; _2; …; _1; …; room for _0; …]
         assigns ! (of-opd ! (load ! (from ! (stop !)) (look ! 12 refl))) (from ! (stop !)) (init ! 4 refl (tt, (wt .1, (record { fits = a-fits }, tt)))) $

@@ -12,10 +12,10 @@ use Rattle.text_write.proofs.line.write_column.Statement.{statement}
 use Rattle.text_write.proofs.line.write_column.Tie as tie
 
 abbrev Inv-loop : tie.InvT-loop
-Inv-loop text₀ at x bytes i₀ text i = (i ≤ 5) × (length bytes ≡ 5) × (length text ≡ length text₀) × (at + 5 ≤ length text) × (sets text (at + i) (drop i bytes) ≡ sets text₀ at (column five x))
+Inv-loop text₀ at x bytes i₀ text i = (i ≤ length five) × (length bytes ≡ length five) × (length text ≡ length text₀) × (at + length five ≤ length text) × (sets text (at + i) (drop i bytes) ≡ sets text₀ at (column five x))
 
 abbrev μ-loop : tie.MeasureT-loop
-μ-loop text₀ at x bytes i₀ text i = 5 - i
+μ-loop text₀ at x bytes i₀ text i = length five - i
 
 column-requires : tie.Need-column-requires Inv-loop μ-loop
 column-requires c κs = search needs

@@ -10,7 +10,7 @@ use Rattle.text_write.proofs.line.write_line.Statement.{statement}
 use Rattle.text_write.proofs.line.write_line.Tie as tie
 
 abbrev Inv-loop : tie.InvT-loop
-Inv-loop list from columns text₀ at k₀ text k = (k ≤ columns) × (length text ≡ length text₀) × (sets text (at + k * 5) (line five (take (columns - k) (drop (from + k) list))) ≡ sets text₀ at (line five (take columns (drop from list))))
+Inv-loop list from columns text₀ at k₀ text k = (k ≤ columns) × (length text ≡ length text₀) × (sets text (at + k * length five) (line five (take (columns - k) (drop (from + k) list))) ≡ sets text₀ at (line five (take columns (drop from list))))
 
 abbrev μ-loop : tie.MeasureT-loop
 μ-loop list from columns text₀ at k₀ text k = columns - k
@@ -38,9 +38,6 @@ mul-write-column-2 c = omega arith
 shared-slice-read-write-column : tie.Need-shared-slice-read-write-column Inv-loop μ-loop
 shared-slice-read-write-column c = omega arith
 
-cast-write-column : tie.Need-cast-write-column Inv-loop μ-loop
-cast-write-column c = let l = c .before .before .before in omega (arith, c .shared-slice-known2 .given (l .before .before .before .args .from + l .loop .k))
-
 write-column-requires : tie.Need-write-column-requires Inv-loop μ-loop
 write-column-requires c κs = omega arith
 
@@ -57,7 +54,7 @@ loop-again c =
     let w = c .before .before .write-column in (
       omega arith,
       omega (arith, w .kept .0),
-      rw (w .ensures) (sym (write-next (l .loop .text) (a .list .now) (a .at) (a .from) (a .columns) (l .loop .k) (omega arith) (omega arith)) ∙ l .loop .inv .2),
+      rw (w .ensures) (sym (write-next five (l .loop .text) (a .list .now) (a .at) (a .from) (a .columns) (l .loop .k) (omega arith) (omega arith)) ∙ l .loop .inv .2),
     )
 
 mul-text : tie.Need-mul-text Inv-loop μ-loop
@@ -77,8 +74,8 @@ returns c =
     let l = c .before in
     let a = l .before .before .before .args in
     let p : a .columns ≡ l .loop .k = omega arith in
-    ap (λ (j : ℕ). set (l .loop .text) (a .at + j * 5) 10) p
-    ∙ sym (write-last (l .loop .text) (drop (a .from + l .loop .k) (a .list .now)) (a .at + l .loop .k * 5) (a .columns) (l .loop .k) (omega arith))
+    ap (λ (j : ℕ). set (l .loop .text) (a .at + j * length five) 10) p
+    ∙ sym (write-last five (l .loop .text) (drop (a .from + l .loop .k) (a .list .now)) (a .at + l .loop .k * length five) (a .columns) (l .loop .k) (omega arith))
     ∙ l .loop .inv .2
 
 pub write-line-spec : {M : Type 1} → statement M
@@ -93,7 +90,6 @@ write-line-spec =
     add-write-column-2
     mul-write-column-2
     shared-slice-read-write-column
-    cast-write-column
     write-column-requires
     add-k
     loop-less

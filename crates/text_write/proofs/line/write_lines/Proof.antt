@@ -4,13 +4,13 @@ use Prim.Native.Nat.{_+_, _*_, _-_, _≤_}
 use native.Mathlib.Omega.{arith}
 use lib.ListN.{length, drop}
 use lib.Seq.{sets}
-use Rattle.text.specs.Column.{five, lines}
+use Rattle.text.specs.Column.{five, lines, lineSize}
 use Rattle.text.proofs.Laws.{write-lines-next, write-lines-last, one-less, less-one}
 use Rattle.text_write.proofs.line.write_lines.Statement.{statement}
 use Rattle.text_write.proofs.line.write_lines.Tie as tie
 
 abbrev Inv-loop : tie.InvT-loop
-Inv-loop list columns count text₀ at next₀ from₀ left₀ text next from left = (length text ≡ length text₀) × (from + columns * left ≤ length list) × (next + left * (columns * 5 + 1) ≤ length text) × (sets text next (lines five columns left (drop from list)) ≡ sets text₀ at (lines five columns count list))
+Inv-loop list columns count text₀ at next₀ from₀ left₀ text next from left = (length text ≡ length text₀) × (from + columns * left ≤ length list) × (next + left * lineSize five columns ≤ length text) × (sets text next (lines five columns left (drop from list)) ≡ sets text₀ at (lines five columns count list))
 
 abbrev μ-loop : tie.MeasureT-loop
 μ-loop list columns count text₀ at next₀ from₀ left₀ text next from left = left
@@ -22,17 +22,17 @@ write-line-requires : tie.Need-write-line-requires Inv-loop μ-loop
 write-line-requires c κs =
     let l = c .before .before in
     let a = l .before .before .before .args in
-    omega (arith, one-less (a .columns) (l .loop .left) (omega arith), less-one (a .columns * 5 + 1) (l .loop .left) (omega arith))
+    omega (arith, one-less (a .columns) (l .loop .left) (omega arith), less-one (lineSize five (a .columns)) (l .loop .left) (omega arith))
 
 -- the next line's place in the list and in the text
 turn : (c : tie.After-slice-known2 Inv-loop μ-loop)
     → let l = c .before .before .before .before .before in
     let a = l .before .before .before .args in
-    (l .loop .from + a .columns + a .columns * (l .loop .left - 1) ≤ length (a .list .now)) × (l .loop .next + (a .columns * 5 + 1) + (l .loop .left - 1) * (a .columns * 5 + 1) ≤ length (l .loop .text))
+    (l .loop .from + a .columns + a .columns * (l .loop .left - 1) ≤ length (a .list .now)) × (l .loop .next + lineSize five (a .columns) + (l .loop .left - 1) * lineSize five (a .columns) ≤ length (l .loop .text))
 turn c =
     let l = c .before .before .before .before .before in
     let a = l .before .before .before .args in
-    (omega (arith, one-less (a .columns) (l .loop .left) (omega arith)), omega (arith, less-one (a .columns * 5 + 1) (l .loop .left) (omega arith)))
+    (omega (arith, one-less (a .columns) (l .loop .left) (omega arith)), omega (arith, less-one (lineSize five (a .columns)) (l .loop .left) (omega arith)))
 
 mul-next : tie.Need-mul-next Inv-loop μ-loop
 mul-next c = omega arith
@@ -61,14 +61,14 @@ loop-again c =
       omega (arith, w .kept .1 .1 .1 .0),
       t .0,
       omega (arith, t .1, w .kept .1 .1 .1 .0),
-      rw (w .ensures) (sym (write-lines-next (l .loop .text) (a .list .now) (l .loop .next) (l .loop .from) (a .columns) (l .loop .left) (omega arith) (omega (arith, t .0))) ∙ l .loop .inv .3),
+      rw (w .ensures) (sym (write-lines-next five (l .loop .text) (a .list .now) (l .loop .next) (l .loop .from) (a .columns) (l .loop .left) (omega arith) (omega (arith, t .0))) ∙ l .loop .inv .3),
     )
 
 same-length : tie.Need-same-length Inv-loop μ-loop
 same-length c = omega arith
 
 returns : tie.Need-returns Inv-loop μ-loop
-returns c = let l = c .before in let a = l .before .before .before .args in rw (write-lines-last (a .columns) (l .loop .left) (drop (l .loop .from) (a .list .now)) (omega arith)) at (l .loop .inv .3)
+returns c = let l = c .before in let a = l .before .before .before .args in rw (write-lines-last five (a .columns) (l .loop .left) (drop (l .loop .from) (a .list .now)) (omega arith)) at (l .loop .inv .3)
 
 pub write-lines-spec : {M : Type 1} → statement M
 write-lines-spec =

@@ -5,6 +5,7 @@ use mathlib.Core.Bool.{Bool, true, false}
 use Prim.Native.Nat.{ℕ, _-_, _≤_, _*_, _+_, _<_}
 use native.Mathlib.Omega.{arith}
 use lib.ListN.{length, length-replicate}
+use Rattle.connectivity.specs.Plan.{plan, limits}
 use Rattle.graph.specs.Admission.{toldBy}
 use Rattle.verify_firm.specs.Marks.{Ready}
 use Rattle.verify_firm.proofs.Tests.{all-same}
@@ -13,14 +14,14 @@ use Rattle.verify_firm.proofs.firm.judge_rows.Statement.{statement}
 use Rattle.verify_firm.proofs.firm.judge_rows.Tie as tie
 
 abbrev Inv-loop : tie.InvT-loop
-Inv-loop vertices ends edges list used₀ state₀ row₀ used state row = (row ≤ edges) × Judged vertices ends list used state row
+Inv-loop vertices ends edges list used₀ state₀ row₀ used state row = (row ≤ edges) × Judged limits (plan vertices ends) list used state row
 
 abbrev μ-loop : tie.MeasureT-loop
 μ-loop vertices ends edges list used₀ state₀ row₀ used state row = edges - row
 
 -- what a turn begins with
 abbrev ready : (c : tie.In-loop Inv-loop μ-loop) → let a = c .before .before .before .before .before .args in let l = c .before .loop in
-    Ready (a .ends .now) (l .used) (a .list .now) (l .row) (l .state)
+    Ready limits (a .ends .now) (l .used) (a .list .now) (l .row) (l .state)
 ready c =
     let p = c .before .before .before .before .before .pre in
     let j = c .before .loop .inv .1 in
@@ -46,7 +47,7 @@ new-requires : tie.Need-new-requires Inv-loop μ-loop
 new-requires c κs = search needs
 
 loop-holds : tie.Need-loop-holds Inv-loop μ-loop
-loop-holds c = (omega arith, judged-start (c .new .ensures _ _ _ _ (length-replicate {A = Bool} 4000 false) (λ e. all-same 4000 e false)))
+loop-holds c = (omega arith, judged-start (c .new .ensures _ _ _ _ (length-replicate {A = Bool} (limits .edges) false) (λ e. all-same (limits .edges) e false)))
 
 is-last-requires : tie.Need-is-last-requires Inv-loop μ-loop
 is-last-requires c κs = (c .loop-test .taken, c .before .before .before .before .before .pre .2)
@@ -57,14 +58,11 @@ slice-aggregate-step c = search needs
 step-requires : tie.Need-step-requires Inv-loop μ-loop
 step-requires c κs = ready (c .before .before)
 
-answer-requires : tie.Need-answer-requires Inv-loop μ-loop
-answer-requires c κs = search needs
-
 returns : tie.Need-returns Inv-loop μ-loop
 returns c =
-    let u = c .before .before in
-    let i = u .before .before .before .before in
-    c .answer .ensures ∙ sym (ap toldBy (judged-stop (i .before .loop .inv .1) (read i) (u .before .step .result) (u .before .before .before .is-last .ensures) (u .before .step .ensures (ready i)) (c .before .if1 .taken)))
+    let s = c .before .before .before in
+    let i = s .before .before .before in
+    judged-stop (i .before .loop .inv .1) (read i) (s .step .result) (s .before .before .is-last .ensures) (s .step .ensures (ready i)) (c .if1 .taken)
 
 add-row : tie.Need-add-row Inv-loop μ-loop
 add-row c = search needs
@@ -74,28 +72,30 @@ loop-less c = search needs
 
 loop-again : tie.Need-loop-again Inv-loop μ-loop
 loop-again c =
-    let u = c .before in
-    let i = u .before .before .before .before in
-    (omega (arith, i .loop-test .taken), judged-next (i .before .loop .inv .1) (read i) (u .before .step .result) (u .before .before .before .is-last .ensures) (u .before .step .ensures (ready i)) (c .if1 .left))
+    let s = c .before .before .before .before in
+    let i = s .before .before .before in (
+      omega (arith, i .loop-test .taken),
+      judged-next (i .before .loop .inv .1) (read i) (s .step .result) (s .before .before .is-last .ensures) (s .step .ensures (ready i)) (c .before .if1 .left),
+    )
 
 closed-requires : tie.Need-closed-requires Inv-loop μ-loop
 closed-requires c κs = let l = c .before .before .before .before in omega (arith, l .loop .inv .1 .represents .holds .marks-length, l .before .before .before .before .pre .1 .vertices)
 
-answer-requires-2 : tie.Need-answer-requires-2 Inv-loop μ-loop
-answer-requires-2 c κs = search needs
+answer-requires : tie.Need-answer-requires Inv-loop μ-loop
+answer-requires c κs = search needs
 
 returns-2 : tie.Need-returns-2 Inv-loop μ-loop
 returns-2 c =
     let l = c .before .before .before .before .before .before in
-    c .answer2 .ensures ∙ sym (ap toldBy (judged-passes (l .before .loop .inv .1) (over l) (l .before .before .before .before .before .pre .1 .vertices) (rw (c .before .if2 .taken) at (c .before .before .closed .ensures))))
+    c .answer .ensures ∙ sym (ap toldBy (judged-passes (l .before .loop .inv .1) (over l) (l .before .before .before .before .before .pre .1 .vertices) (rw (c .before .if2 .taken) at (c .before .before .closed .ensures))))
 
-answer-requires-3 : tie.Need-answer-requires-3 Inv-loop μ-loop
-answer-requires-3 c κs = search needs
+answer-requires-2 : tie.Need-answer-requires-2 Inv-loop μ-loop
+answer-requires-2 c κs = search needs
 
 returns-3 : tie.Need-returns-3 Inv-loop μ-loop
 returns-3 c =
     let l = c .before .before .before .before .before .before in
-    c .answer3 .ensures ∙ sym (ap toldBy (judged-fails (l .before .loop .inv .1) (over l) (l .before .before .before .before .before .pre .1 .vertices) (rw (c .before .if2 .left) at (c .before .before .closed .ensures))))
+    c .answer2 .ensures ∙ sym (ap toldBy (judged-fails (l .before .loop .inv .1) (over l) (l .before .before .before .before .before .pre .1 .vertices) (rw (c .before .if2 .left) at (c .before .before .closed .ensures))))
 
 pub judge-rows-spec : {M : Type 1} → statement M
 judge-rows-spec =
@@ -108,13 +108,12 @@ judge-rows-spec =
     is-last-requires
     slice-aggregate-step
     step-requires
-    answer-requires
     returns
     add-row
     loop-less
     loop-again
     closed-requires
-    answer-requires-2
+    answer-requires
     returns-2
-    answer-requires-3
+    answer-requires-2
     returns-3)

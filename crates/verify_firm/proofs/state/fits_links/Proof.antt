@@ -4,6 +4,7 @@ use mathlib.Core.Logic.{inl, inr}
 use Prim.Native.Nat.{ℕ, _+_, _-_, _≤_}
 use native.Mathlib.Omega.{arith}
 use borrow.Author.Needs.{needs}
+use Rattle.connectivity.specs.Plan.{limits}
 use Rattle.verify_firm.specs.Marks.{RowsFit}
 use Rattle.verify_firm.proofs.Tests.{tells-with, joined-swap, links}
 use Rattle.verify_firm.proofs.state.fits_links.Statement.{statement}
@@ -35,21 +36,21 @@ returns-2 c = inl (inr (c .if2 .taken))
 
 -- the rows that the marks tell
 from-row : (c : tie.Else2) → let s = c .before .before .before .before .before .before in
-    (1 ≤ s .args .from) × RowsFit (s .args .degree .now) (s .args .list .now) (s .args .from - 1 + 1)
+    (1 ≤ s .args .from) × RowsFit limits (s .args .degree .now) (s .args .list .now) (s .args .from - 1 + 1)
 from-row c =
     let e = c .before .before in
     let s = e .before .before .before .before in
     let r = s .pre .start-row (e .if1 .left) in
     let p : s .args .from ≡ s .args .from - 1 + 1 = omega (arith, r .0) in
-    (r .0, subst (RowsFit (s .args .degree .now) (s .args .list .now)) p (r .1))
+    (r .0, subst (RowsFit limits (s .args .degree .now) (s .args .list .now)) p (r .1))
 
 to-row : (c : tie.Else2) → let s = c .before .before .before .before .before .before in
-    (1 ≤ s .args .to) × RowsFit (s .args .degree .now) (s .args .list .now) (s .args .to - 1 + 1)
+    (1 ≤ s .args .to) × RowsFit limits (s .args .degree .now) (s .args .list .now) (s .args .to - 1 + 1)
 to-row c =
     let s = c .before .before .before .before .before .before in
     let r = s .pre .at-row (c .if2 .left) in
     let p : s .args .to ≡ s .args .to - 1 + 1 = omega (arith, r .0) in
-    (r .0, subst (RowsFit (s .args .degree .now) (s .args .list .now)) p (r .1))
+    (r .0, subst (RowsFit limits (s .args .degree .now) (s .args .list .now)) p (r .1))
 
 sub-apart : tie.Need-sub-apart
 sub-apart c = omega (arith, from-row (c .before) .0)

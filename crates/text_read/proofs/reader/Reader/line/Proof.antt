@@ -42,6 +42,7 @@ use denote.Triple.Table.{entered, cited}
 use denote.Triple.Walked.{says, needs, Stays, stay-none, walkOf, goes-none, Walks, ends-at, walked, walk-meets}
 use denote.Exit.{yes}
 use denote.Triple.Clauses.{ensured, lasts}
+use Rattle.text.specs.Column.{five, lineSize}
 use Rattle.text_read.specs.declared.reader.Reader.{Reader}
 use Rattle.text_read.proofs.reader.Reader as T
 use Rattle.text_read.proofs.reader.Reader.Laws as T′
@@ -60,7 +61,7 @@ B κs = T.the-row (namedLft 1 0 tt κs)
 
 -- the type of a line's copy
 abbrev Copied : RattleType
-Copied = Array u8 16
+Copied = Array u8 (lineSize five 3)
 
 abbrev stayed : Stays (line.ended .signature .params) (line.ended .kept)
 stayed = (stay-none B yes, (stay-none (λ _. usize) yes, tt))
@@ -70,7 +71,7 @@ module _ {M : Type 1} (𝓤 : URA M) (H : Heap 𝓤) (A : Atoms 𝓤) (mem : Mem
   abbrev CopyLine : Contract 𝓤
   CopyLine = tripleOf 𝓤 H A copy.signature (copy.spec 𝓤 H A mem run)
 
-module _ {M : Type 1} (𝓤 : URA M) (H : Heap 𝓤) (A : Atoms 𝓤) (W : Given 𝓤 H A) (mem : Memory → SProp 𝓤) (run : Routine → Fun 𝓤) (κ : Lft) (q : Share) (d : Reader) (n : ℕ) (n-fits : n < 2 ^ 64) (within : (d .at + n ≤ length (now (d .text))) × (n ≤ 16)) where
+module _ {M : Type 1} (𝓤 : URA M) (H : Heap 𝓤) (A : Atoms 𝓤) (W : Given 𝓤 H A) (mem : Memory → SProp 𝓤) (run : Routine → Fun 𝓤) (κ : Lft) (q : Share) (d : Reader) (n : ℕ) (n-fits : n < 2 ^ 64) (within : (d .at + n ≤ length (now (d .text))) × (n ≤ lineSize five 3)) where
   abbrev mach : Val
   mach = T′.lowered d
 
@@ -83,7 +84,7 @@ module _ {M : Type 1} (𝓤 : URA M) (H : Heap 𝓤) (A : Atoms 𝓤) (W : Given
 
   -- the list is a copy of the line
   abbrev Copies : List ℕ → Type 0
-  Copies r = (take n r ≡ take n (past (d .at) (now (d .text)))) × (length r ≡ 16)
+  Copies r = (take n r ≡ take n (past (d .at) (now (d .text)))) × (length r ≡ lineSize five 3)
 
   abbrev Post : Val → SProp 𝓤
   Post = walkOf 𝓤 H A line.ended stayed (line.clauses 𝓤 H A mem run) .post (((κ, tt), (q, tt), tt, (d, (n, tt)), at), tt)
@@ -145,7 +146,7 @@ module _ {M : Type 1} (𝓤 : URA M) (H : Heap 𝓤) (A : Atoms 𝓤) (W : Given
         split ! $ move ! (1 ∷ []) $ use1 W (raw (fact 𝓤 (Copies r))) (said r) $ heard ! (Copies r) (λ e. split ! $ move ! (1 ∷ []) $
         -- [the result; the token; what the struct owns; _4; …; _3; …; _2; …; _1; …; room for _0; …]
         peeks ! Copied (Is Copied) (shows 𝓤 H A Copied) r (u ∷ []) (λ is.
-        land ! (from ! (stop !)) (init ! 11 refl (array-lawful 𝓤 H A W u8 (uint-lawful 𝓤 H A W w8) 16 .typed r _ is .0)) $
+        land ! (from ! (stop !)) (init ! 11 refl (array-lawful 𝓤 H A W u8 (uint-lawful 𝓤 H A W w8) (lineSize five 3) .typed r _ is .0)) $
         returns ! (look ! 11 refl) $ forget ! 3 refl $ forget ! 5 refl $ forget ! 7 refl $ forget ! 9 refl $ forget ! 11 refl $
         move ! (11 ∷ 12 ∷ []) $ free1 ! $ move ! (9 ∷ 10 ∷ []) $ free1 ! $ move ! (7 ∷ 8 ∷ []) $ free1 ! $ move ! (5 ∷ 6 ∷ []) $ free1 ! $ move ! (3 ∷ 4 ∷ []) $ free1 ! $ free0 ! $ by ! (exits r u e))))))))))
 

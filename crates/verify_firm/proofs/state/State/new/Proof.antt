@@ -8,30 +8,31 @@ use native.Mathlib.Omega.{arith}
 use lib.ListN.{getD, replicate, length-replicate}
 use borrow.Author.Needs.{needs}
 use Rattle.connectivity.specs.Lists.{Distinct, mem}
-use Rattle.connectivity.specs.Graph.{Graph, graphOf, always}
+use Rattle.connectivity.specs.Plan.{plan, graph, limits}
+use Rattle.connectivity.specs.Graph.{Graph}
 use Rattle.verify_firm.specs.declared.state.Run.{Run}
 use Rattle.verify_firm.specs.Marks.{Lies, nothing, Holds}
 use Rattle.verify_firm.proofs.Tests.{all-same}
 use Rattle.verify_firm.proofs.state.State.new.Statement.{statement}
 use Rattle.verify_firm.proofs.state.State.new.Tie as tie
 
-zero-mark : (v : ℕ) → getD (replicate {A = ℕ} 1000 0) v 0 ≡ 0
-zero-mark v = all-same 1000 v 0
+zero-mark : (v : ℕ) → getD (replicate {A = ℕ} (limits .vertices) 0) v 0 ≡ 0
+zero-mark v = all-same (limits .vertices) v 0
 
 empty : (g : Graph) (list : List ℕ) (run : Run) → run ≡ record { first = 0; start = 0; at = 0; fresh = true }
-    → Holds g list [] [] 0 (replicate {A = ℕ} 1000 0) (replicate {A = ℕ} 1000 0) 0 run 0 0
+    → Holds limits g list [] [] 0 (replicate {A = ℕ} (limits .vertices) 0) (replicate {A = ℕ} (limits .vertices) 0) 0 run 0 0
 empty g list run p =
-    subst (λ (x : Run). Holds g list [] [] 0 (replicate {A = ℕ} 1000 0) (replicate {A = ℕ} 1000 0) 0 x 0 0) (sym p) record {
-      marks-length = length-replicate {A = ℕ} 1000 0;
-      left-length = length-replicate {A = ℕ} 1000 0;
+    subst (λ (x : Run). Holds limits g list [] [] 0 (replicate {A = ℕ} (limits .vertices) 0) (replicate {A = ℕ} (limits .vertices) 0) 0 x 0 0) (sym p) record {
+      marks-length = length-replicate {A = ℕ} (limits .vertices) 0;
+      left-length = length-replicate {A = ℕ} (limits .vertices) 0;
       degrees = λ v h. zero-mark v;
       few = λ v. omega (arith, zero-mark v);
       steps-done = refl;
       laid = nothing;
-      lies = Lies.none;
-      once = Distinct.none;
+      lies = Lies.no-row;
+      once = Distinct.no-member;
       walks = λ h. absurd (omega (arith, h));
-      fresh = record { once = Distinct.none; new = λ v i. absurd (not-in i) };
+      fresh = record { once = Distinct.no-member; new = λ v i. absurd (not-in i) };
       lefts = λ q. record { mark = λ k h. absurd (omega (arith, h)); found = λ v. inl (zero-mark v) };
       stands = record {
         between = λ h. absurd (omega (arith, h));
@@ -50,7 +51,7 @@ begins-requires c κs = search needs
 
 returns : tie.Need-returns
 returns c n ends list used long clear =
-    record { used-length = long; marked = λ e h. clear e ∙ sym (none-used e); holds = empty (graphOf n always ends) list (c .begins .result) (c .begins .ensures) }
+    record { used-length = long; marked = λ e h. clear e ∙ sym (none-used e); holds = empty (graph (plan n ends)) list (c .begins .result) (c .begins .ensures) }
 
 pub new-spec : {M : Type 1} → statement M
 new-spec = tie.close (tie.spec begins-requires returns)

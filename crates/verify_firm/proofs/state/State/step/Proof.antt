@@ -5,6 +5,7 @@ use Prim.Native.Nat.{_/_, _<_, _≤_}
 use native.Mathlib.Omega.{arith}
 use lib.ListN.{length, getD}
 use borrow.Author.Tests.{not-true, not-false}
+use Rattle.connectivity.specs.Plan.{limits}
 use Rattle.verify_firm.specs.Marks.{rowAt, edgeAt, fromAt, rowMark, Whole}
 use Rattle.verify_firm.proofs.Turns.{steps-few, stops-own, edge-below, from-below, goes-on, whole, told-number, stops-whole, rows-ready, passes}
 use Rattle.verify_firm.proofs.Ending.{whole-below}
@@ -18,13 +19,13 @@ zero c = sym (c .before .row-number .ensures) ∙ c .if1 .left
 edge : (c : tie.Else1) → let a = c .before .before .before .before .before .before .before .before .before .before .args in edgeAt (a .list .now) (a .row) < length (a .ends .now) / 2
 edge c = edge-below (c .before .before .before .before .before .before .before .before .before .before .pre) (zero c)
 
-from : (c : tie.Else1) → let a = c .before .before .before .before .before .before .before .before .before .before .args in fromAt (a .list .now) (a .row) < 1000
+from : (c : tie.Else1) → let a = c .before .before .before .before .before .before .before .before .before .before .args in fromAt (a .list .now) (a .row) < limits .vertices
 from c = from-below (c .before .before .before .before .before .before .before .before .before .before .pre) (zero c)
 
 -- the step is whole: what its test and its marks are read from
 ready : (g : tie.After-go-on) → let a = g .before .before .before .before .before .before .before .before .before .before .before .before .before .before .args in
     let n = g .go-on .result in
-    Whole (a .t1 .degree) (a .list .now) (a .t1 .steps) n (a .t1 .low) (a .t1 .high) (getD (g .go-on .last .1 .1 .1 .1 .1 .0) (n .start) 0) (getD (g .go-on .last .1 .1 .1 .1 .1 .0) (n .at) 0)
+    Whole limits (a .t1 .degree) (a .list .now) (a .t1 .steps) n (a .t1 .low) (a .t1 .high) (getD (g .go-on .last .1 .1 .1 .1 .1 .0) (n .start) 0) (getD (g .go-on .last .1 .1 .1 .1 .1 .0) (n .at) 0)
 ready g = whole (g .before .before .before .before .before .before .before .before .before .before .before .before .before .before .pre) (zero (g .before .before .before .before)) (g .before .before .before .far .ensures) (g .go-on .ensures)
 
 mul-k : tie.Need-mul-k
@@ -57,11 +58,14 @@ shared-slice-read-row-number c = search needs
 row-number-requires : tie.Need-row-number-requires
 row-number-requires c κs = search needs
 
+rejected-requires : tie.Need-rejected-requires
+rejected-requires c κs = search needs
+
 same-length : tie.Need-same-length
 same-length c = search needs
 
 returns : tie.Need-returns
-returns c r = stops-own r _ _ _ (c .before .row-number .ensures) (c .if1 .taken)
+returns c r = let t = c .before in rw (c .rejected .ensures) (stops-own r _ _ _ (t .before .row-number .ensures) (t .if1 .taken))
 
 cast-used : tie.Need-cast-used
 cast-used c = omega (arith, edge c, c .before .before .before .before .before .before .before .before .before .before .pre .admitted .edges)
@@ -84,13 +88,17 @@ element-copy-out-built c = from (c .before)
 go-on-requires : tie.Need-go-on-requires
 go-on-requires c κs = (from (c .before .before .before), omega (arith, c .before .before .before .before .before .before .before .before .before .before .before .before .before .pre .below, c .before .before .before .before .before .before .before .before .before .before .before .before .before .pre .admitted .edges))
 
+passed-requires : tie.Need-passed-requires
+passed-requires c κs = search needs
+
 same-length-2 : tie.Need-same-length-2
 same-length-2 c = search needs
 
 returns-2 : tie.Need-returns-2
 returns-2 c r =
-    let g = c .before in
-    goes-on r (zero (g .before .before .before .before)) (g .before .before .before .far .ensures) (g .go-on .ensures) _ (not-true _ (c .if2 .taken)) _ (g .before .before .before .before .if1 .left)
+    let t = c .before in
+    let g = t .before in
+    rw (c .passed .ensures) (goes-on r (zero (g .before .before .before .before)) (g .before .before .before .far .ensures) (g .go-on .ensures) _ (not-true _ (t .if2 .taken)))
 
 cast-from : tie.Need-cast-from
 cast-from c = search needs
@@ -113,14 +121,21 @@ element-copy-out-came c = omega (arith, whole-below (ready (c .before .before .b
 step-number-requires : tie.Need-step-number-requires
 step-number-requires c κs = ready (c .before .before .before .before .before .before .before .before)
 
+rejected-requires-2 : tie.Need-rejected-requires-2
+rejected-requires-2 c κs = search needs
+
 same-length-3 : tie.Need-same-length-3
 same-length-3 c = search needs
 
 returns-3 : tie.Need-returns-3
 returns-3 c r =
-    let e = c .before .before .before .before .before .before .before .before .before in
+    let t = c .before in
+    let e = t .before .before .before .before .before .before .before .before .before in
     let g = e .before in
-    stops-whole r (zero (g .before .before .before .before)) (g .before .before .before .far .ensures) (g .go-on .ensures) _ (not-false _ (e .if2 .left)) _ (told-number r (zero (g .before .before .before .before)) (g .before .before .before .far .ensures) (g .go-on .ensures) _ (c .before .step-number .ensures)) (c .if3 .taken)
+    let z = zero (g .before .before .before .before) in
+    let f = g .before .before .before .far .ensures in
+    let n = told-number r z f (g .go-on .ensures) _ (t .before .step-number .ensures) in
+    rw (c .rejected2 .ensures) (stops-whole r z f (g .go-on .ensures) _ (not-false _ (e .if2 .left)) _ n (t .if3 .taken))
 
 add-add-rows : tie.Need-add-add-rows
 add-add-rows c = omega (arith, c .before .before .before .before .before .before .before .before .before .before .before .before .before .before .before .before .before .before .before .before .before .before .before .before .before .pre .below, c .before .before .before .before .before .before .before .before .before .before .before .before .before .before .before .before .before .before .before .before .before .before .before .before .before .pre .admitted .edges)
@@ -139,15 +154,22 @@ add-begins c = omega (arith, c .before .before .before .before .before .before .
 begins-requires : tie.Need-begins-requires
 begins-requires c κs = search needs
 
+passed-requires-2 : tie.Need-passed-requires-2
+passed-requires-2 c κs = search needs
+
 same-length-4 : tie.Need-same-length-4
 same-length-4 c = search needs
 
 returns-4 : tie.Need-returns-4
 returns-4 c r =
-    let t = c .before .before .before in
+    let b = c .before in
+    let t = b .before .before .before in
     let e = t .before .before .before .before .before .before .before .before .before in
     let g = e .before in
-    passes r (zero (g .before .before .before .before)) (g .before .before .before .far .ensures) (g .go-on .ensures) _ (not-false _ (e .if2 .left)) _ (c .before .add-rows .ensures) (sym (told-number r (zero (g .before .before .before .before)) (g .before .before .before .far .ensures) (g .go-on .ensures) _ (t .before .step-number .ensures)) ∙ t .if3 .left) _ (t .if3 .left) _ (c .begins .ensures)
+    let z = zero (g .before .before .before .before) in
+    let f = g .before .before .before .far .ensures in
+    let n = sym (told-number r z f (g .go-on .ensures) _ (t .before .step-number .ensures)) ∙ t .if3 .left in
+    rw (c .passed2 .ensures) (passes r z f (g .go-on .ensures) _ (not-false _ (e .if2 .left)) _ (b .before .add-rows .ensures) n _ (b .begins .ensures))
 
 pub step-spec : {M : Type 1} → statement M
 step-spec =
@@ -163,6 +185,7 @@ step-spec =
     mul-row-number
     shared-slice-read-row-number
     row-number-requires
+    rejected-requires
     same-length
     returns
     cast-used
@@ -172,6 +195,7 @@ step-spec =
     mul-built
     element-copy-out-built
     go-on-requires
+    passed-requires
     same-length-2
     returns-2
     cast-from
@@ -181,6 +205,7 @@ step-spec =
     mul-came
     element-copy-out-came
     step-number-requires
+    rejected-requires-2
     same-length-3
     returns-3
     add-add-rows
@@ -188,5 +213,6 @@ step-spec =
     add-self
     add-begins
     begins-requires
+    passed-requires-2
     same-length-4
     returns-4)

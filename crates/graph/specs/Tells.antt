@@ -1,4 +1,4 @@
--- A test of the code, and the fact that it is about.
+-- How a function's contract says what its test tells. No notion of 01.
 use mathlib.Core.Bool.{Bool, true, false}
 
 -- a test tells whether a fact holds

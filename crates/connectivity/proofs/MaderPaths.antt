@@ -1,15 +1,16 @@
--- Where no ear is left, every edge is built: an exit of a link and an exit from an edge each give an ear.
+-- Where no Mader-path is left, every edge is built: an exit of a link and an exit from an edge each give a Mader-path.
 use mathlib.Core.Path.{_≡_, refl, sym, subst}
 use mathlib.Core.Logic.{_⊎_, inl, inr}
 use mathlib.Core.List.{List, [], _∷_, _++_, List·Memᴰ as In, List·Memᴰ·not-nil as not-in, List·Memᴰ·cases-cons as in-cons}
 use Prim.Native.Nat.{ℕ}
 use native.Mathlib.Omega.{arith}
 use native.Mathlib.Decide.{ℕ-discrete, decLe}
-use Rattle.connectivity.specs.Lists.{Distinct, none, one}
+use Rattle.connectivity.specs.Lists.{Distinct, no-member, one}
 use Rattle.connectivity.specs.Graph.{Graph, Edge, Joins}
-use Rattle.connectivity.specs.Reach.{Without, ThreeEdgeConnected, Through}
+use Rattle.connectivity.specs.Reach.{Without, ThreeEdgeConnected}
+use Rattle.connectivity.proofs.Through.{Through}
 use Rattle.connectivity.specs.Walk.{Leg, Walk, last, froms, edgesOf, allEdges, degree, Built, Branch}
-use Rattle.connectivity.specs.Mader.{Ear, Steps, theta, ear}
+use Rattle.connectivity.specs.Mader.{MaderPath, Steps, theta, mader}
 use Rattle.connectivity.proofs.Lists.{in-dec}
 use Rattle.connectivity.proofs.Distinct.{join-distinct}
 use Rattle.connectivity.proofs.Reach.{joins-sym}
@@ -19,44 +20,44 @@ use Rattle.connectivity.proofs.Sound.{stage}
 use Rattle.connectivity.proofs.Legs.{leg, walk-snoc, edges-snoc, distinct-between}
 use Rattle.connectivity.proofs.Build.{steps-edges}
 use Rattle.connectivity.proofs.Fresh.{Fresh, ear-fresh, fresh-snoc}
-use Rattle.connectivity.proofs.Grow.{Inside, FromLink, link-exit, branch-exit, next-edge, ear-from-link, ear-from-branch}
-use Rattle.connectivity.proofs.Once.{walk-once, ear-once}
+use Rattle.connectivity.proofs.Grow.{Inside, FromLink, link-exit, branch-exit, next-edge, path-from-link, path-from-branch}
+use Rattle.connectivity.proofs.Once.{walk-once, path-once}
 use Rattle.connectivity.proofs.Shorten.{path-live, path-new, edge-path, Back, back}
 
--- an ear over edges that are not built, none twice
+-- a Mader-path over edges that are not built, none twice
 pub record Next (g : Graph) (built : List ℕ) : Type 0 where
   pub from : ℕ
   pub legs : List Leg
   pub to : ℕ
-  pub ear : Ear g built from legs to
+  pub path : MaderPath g built from legs to
   pub once : Distinct (edgesOf legs ++ built)
 
 module _ {g : Graph} {built : List ℕ} (once : Distinct built) where
   -- from a built vertex outside a link back into it
-  link-ear : {p s t : ℕ} → Built g built p → Inside g built p s → Built g built t → (Inside g built p t → ⊥)
+  link-path : {p s t : ℕ} → Built g built p → Inside g built p s → Built g built t → (Inside g built p t → ⊥)
       → Through g (Without built) (FromLink g built p) s t → Next g built
-  link-ear {p} {s} {t} h i b n r = elim (back (λ v k. k) i r) [
+  link-path {p} {s} {t} h i b n r = elim (back (λ v k. k) i r) [
     | inl k ↦ absurd (n k)
     | inr k ↦ let way = k .way in
-        let q = ear-from-link h (way .ends) b n (edge-path (k .joins) (way .path)) (λ v m. path-new (way .path) m) (way .once) in
+        let q = path-from-link h (way .ends) b n (edge-path (k .joins) (way .path)) (λ v m. path-new (way .path) m) (way .once) in
         record {
           from = t;
           legs = leg (k .edge) t ∷ way .legs;
           to = way .to;
-          ear = q;
-          once = ear-once q (λ o. n (subst (Inside g built p) (sym o) (way .ends)))
+          path = q;
+          once = path-once q (λ o. n (subst (Inside g built p) (sym o) (way .ends)))
               (λ e m. elim (in-cons m) [ inl o ↦ rw o (k .over) | inr o ↦ path-live (way .path) o ]) once;
         }
   ]
 
   module _ (all : (v : ℕ) → Built g built v → Branch g built v) {e a u : ℕ} (j : Joins g e a u) (h : Built g built a) (new : In e built → ⊥) where
     -- an edge between built vertices
-    edge-ear : Built g built u → Next g built
-    edge-ear b = record {
+    single-path : Built g built u → Next g built
+    single-path b = record {
       from = u;
       legs = leg e u ∷ [];
       to = a;
-      ear = ear-from-branch all h b (last e (joins-sym j)) (λ v i. absurd (not-in i)) none;
+      path = path-from-branch all h b (last e (joins-sym j)) (λ v i. absurd (not-in i)) no-member;
       once = one new once;
     }
 
@@ -86,12 +87,12 @@ module _ {g : Graph} {built : List ℕ} (once : Distinct built) where
       long-fresh : Fresh g built (low ++ (leg e u ∷ []))
       long-fresh = fresh-snoc e to-u .1 (record { once = low-once; new = λ v i. path-new (k .way .path) i .0 }, off-u, fresh)
 
-      long-ear : Next g built
-      long-ear = let w = walk-snoc to-u (joins-sym j) in let f = ear-fresh w b .1 long-fresh in record {
+      long-path : Next g built
+      long-path = let w = walk-snoc to-u (joins-sym j) in let f = ear-fresh w b .1 long-fresh in record {
         from = t;
         legs = low ++ (leg e u ∷ []);
         to = a;
-        ear = ear-from-branch all h b w (f .1) (f .0);
+        path = path-from-branch all h b w (f .1) (f .0);
         once = subst (λ (l : List ℕ). Distinct (l ++ built)) (sym (edges-snoc low (leg e u))) (distinct-between (edgesOf low) built (λ i. over-low i .1 refl) new
             (join-distinct (edgesOf low) (walk-once to-u low-once off-u) once (λ x i. over-low i .0)));
       }
@@ -99,7 +100,7 @@ module _ {g : Graph} {built : List ℕ} (once : Distinct built) where
 -- some vertex is built
 pub steps-built : {g : Graph} {walks : List (List Leg)} → Steps g walks → (v : ℕ) × Built g (allEdges walks) v
 steps-built (theta {a = a} {walks = walks} t) = (a, omega (arith, t .three, all-degree walks (t .between)))
-steps-built {g} (ear {walks = walks} {u = u} {legs = legs} s k) = (u, omega (arith, k .begins, degree-append g (edgesOf legs) (allEdges walks) u))
+steps-built {g} (mader {walks = walks} {u = u} {legs = legs} s k) = (u, omega (arith, k .begins, degree-append g (edgesOf legs) (allEdges walks) u))
 
 module _ {g : Graph} {walks : List (List Leg)} (t : ThreeEdgeConnected g) (s : Steps g walks) (once : Distinct (allEdges walks))
     (stuck : Next g (allEdges walks) → ⊥) where
@@ -110,7 +111,7 @@ module _ {g : Graph} {walks : List (List Leg)} (t : ThreeEdgeConnected g) (s : S
   branches : (v : ℕ) → Built g built v → Branch g built v
   branches v h = elim (decLe 3 (degree g built v)) [
     | yes b ↦ b
-    | no n ↦ absurd (link-exit t (stage s once) h n (λ u w i b o hw r. stuck (link-ear once h i b o r)))
+    | no n ↦ absurd (link-exit t (stage s once) h n (λ u w i b o hw r. stuck (link-path once h i b o r)))
   ]
 
   -- an edge at a built vertex is built
@@ -118,10 +119,10 @@ module _ {g : Graph} {walks : List (List Leg)} (t : ThreeEdgeConnected g) (s : S
   at-built e a u j h = elim (in-dec e built) [
     | yes i ↦ i
     | no n ↦ elim (decLe 1 (degree g built u)) [
-      | yes b ↦ absurd (stuck (edge-ear once branches j h n b))
+      | yes b ↦ absurd (stuck (single-path once branches j h n b))
       | no f ↦ absurd (branch-exit {built = built} t j h (λ w b r. elim (back new refl r) [
         | inl p ↦ f (rw (← p) b)
-        | inr k ↦ stuck (long-ear once branches j h n f b k)
+        | inr k ↦ stuck (long-path once branches j h n f b k)
       ]))
     ]
   ]

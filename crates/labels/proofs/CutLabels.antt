@@ -10,18 +10,19 @@ use lib.Arith.{bin-ind}
 use lib.Bits.{bitXor, xor-self, xor-zero-r, xor-comm, xor-shr, xor-mod}
 use lib.Dec.{T, eqb, eqb→eq, T-not, not-T}
 use borrow.Author.Tests.{eqb-true, eqb-false, eq-eqb, ne-eqb}
-use Rattle.connectivity.specs.Lists.{Distinct, none, one, keep, mem}
-use Rattle.connectivity.specs.Graph.{Graph, Vertex, Edge, Joins, graphOf, always, vertices, edges}
+use Rattle.connectivity.specs.Lists.{Distinct, no-member, one, keep, mem}
+use Rattle.connectivity.specs.Plan.{plan, graph, Limits, limits}
+use Rattle.connectivity.specs.Graph.{Graph, Vertex, Edge, Joins, vertices, edges}
 use Rattle.connectivity.specs.Reach.{Reach, here, over, Without, Connected, Disconnects}
 use Rattle.connectivity.specs.Cut.{unreached, disconnects}
-use Rattle.connectivity.specs.Label.{around, Balanced}
-use Rattle.connectivity.specs.Admission.{Limits, Admitted}
+use Rattle.labels.specs.Label.{around, Balanced}
+use Rattle.connectivity.specs.Admission.{Admitted}
 use Rattle.connectivity.proofs.Lists.{T-dec, T-true, T-false, true-T, false-T, eq-T, mem-in, in-mem, in-dec, not-mem, keep-is}
 use Rattle.connectivity.proofs.Reach.{joins-sym, joins-vertex, reach-sym, reach-trans, reach-map, closed-reach}
 use Rattle.connectivity.proofs.Search.{vertices-are, edges-are, unreached-not, unreached-or}
 use Rattle.connectivity.proofs.Order.{ordered-keep, ordered-vertices, ordered-edges}
 use Rattle.connectivity.proofs.Distinct.{ordered-distinct}
 use Rattle.connectivity.proofs.Disconnects.{disconnects-is, connected-is, connected-less}
 
 -- Xor.
 
@@ -95,7 +96,7 @@ xors-swap f (x ∷ k) l = ap (bitXor (xors (f x) l)) (xors-swap f k l) ∙ sym (
 -- a number that counts at one member only
 pub xors-at : (a n : ℕ) {l : List ℕ} → Distinct l → xors (λ x. when (eqb a x) n) l ≡ when (mem a l) n
 unfolding xors mem
-xors-at a n none = refl
+xors-at a n no-member = refl
 xors-at a n (one {x = x} {l = l} m d) = go (eqb a x) refl (xors-at a n d)
   where
     go : (t : Bool) → eqb a x ≡ t → xors (λ x. when (eqb a x) n) l ≡ when (mem a l) n
@@ -290,7 +291,7 @@ module _ (g : Graph) (label : ℕ → ℕ) (b : Balanced g label) (loops : NoLoo
   pub label-one : (e : ℕ) → Connected g [] → Edge g e → Disconnects g (e ∷ []) → label e ≡ 0
   unfolding xors
   label-one e c h dis = sym (xor-zero-r (label e)) ∙ cut-cancels (g .left e) (h .left) (record {
-    distinct = one (λ i. absurd (not-in i)) none;
+    distinct = one (λ i. absurd (not-in i)) no-member;
     edges = λ d i. subst (Edge g) (sym (eq-of-singleton i)) h;
     disconnects = dis;
     needed = λ x i. connected-less c (λ y _ j. let q = but-is x (e ∷ []) j in absurd (q .1 (eq-of-singleton (q .0) ∙ sym (eq-of-singleton i))));
@@ -300,7 +301,7 @@ module _ (g : Graph) (label : ℕ → ℕ) (b : Balanced g label) (loops : NoLoo
       → label e ≡ label d
   unfolding xors
   label-two e d ce cd he hd ne dis = xor-equal (label e) (label d) (ap (bitXor (label e)) (sym (xor-zero-r (label d))) ∙ cut-cancels (g .left e) (he .left) (record {
-    distinct = one (λ i. ne (eq-of-singleton i)) (one (λ i. absurd (not-in i)) none);
+    distinct = one (λ i. ne (eq-of-singleton i)) (one (λ i. absurd (not-in i)) no-member);
     edges = λ x i. elim (in-cons i) [ inl p ↦ subst (Edge g) (sym p) he | inr j ↦ subst (Edge g) (sym (eq-of-singleton j)) hd ];
     disconnects = dis;
     needed = λ x i. elim (in-cons i) [
@@ -325,6 +326,6 @@ module _ (g : Graph) (label : ℕ → ℕ) (b : Balanced g label) (loops : NoLoo
   skip-two e d p q i j ne n = T-false (disconnects g (e ∷ d ∷ []))
       (λ t. n (label-two e d (connected-is g (e ∷ []) (false-T p)) (connected-is g (d ∷ []) (false-T q)) (edges-are g e .0 i) (edges-are g d .0 j) ne (disconnects-is g (e ∷ d ∷ []) .0 t)))
 
-pub no-loops : {limits : Limits} {n : ℕ} {ends : List ℕ} → Admitted limits n ends → NoLoops (graphOf n always ends)
-unfolding graphOf
+pub no-loops : {most : Limits} {n : ℕ} {ends : List ℕ} → Admitted most (plan n ends) → NoLoops (graph (plan n ends))
+unfolding graph
 no-loops a e h = a .fit e (h .below) .different
