@@ -13,7 +13,7 @@ use Rattle.connectivity.proofs.Through.{Through, stay, leave}
 use Rattle.connectivity.specs.Walk.{Leg, Walk, froms, inner, edgesOf}
 use Rattle.connectivity.specs.Admission.{Answer, Admitted}
 use Rattle.connectivity.proofs.Reach.{joins-sym, joins-vertex}
-use Rattle.search.specs.Search.{Live, Pass, Start, Goal, Marked, Reached, Tree, Found, Whole, Stopped}
+use Rattle.search.specs.Search.{startMark, Live, Pass, Start, Goal, Marked, Reached, Tree, Found, Whole, Stopped}
 use Rattle.search.specs.declared.Explored.{Explored}
 use Rattle.search.specs.declared.Explored.the-variants.{Refused, Seen, Met}
 use Rattle.search.proofs.Explored as explored
@@ -158,7 +158,7 @@ module _ {n room : ℕ} {ends degrees marks roles dead : List ℕ} (e : Exiting 
 
 module _ {n : ℕ} {ends marks : List ℕ} where
   -- it stops at a vertex that it does not leave
-  pub path-apart : {v w x : ℕ} {legs : List Leg} → Admitted limits (plan n ends) → Path (graph (plan n ends)) marks v legs w → getD marks x 0 ≡ 65535 → In x (froms legs) → ⊥
+  pub path-apart : {v w x : ℕ} {legs : List Leg} → Admitted limits (plan n ends) → Path (graph (plan n ends)) marks v legs w → getD marks x 0 ≡ startMark → In x (froms legs) → ⊥
   path-apart a paths.there h i = not-in i
   path-apart a (paths.up m j p) h (first q) = omega (arith, rw q at h, few-edges a _ _ _ j)
   path-apart a (paths.up m j p) h (later i) = path-apart a p h i

@@ -23,7 +23,7 @@ use Rattle.connectivity.proofs.Admission.{admitted-edges}
 use Rattle.connectivity.proofs.Once.{walk-once}
 use Rattle.connectivity.proofs.Grow.{branch-exit, next-edge, path-from-branch}
 use Rattle.connectivity.proofs.MaderPaths.{steps-built}
-use Rattle.search.specs.Search.{Live, Marked, FromStart}
+use Rattle.search.specs.Search.{startMark, Live, Marked, FromStart}
 use Rattle.search.proofs.Leads.{vertex-below, joins-edge}
 use Rattle.record.specs.Step.{Growing, Grown}
 use Rattle.record.specs.Opening.{withRow, farEnd}
@@ -145,7 +145,7 @@ module _ {n : ℕ} {ends degrees used : List ℕ} {room : ℕ} (c : Growing n en
         way = subst (Walk (graph (plan n ends)) t (y .legs)) from-u (y .walk)
 
         off : In u (froms (y .legs)) → ⊥
-        off = path-apart (c .admitted) (y .path) (subst (λ (v : ℕ). getD first v 0 ≡ 65535) from-u (y .top))
+        off = path-apart (c .admitted) (y .path) (subst (λ (v : ℕ). getD first v 0 ≡ startMark) from-u (y .top))
 
         abbrev pub long : List Leg
         long = y .legs ++ (leg e u ∷ [])

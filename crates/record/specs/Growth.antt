@@ -10,7 +10,7 @@ use Rattle.connectivity.specs.Graph.{Graph, Edge, Joins}
 use Rattle.connectivity.specs.Walk.{Leg, Walk, froms, inner, edgesOf, degree, Built, Branch}
 use Rattle.connectivity.specs.Admission.{Admitted}
 use Rattle.connectivity.proofs.Grow.{Inside}
-use Rattle.search.specs.Search.{Live, Marked, FromStart}
+use Rattle.search.specs.Search.{startMark, Live, Marked, FromStart}
 use Rattle.connectivity.specs.Mader.{stepRows}
 use Rattle.record.specs.Step.{Path, Written, Marks, Sums, Growing, Ready}
 use Rattle.record.specs.Opening.{farEnd}
@@ -134,7 +134,7 @@ pub record Exited (n : ℕ) (ends degrees marks dead first : List ℕ) (t : ℕ)
   pub from : ℕ
   pub from-below : from < n
   pub from-start : Marked marks from
-  pub top : getD first from 0 ≡ 65535
+  pub top : getD first from 0 ≡ startMark
   pub legs : List Leg
   pub path : Path (graph (plan n ends)) first t legs from
   pub walk : Walk (graph (plan n ends)) t legs from

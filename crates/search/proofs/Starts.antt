@@ -8,7 +8,7 @@ use native.Mathlib.Decide.{ℕ-discrete}
 use borrow.Author.Count.{below-more}
 use lib.ListN.{length, getD, set, length-set}
 use lib.Seq.{getD-set-same, getD-set-other}
-use Rattle.search.specs.Search.{Start, flag, tally}
+use Rattle.search.specs.Search.{startMark, Start, flag, tally}
 use Rattle.search.specs.Sweep.{Placed, cleared, started, Begun}
 use Rattle.search.proofs.Tally.{tally-suc, flag-pos, flag-zero, tally-same}
 
@@ -42,7 +42,7 @@ module _ {roles first₀ order₀ first order : List ℕ} {v count : ℕ} (b : B
   other x k n = getD-set-other first v k x 0 n
 
   abbrev Mark : ℕ → ℕ → Type 0
-  Mark x k = (Start roles k × (getD (set first v x) k 0 ≡ 65535)) ⊎ ((Start roles k → ⊥) × (getD (set first v x) k 0 ≡ 0))
+  Mark x k = (Start roles k × (getD (set first v x) k 0 ≡ startMark)) ⊎ ((Start roles k → ⊥) × (getD (set first v x) k 0 ≡ 0))
 
   old-mark : (x k : ℕ) → k < v → Mark x k
   old-mark x k l = elim (b .marks k l) [
@@ -69,9 +69,9 @@ module _ {roles first₀ order₀ first order : List ℕ} {v count : ℕ} (b : B
   order-new : getD (set order count v) count 0 ≡ v
   order-new = getD-set-same order count v 0 lo
 
-  begun-started : Start roles v → Begun (v + 1) roles first₀ order₀ (set first v 65535) (set order count v) (count + 1)
+  begun-started : Start roles v → Begun (v + 1) roles first₀ order₀ (set first v startMark) (set order count v) (count + 1)
   begun-started s = record {
-    marks = below-more (Mark 65535) v (old-mark 65535) (inl (s, getD-set-same first v 65535 0 lf));
+    marks = below-more (Mark startMark) v (old-mark startMark) (inl (s, getD-set-same first v startMark 0 lf));
     starts = below-more (λ (k : ℕ). (getD (set order count v) k 0 < v + 1) × Start roles (getD (set order count v) k 0)) count
         (λ k l. let o = b .starts k l in rw (order-old k l) (omega (arith, o .0), o .1)) (rw order-new (omega arith, s));
     rising = λ j k jk l. below-more (λ (k : ℕ). (j : ℕ) → j < k → getD (set order count v) j 0 < getD (set order count v) k 0) count
@@ -81,10 +81,10 @@ module _ {roles first₀ order₀ first order : List ℕ} {v count : ℕ} (b : B
       | yes q ↦ (count, omega arith, order-new ∙ sym q)
       | no n ↦ let o = b .listed u (omega arith) h in (o .0, omega (arith, o .1), order-old (o .0) (o .1) ∙ o .2)
     ];
-    counted = omega (arith, b .counted, tally-next first v 65535 lf, flag-pos 65535 (λ q. omega arith));
-    first-long = length-set first v 65535 ∙ b .first-long;
+    counted = omega (arith, b .counted, tally-next first v startMark lf, flag-pos startMark (λ q. omega arith));
+    first-long = length-set first v startMark ∙ b .first-long;
     order-long = length-set order count v ∙ b .order-long;
-    first-rest = λ k l. other 65535 k (λ q. omega arith) ∙ b .first-rest k (omega arith);
+    first-rest = λ k l. other startMark k (λ q. omega arith) ∙ b .first-rest k (omega arith);
     order-rest = λ k l. getD-set-other order count k v 0 (λ q. omega arith) ∙ b .order-rest k (omega arith);
   }
 

@@ -29,7 +29,11 @@ Pass roles v = getD roles v 0 < 2
 abbrev pub Goal : List ℕ → ℕ → Type 0
 Goal roles v = 2 < getD roles v 0
 
--- a vertex was seen if its mark is not 0: 65,535 for a start, else one more than the edge by which it was first reached
+-- the mark of a start, which no edge has
+abbrev pub startMark : ℕ
+startMark = 65535
+
+-- a vertex was seen if its mark is not 0: that of a start, or one more than the edge by which it was first reached
 abbrev pub Marked : List ℕ → ℕ → Type 0
 Marked first v = getD first v 0 ≡ 0 → ⊥
 
@@ -59,7 +63,7 @@ pub record Tree (g : Graph) (live pass start : ℕ → Type 0) (n : ℕ) (first 
   pub listed : (v : ℕ) → v < n → Marked first v → (k : ℕ) × (k < count) × (getD order k 0 ≡ v)
   pub once : (j k : ℕ) → j < k → k < count → getD order j 0 ≡ getD order k 0 → ⊥
   -- every start is seen, and the starts come first
-  pub roots : (v : ℕ) → v < n → start v → getD first v 0 ≡ 65535
+  pub roots : (v : ℕ) → v < n → start v → getD first v 0 ≡ startMark
   pub leading : (j k : ℕ) → j < k → k < count → start (getD order k 0) → start (getD order j 0)
   -- every other was first reached from one earlier in the order
   pub tree : (k : ℕ) → k < count → start (getD order k 0) ⊎ Reached g live pass first order k (getD order k 0)

@@ -8,7 +8,7 @@ use lib.ListN.{length, getD, set}
 use Rattle.connectivity.specs.Plan.{plan, graph, limits}
 use Rattle.connectivity.specs.Graph.{Graph, Joins}
 use Rattle.search.specs.declared.Progress.{Progress}
-use Rattle.search.specs.Search.{Live, Start, Pass, Goal, Marked, tally, Tree, Whole, Stopped}
+use Rattle.search.specs.Search.{startMark, Live, Start, Pass, Goal, Marked, tally, Tree, Whole, Stopped}
 
 -- an admitted plan, and slices that are long enough
 pub record Fit (n edges : ℕ) (ends roles dead first order : List ℕ) : Type 0 where
@@ -56,12 +56,12 @@ pub record More (n : ℕ) (first order : List ℕ) (count : ℕ) (first′ order
 pub data Placed (roles : List ℕ) (v : ℕ) (first order : List ℕ) (count : ℕ) (first′ order′ : List ℕ) (count′ : ℕ) : Type 0 where
   cleared : (Start roles v → ⊥) → first′ ≡ set first v 0 → order′ ≡ order → count′ ≡ count
       → Placed roles v first order count first′ order′ count′
-  started : Start roles v → first′ ≡ set first v 65535 → order′ ≡ set order count v → count′ ≡ count + 1
+  started : Start roles v → first′ ≡ set first v startMark → order′ ≡ set order count v → count′ ≡ count + 1
       → Placed roles v first order count first′ order′ count′
 
 -- `begin`
 pub record Begun (n : ℕ) (roles first order first′ order′ : List ℕ) (count : ℕ) : Type 0 where
-  pub marks : (v : ℕ) → v < n → (Start roles v × (getD first′ v 0 ≡ 65535)) ⊎ ((Start roles v → ⊥) × (getD first′ v 0 ≡ 0))
+  pub marks : (v : ℕ) → v < n → (Start roles v × (getD first′ v 0 ≡ startMark)) ⊎ ((Start roles v → ⊥) × (getD first′ v 0 ≡ 0))
   pub starts : (k : ℕ) → k < count → (getD order′ k 0 < n) × Start roles (getD order′ k 0)
   pub rising : (j k : ℕ) → j < k → k < count → getD order′ j 0 < getD order′ k 0
   pub listed : (v : ℕ) → v < n → Start roles v → (k : ℕ) × (k < count) × (getD order′ k 0 ≡ v)
