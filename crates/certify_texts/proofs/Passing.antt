@@ -58,7 +58,7 @@ module _ {limits : Limits} {p : Plan} (a : Admitted limits p) where
   unfolding graph
   numbers-small most h (weak {cut} v) i =
       let c = verdict-weak a (3 * (length (p .ends) / 2)) (omega (arith, admitted-edges a)) cut .0 v .cut in
-      omega (arith, h, a .edges, at-below cut (length (p .ends) / 2) (λ x m. c .set .edges x m .below) i)
+      omega (arith, h, a .edges, at-below cut (length (p .ends) / 2) (λ x m. c .set .members x m .below) i)
   numbers-small most h (firm {list} v q) i =
       omega (arith, h, a .edges, a .vertices, admitted-edges a, at-below list _ (numbers-below (graph p) list (firm-passes limits p list .0 q .1)) i)
 

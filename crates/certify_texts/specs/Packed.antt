@@ -21,7 +21,7 @@ packedBy [] a = four 2 (a .number) (a .place) 0
 packedBy (kind ∷ values) a = four kind (getD values 0 0) (getD values 1 0) (getD values 2 0)
 
 abbrev pub packed : Handed → ℕ
-packed h = packedBy (h .values) (h .answer)
+packed h = packedBy (h .values) (h .reply)
 
 -- the verdict in one number; the lent record is as 01 has it
 pub record Packed (most : Limits) (p : Plan) (before after : List ℕ) (r : ℕ) : Type 0 where

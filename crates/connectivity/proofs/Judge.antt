@@ -33,7 +33,7 @@ pub record Rises (g : Graph) (low : ℕ) (list : List ℕ) : Type 0 where
 
 rises-next : {g : Graph} {low e : ℕ} {list : List ℕ} → Edge g e → low ≤ e → Rises g (suc e) list → Rises g low (e ∷ list)
 rises-next {g} {low} {e} p h r = record {
-  set = record { ascending = cons (r .from) (r .set .ascending); edges = λ d i. elim (in-cons i) [ inl q ↦ rw q p | inr j ↦ r .set .edges d j ] };
+  set = record { ascending = cons (r .from) (r .set .ascending); members = λ d i. elim (in-cons i) [ inl q ↦ rw q p | inr j ↦ r .set .members d j ] };
   from = λ d i. elim (in-cons i) [ inl q ↦ omega arith | inr j ↦ omega (arith, r .from d j) ];
 }
 
@@ -41,20 +41,20 @@ rises-rest : {g : Graph} {low e : ℕ} {list : List ℕ} → Rises g low (e ∷ 
 rises-rest {g} {low} {e} {list} r = go (r .set .ascending)
   where
     go : Ordered _<_ (e ∷ list) → Rises g (suc e) list
-    go (cons h o) = record { set = record { ascending = o; edges = λ d i. r .set .edges d (later i) }; from = h }
+    go (cons h o) = record { set = record { ascending = o; members = λ d i. r .set .members d (later i) }; from = h }
 
 edge-above : (g : Graph) (low e : ℕ) → Decides (isEdge g e && leb low e) (Edge g e × (low ≤ e))
 edge-above g low e = decides-and (decides (isEdge g e) (is-edge g e)) (decides (leb low e) (leb→le low e, le→leb low e))
 
 ascending-is : (g : Graph) (k low : ℕ) (list : List ℕ) → (ascending g k low list ≡ passed) ↔ Rises g low list
 unfolding ascending
-ascending-is g k low [] = (λ p. record { set = record { ascending = nil; edges = λ e i. absurd (not-in i) }; from = λ e i. absurd (not-in i) }, λ r. refl)
+ascending-is g k low [] = (λ p. record { set = record { ascending = nil; members = λ e i. absurd (not-in i) }; from = λ e i. absurd (not-in i) }, λ r. refl)
 ascending-is g k low (e ∷ list) =
     let d = edge-above g low e in
     let rest = ascending-is g (suc k) (suc e) list in
     let here = passed-when (isEdge g e && leb low e) (ascending g (suc k) (suc e) list) 11 k (λ z. omega arith) in (
       λ p. let q = here .0 p in let f = d .holds (q .0) in rises-next (f .0) (f .1) (rest .0 (q .1)),
-      λ r. here .1 (d .test (r .set .edges e (first refl), r .from e (first refl)), rest .1 (rises-rest r)),
+      λ r. here .1 (d .test (r .set .members e (first refl), r .from e (first refl)), rest .1 (rises-rest r)),
     )
 
 ascending-told : (g : Graph) (k low : ℕ) (list : List ℕ) → Told (ascending g k low list)
@@ -82,13 +82,13 @@ weak-is g list = (to, from)
         record {
           set = ascending-is g 0 0 list .0 rises .set;
           small = leb→le (length list) 2 (p .0);
-          disconnects = disconnects-is g list .0 (parts .0 (q .1) .0);
+          parts = disconnects-is g list .0 (parts .0 (q .1) .0);
         }
 
     from : Cut g list → judgeWeak g list ≡ passed
     from c = short .1 (
       le→leb (length list) 2 (c .small),
-      rw (ascending-is g 0 0 list .1 (record { set = c .set; from = λ e i. omega arith })) (parts .1 (disconnects-is g list .1 (c .disconnects), refl)),
+      rw (ascending-is g 0 0 list .1 (record { set = c .set; from = λ e i. omega arith })) (parts .1 (disconnects-is g list .1 (c .parts), refl)),
     )
 
 -- Every plan, kind and list.
@@ -138,7 +138,7 @@ module _ (most : Limits) (p : Plan) where
   firm-three list h = builds-three-edge-connected (firm-passes list .0 h .1)
 
   pub weak-not-three : (list : List ℕ) → judge most p 1 list ≡ passed → ThreeEdgeConnected g → ⊥
-  weak-not-three list h t = let c = weak-passes list .0 h .1 in c .disconnects (t .still list (c .small))
+  weak-not-three list h t = let c = weak-passes list .0 h .1 in c .parts (t .still list (c .small))
 
   pub never-both : (rows tabs : List ℕ) → judge most p 0 rows ≡ passed → judge most p 1 tabs ≡ passed → ⊥
   never-both rows tabs q r = weak-not-three tabs r (firm-three rows q)

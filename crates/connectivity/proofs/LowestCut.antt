@@ -93,9 +93,9 @@ ordered-tried g = cons zero-first (ordered-append (ordered-singles o) (ordered-p
 -- every set of at most two edges is tried
 tried-all : (g : Graph) (c : List ℕ) → EdgeSet g c → length c ≤ 2 → In c (tried g)
 tried-all g [] s h = first refl
-tried-all g (e ∷ []) s h = later (in-left (pairs (edges g)) (singles-in (edges-are g e .1 (s .edges e (first refl)))))
+tried-all g (e ∷ []) s h = later (in-left (pairs (edges g)) (singles-in (edges-are g e .1 (s .members e (first refl)))))
 tried-all g (e ∷ (d ∷ [])) s h = later (in-right (singles (edges g))
-    (pairs-in (ordered-edges g) (edges-are g e .1 (s .edges e (first refl))) (edges-are g d .1 (s .edges d (later (first refl)))) (before-rest (s .ascending) d (first refl))))
+    (pairs-in (ordered-edges g) (edges-are g e .1 (s .members e (first refl))) (edges-are g d .1 (s .members d (later (first refl)))) (before-rest (s .ascending) d (first refl))))
 tried-all g (e ∷ (d ∷ (f ∷ l))) s h = absurd (omega arith)
 
 -- and nothing else
@@ -103,10 +103,10 @@ tried-are : (g : Graph) {c : List ℕ} → In c (tried g) → EdgeSet g c × (le
 tried-are g {c} i = go (in-cons i)
   where
     go : (c ≡ []) ⊎ In c (singles (edges g) ++ pairs (edges g)) → EdgeSet g c × (length c ≤ 2)
-    go (inl p) = rw p (record { ascending = nil; edges = λ e i. absurd (not-in i) }, omega arith)
+    go (inl p) = rw p (record { ascending = nil; members = λ e i. absurd (not-in i) }, omega arith)
     go (inr j) = elim (in-cases (singles (edges g)) j) [
-      | inl k ↦ let r = singles-are (edges g) k in rw (r .1) (record { ascending = cons (λ y i. absurd (not-in i)) nil; edges = λ e i. edges-are g e .0 (Memᴰ·cast (eq-of-singleton i) (r .2)) }, omega arith)
-      | inr k ↦ let r = pairs-are (ordered-edges g) k in rw (r .2) (record { ascending = cons (λ y i. subst (_<_ (r .0)) (sym (eq-of-singleton i)) (r .5)) (cons (λ y i. absurd (not-in i)) nil); edges = λ e i. edges-are g e .0 (elim (in-cons i) [ inl p ↦ Memᴰ·cast p (r .3) | inr j ↦ Memᴰ·cast (eq-of-singleton j) (r .4) ]) }, omega arith)
+      | inl k ↦ let r = singles-are (edges g) k in rw (r .1) (record { ascending = cons (λ y i. absurd (not-in i)) nil; members = λ e i. edges-are g e .0 (Memᴰ·cast (eq-of-singleton i) (r .2)) }, omega arith)
+      | inr k ↦ let r = pairs-are (ordered-edges g) k in rw (r .2) (record { ascending = cons (λ y i. subst (_<_ (r .0)) (sym (eq-of-singleton i)) (r .5)) (cons (λ y i. absurd (not-in i)) nil); members = λ e i. edges-are g e .0 (elim (in-cons i) [ inl p ↦ Memᴰ·cast p (r .3) | inr j ↦ Memᴰ·cast (eq-of-singleton j) (r .4) ]) }, omega arith)
     ]
 
 -- the first of an ordered list that passes a test
@@ -152,7 +152,7 @@ first-lowest f c (cons {x = x} {l = l} h o) p d i b t = elim (first-cons f x l) 
 pub lowest-cut : {g : Graph} {cut : List ℕ} → lowestCut g ≡ some cut → LowestCut g cut
 unfolding lowestCut
 lowest-cut {g} {cut} p = record {
-  cut = record { set = s .0; small = s .1; disconnects = disconnects-is g cut .0 (r .1) };
+  cut = record { set = s .0; small = s .1; parts = disconnects-is g cut .0 (r .1) };
   lowest = λ c e b. connected-is g c (first-lowest (disconnects g) cut (ordered-tried g) p c (tried-all g c e (shorter c b)) b);
 }
   where
@@ -169,8 +169,8 @@ lowest-cut {g} {cut} p = record {
 -- there is at most one
 pub lowest-unique : {g : Graph} {c d : List ℕ} → LowestCut g c → LowestCut g d → c ≡ d
 lowest-unique {g} {c} {d} p q = elim (before-or c d) [
-  | inl b ↦ absurd (p .cut .disconnects (q .lowest c (p .cut .set) b))
-  | inr r ↦ elim r [ inl e ↦ e | inr b ↦ absurd (q .cut .disconnects (p .lowest d (q .cut .set) b)) ]
+  | inl b ↦ absurd (p .cut .parts (q .lowest c (p .cut .set) b))
+  | inr r ↦ elim r [ inl e ↦ e | inr b ↦ absurd (q .cut .parts (p .lowest d (q .cut .set) b)) ]
 ]
 
 -- the edges among some numbers, as a set
@@ -181,11 +181,11 @@ pub record Covering (g : Graph) (cut : List ℕ) : Type 0 where
   pub has : (e : ℕ) → Edge g e → In e cut → In e all
 
 pub covering : (g : Graph) (cut : List ℕ) → Covering g cut
-covering g [] = record { all = []; set = record { ascending = nil; edges = λ e i. absurd (not-in i) }; size = omega arith; has = λ e p i. i }
+covering g [] = record { all = []; set = record { ascending = nil; members = λ e i. absurd (not-in i) }; size = omega arith; has = λ e p i. i }
 covering g (c ∷ cut) = let s = covering g cut in elim (T-dec (isEdge g c)) [
   | yes t ↦ let r = insert c (s .set .ascending) in record {
     all = r .all;
-    set = record { ascending = r .ascending; edges = λ e i. elim (in-cons (r .only e i)) [ inl q ↦ subst (Edge g) (sym q) (is-edge g c .0 t) | inr j ↦ s .set .edges e j ] };
+    set = record { ascending = r .ascending; members = λ e i. elim (in-cons (r .only e i)) [ inl q ↦ subst (Edge g) (sym q) (is-edge g c .0 t) | inr j ↦ s .set .members e j ] };
     size = omega (arith, r .size, s .size);
     has = λ e p i. r .has e (elim (in-cons i) [ inl q ↦ first q | inr j ↦ later (s .has e p j) ]);
   }
@@ -208,12 +208,12 @@ three-edge-connected {g} u v hu hv n = (λ p. record { two = (u, v, hu, hv, n); 
   where
     go : ThreeEdgeConnected g → (o : Option (List ℕ)) → lowestCut g ≡ o → o ≡ none
     go t none p = refl
-    go t (some cut) p = let c = lowest-cut p in absurd (c .cut .disconnects (t .still cut (c .cut .small)))
+    go t (some cut) p = let c = lowest-cut p in absurd (c .cut .parts (t .still cut (c .cut .small)))
 
 -- the lowest cut is found
 pub lowest-found : {g : Graph} {cut : List ℕ} → LowestCut g cut → lowestCut g ≡ some cut
 lowest-found {g} {cut} c = go (lowestCut g) refl
   where
     go : (o : Option (List ℕ)) → lowestCut g ≡ o → o ≡ some cut
-    go none p = absurd (c .cut .disconnects (no-cut p cut (c .cut .small)))
+    go none p = absurd (c .cut .parts (no-cut p cut (c .cut .small)))
     go (some d) p = ap some (lowest-unique (lowest-cut p) c)

@@ -108,7 +108,7 @@ pub record Running (g : Graph) (done : List (List Leg)) (walk : List Leg) (rest 
 -- a row passes: it fits, and either its step is whole and passes, or the next row goes on with it
 record Passed (g : Graph) (done : List (List Leg)) (walk : List Leg) (k : ℕ) (r : Row) (rest : List Row) : Type 0 where
   fits : RowFits g done walk r
-  then : ((stepNumber g done (walk ++ (legOf r ∷ [])) ≡ 0) × (judgeRows g ((walk ++ (legOf r ∷ [])) ∷ done) [] (suc k) rest ≡ passed))
+  after : ((stepNumber g done (walk ++ (legOf r ∷ [])) ≡ 0) × (judgeRows g ((walk ++ (legOf r ∷ [])) ∷ done) [] (suc k) rest ≡ passed))
       ⊎ ((T (isLast r rest) → ⊥) × (judgeRows g done (walk ++ (legOf r ∷ [])) (suc k) rest ≡ passed))
 
 row-passed : (g : Graph) (done : List (List Leg)) (walk : List Leg) (k : ℕ) (r : Row) (rest : List Row)
@@ -116,7 +116,7 @@ row-passed : (g : Graph) (done : List (List Leg)) (walk : List Leg) (k : ℕ) (r
 unfolding judgeRows
 row-passed g done walk k r rest h = let p = both-passed _ _ h in record {
   fits = row-fits g done walk r .0 (p .0);
-  then = elim (T-dec (isLast r rest)) [
+  after = elim (T-dec (isLast r rest)) [
     | yes t ↦ inl (both-passed _ _ (rw (T-true (isLast r rest) t) at (p .1)))
     | no n ↦ inr (n, rw (T-false (isLast r rest) n) at (p .1))
   ];
@@ -137,7 +137,7 @@ passing g done walk k (r ∷ rest) b o d h =
     let w = one-more b (p .fits) in
     let e = more-distinct (p .fits) d in
     let same = sym (rows-snoc (length done) walk r rest (p .fits .step)) in
-    elim (p .then) [
+    elim (p .after) [
       | inl q ↦ let n = passing g (longer ∷ done) [] (suc k) rest nothing (λ z. refl) e (q .1) in
           record { walks = longer ∷ n .walks; runs = step (w .2) e (q .0) (n .runs); rows = same ∙ ap (λ (m : List Row). rowsAt (length done) longer ++ m) (n .rows) }
       | inr q ↦ let n = passing g done longer (suc k) rest (some (w .2)) (λ z. absurd (last-row r rest (q .0) z)) e (q .1) in

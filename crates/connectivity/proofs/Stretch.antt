@@ -28,7 +28,7 @@ pub record WalkIn (g : Graph) (built : List ℕ) (legs : List Leg) : Type 0 wher
   pub to : ℕ
   pub walk : Walk g from legs to
   pub simple : Distinct (froms legs)
-  pub over : (e : ℕ) → In e (edgesOf legs) → In e built
+  pub among : (e : ℕ) → In e (edgesOf legs) → In e built
   pub once : Distinct (edgesOf legs)
   pub branch-from : Branch g built from
   pub branch-to : Branch g built to
@@ -40,7 +40,7 @@ grown {g} {built} new w = record {
   to = w .to;
   walk = w .walk;
   simple = w .simple;
-  over = λ e i. in-right new (w .over e i);
+  among = λ e i. in-right new (w .among e i);
   once = w .once;
   branch-from = omega (arith, degree-append g new built (w .from), w .branch-from);
   branch-to = omega (arith, degree-append g new built (w .to), w .branch-to);
@@ -71,7 +71,7 @@ module _ {g : Graph} {a b : ℕ} where
       to = b;
       walk = k;
       simple = froms-distinct k (λ j. head-distinct (t .simple) (later (inner-of walks i a j))) distinct;
-      over = edges-of walks i;
+      among = edges-of walks i;
       once = edges-once walks i d;
       branch-from = at-a;
       branch-to = at-b;
@@ -81,7 +81,7 @@ module _ {g : Graph} {a b : ℕ} where
       to = a;
       walk = k;
       simple = froms-distinct k (λ j. head-distinct (tail-distinct (t .simple)) (inner-of walks i b j)) distinct;
-      over = edges-of walks i;
+      among = edges-of walks i;
       once = edges-once walks i d;
       branch-from = at-b;
       branch-to = at-a;
@@ -105,7 +105,7 @@ walk-in {g} {legs = legs} (mader {walks = walks} {u = u} {w = w} {legs = new} p 
     to = w;
     walk = k .walk;
     simple = froms-distinct (k .walk) (λ j. k .fresh u j (k .begins)) (k .simple);
-    over = λ e m. in-left (allEdges walks) m;
+    among = λ e m. in-left (allEdges walks) m;
     once = left-distinct (edgesOf new) (allEdges walks) d;
     branch-from = omega (arith, degree-append g (edgesOf new) (allEdges walks) u, start-degree (k .walk), degree-two u (stage p rest) (k .begins));
     branch-to = omega (arith, degree-append g (edgesOf new) (allEdges walks) w, stop-degree (k .walk), degree-two w (stage p rest) (k .ends));
@@ -194,7 +194,7 @@ module _ {g : Graph} {built : List ℕ} {legs : List Leg} (w : WalkIn g built le
           | inl a ↦ inl (a .0, omega (arith, a .1))
           | inr a ↦ inl (omega (arith, a .0, l, n), omega (arith, a .1, l, n))
         ])))
-        (over c (bare-edge k (w .over c (place-edge r)) (h j c v (inl (omega (arith, l, n), omega arith)) r) (h (suc j) d y (inl (l, omega arith)) q)) k here)
+        (over c (bare-edge k (w .among c (place-edge r)) (h j c v (inl (omega (arith, l, n), omega arith)) r) (h (suc j) d y (inl (l, omega arith)) q)) k here)
   ]
 
   -- the place of a vertex that is no branch and that a clear stretch joins to place i
@@ -210,7 +210,7 @@ module _ {g : Graph} {built : List ℕ} {legs : List Leg} (w : WalkIn g built le
   inside s = elim (froms-cases (w .walk) (place-vertex (s .place))) [ inl p ↦ absurd (s .plain (rw p (w .branch-from))) | inr k ↦ k ]
 
   has-edge : {i v e y : ℕ} → Seen i v → In e built → Joins g e v y → In e (edgesOf legs)
-  has-edge {v = v} {e = e} s b j = full g (edgesOf legs) built v e (w .once) (w .over) (s .plain) (inner-least v (w .walk) (inside s)) b (hits-from j)
+  has-edge {v = v} {e = e} s b j = full g (edgesOf legs) built v e (w .once) (w .among) (s .plain) (inner-least v (w .walk) (inside s)) b (hits-from j)
 
   -- one place on, and one back
   on-one : {i v y d : ℕ} (s : Seen i v) → (Branch g built y → ⊥) → Place legs (suc (s .at)) d y → Seen i y
@@ -290,5 +290,5 @@ pub same-link-stretch : {g : Graph} {walks : List (List Leg)} {legs : List Leg} 
     → SameLink g (allEdges walks) x y ↔ Clear g (allEdges walks) legs i j
 same-link-stretch {g} {walks} {c = c} {x = x} p k i f t n = let w = walk-in p k i in
     let along = stretch w f t n in
-    let link = same-link-iff (stage p k) (in-degree g x (w .over c (place-edge f)) (hits-from (leads (w .walk) f .1))) n in
+    let link = same-link-iff (stage p k) (in-degree g x (w .among c (place-edge f)) (hits-from (leads (w .walk) f .1))) n in
     (λ s. along .0 (link .0 s), λ h. link .1 (along .1 h))

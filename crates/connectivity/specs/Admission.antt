@@ -12,23 +12,26 @@ pub record Answer : Type 0 where
   pub number : ℕ
   pub place : ℕ
 
+-- the answer with this number at this place
 abbrev pub answer : ℕ → ℕ → Answer
 answer n p = record { number = n; place = p }
 
+-- 01: success; a verdict passes when the check answers it
 abbrev pub passed : Answer
 passed = answer 0 0
 
 -- 01: what is handed back: number and place, and the values of a success
 pub record Handed : Type 0 where
-  pub answer : Answer
+  pub reply : Answer
   pub values : List ℕ
 
--- a success with its values, and a refusal, which has none
+-- a success with its values
 abbrev pub served : List ℕ → Handed
-served values = record { answer = passed; values = values }
+served values = record { reply = passed; values = values }
 
+-- a refusal, which has none
 abbrev pub refusal : Answer → Handed
-refusal a = record { answer = a; values = [] }
+refusal a = record { reply = a; values = [] }
 
 -- the first answer, or if it is success the second
 unfoldable pub andThen : Answer → Answer → Answer
@@ -40,7 +43,7 @@ pub record EndsFit (p : Plan) (e : ℕ) : Type 0 where
   pub right : getD (p .ends) (2 * e + 1) 0 < p .vertices
   pub different : getD (p .ends) (2 * e) 0 ≡ getD (p .ends) (2 * e + 1) 0 → ⊥
 
--- 01: admitted
+-- 01: admitted: none of the plan's own refusals, 1 to 5, applies
 pub record Admitted (most : Limits) (p : Plan) : Type 0 where
   pub even : length (p .ends) % 2 ≡ 0
   pub two : 2 ≤ p .vertices
@@ -58,7 +61,7 @@ endsAnswer n e [] = passed
 endsAnswer n e (a ∷ []) = passed
 endsAnswer n e (a ∷ (b ∷ ends)) = andThen (answer (edgeNumber n a b) e) (endsAnswer n (suc e) ends)
 
--- 01: 1, 2, 3, then the first edge with 4 or 5
+-- 01: the plan's own refusals: 1, 2, 3, then the first edge with 4 or 5
 unfoldable pub admission : Limits → Plan → Answer
 admission most p =
     cond (eqb (length (p .ends) % 2) 0)

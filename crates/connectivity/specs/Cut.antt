@@ -13,16 +13,16 @@ use Rattle.connectivity.specs.Reach.{Connected, Disconnects}
 
 -- What is the lowest cut.
 
--- a set of edges, written in ascending order
+-- 01: a set of tabs, in ascending order
 pub record EdgeSet (g : Graph) (l : List ℕ) : Type 0 where
   pub ascending : Ordered _<_ l
-  pub edges : (e : ℕ) → In e l → Edge g e
+  pub members : (e : ℕ) → In e l → Edge g e
 
 -- 01: a weak verdict's tabs: two at most, ascending, the plan's, and they part the sheet
 pub record Cut (g : Graph) (l : List ℕ) : Type 0 where
   pub set : EdgeSet g l
   pub small : length l ≤ 2
-  pub disconnects : Disconnects g l
+  pub parts : Disconnects g l
 
 -- the first place at which two lists differ has the lower number in the first list
 pub data Lower : List ℕ → List ℕ → Type 0 where
@@ -68,19 +68,21 @@ unreachedFrom g live (u ∷ others) = unreached g live u
 unfoldable pub cutOff : Graph → List ℕ → List ℕ
 cutOff g cut = unreachedFrom g (λ e. not (mem e cut)) (vertices g)
 
--- 01: the set parts the sheet
+-- 01: the set parts the sheet, computed
 unfoldable pub disconnects : Graph → List ℕ → Bool
 disconnects g cut = not (empty (cutOff g cut))
 
--- the sets of one edge, and of two, in order
+-- the sets of one edge, in order
 unfoldable pub singles : List ℕ → List (List ℕ)
 singles [] = []
 singles (e ∷ l) = (e ∷ []) ∷ singles l
 
+-- the sets of e and one of some edges, in order
 unfoldable pub pairsWith : ℕ → List ℕ → List (List ℕ)
 pairsWith e [] = []
 pairsWith e (d ∷ l) = (e ∷ d ∷ []) ∷ pairsWith e l
 
+-- the sets of two edges, in order
 unfoldable pub pairs : List ℕ → List (List ℕ)
 pairs [] = []
 pairs (e ∷ l) = pairsWith e l ++ pairs l

@@ -7,8 +7,8 @@ use Prim.Native.Nat.{ℕ, _<_}
 use lib.Dec.{T, ltb}
 use Rattle.connectivity.specs.Lists.{range, keep}
 
--- `bound` is above every vertex, `kept` tells which numbers below it are vertices, `size` is how many entries the table of
--- ends has, and `left e` and `right e` are the ends of entry `e`.
+-- `bound` is above every vertex, `kept` tells which numbers below it are vertices, `size` is how many entries the table of ends has, and
+-- `left e` and `right e` are the ends of entry `e`
 pub record Graph : Type 0 where
   pub bound : ℕ
   pub kept : ℕ → Bool
@@ -27,18 +27,19 @@ pub record Edge (g : Graph) (e : ℕ) : Type 0 where
   pub left : Vertex g (g .left e)
   pub right : Vertex g (g .right e)
 
--- the edge e joins u and v, its ends, one way or the other
+-- 01: the ends of a tab: the edge e joins u and v, one way or the other
 pub record Joins (g : Graph) (e u v : ℕ) : Type 0 where
   pub edge : Edge g e
   pub ends : ((g .left e ≡ u) × (g .right e ≡ v)) ⊎ ((g .left e ≡ v) × (g .right e ≡ u))
 
--- the vertices and the edges, ascending
+-- a number is a vertex, and an edge, computed
 unfoldable pub isVertex : Graph → ℕ → Bool
 isVertex g v = ltb v (g .bound) && g .kept v
 
 unfoldable pub isEdge : Graph → ℕ → Bool
 isEdge g e = ltb e (g .size) && (isVertex g (g .left e) && isVertex g (g .right e))
 
+-- the vertices and the edges, ascending
 unfoldable pub vertices : Graph → List ℕ
 vertices g = keep (isVertex g) (range 0 (g .bound))
 

@@ -18,12 +18,14 @@ pub record Row : Type 0 where
   pub edge : ℕ
   pub from : ℕ
 
+-- the rows of a list, three numbers each
 unfoldable pub rowsOf : List ℕ → List Row
 rowsOf [] = []
 rowsOf (s ∷ []) = []
 rowsOf (s ∷ (e ∷ [])) = []
 rowsOf (s ∷ (e ∷ (v ∷ list))) = record { step = s; edge = e; from = v } ∷ rowsOf list
 
+-- a row without its step
 abbrev pub legOf : Row → Leg
 legOf r = record { edge = r .edge; from = r .from }
 
@@ -38,11 +40,12 @@ stepFits done r = eqb (r .step) (length done)
 unfoldable pub edgeFits : Graph → List (List Leg) → List Leg → Row → Bool
 edgeFits g done walk r = isEdge g (r .edge) && (not (mem (r .edge) (edgesOf walk)) && not (mem (r .edge) (allEdges done)))
 
--- 12: an end of the edge, and where the walk of this step has come to
+-- v is where the walk of this step has come to
 unfoldable pub comesTo : Graph → List Leg → ℕ → Bool
 comesTo g [] v = true
 comesTo g (l ∷ legs) v = eqb (stop g (l ∷ legs)) v
 
+-- 12: an end of the edge, and where the walk of this step has come to
 unfoldable pub fromFits : Graph → List Leg → Row → Bool
 fromFits g walk r =
     (eqb (g .left (r .edge)) (r .from) || eqb (g .right (r .edge)) (r .from)) && comesTo g walk (r .from)
@@ -52,29 +55,31 @@ unfoldable pub rowNumber : Graph → List (List Leg) → List Leg → Row → �
 rowNumber g done walk r =
     cond (stepFits done r) (cond (edgeFits g done walk r) (cond (fromFits g walk r) 0 12) 11) 10
 
--- 13: of steps 0, 1 and 2, those so far are paths between the same two different vertices, in either direction, and no inner vertex is
--- one of these two, occurs twice or stands in two of the paths
+-- a walk leads from a to b or from b to a
 unfoldable pub leadsBetween : Graph → ℕ → ℕ → List Leg → Bool
 leadsBetween g a b legs =
     (eqb (start legs) a && eqb (stop g legs) b) || (eqb (start legs) b && eqb (stop g legs) a)
 
+-- all of some walks do
 unfoldable pub allBetween : Graph → ℕ → ℕ → List (List Leg) → Bool
 allBetween g a b [] = true
 allBetween g a b (legs ∷ walks) = leadsBetween g a b legs && allBetween g a b walks
 
+-- 13: of steps 0, 1 and 2, those so far are paths between the same two different vertices, in either direction, and no inner vertex is
+-- one of these two, occurs twice or stands in two of the paths
 unfoldable pub pathsFit : Graph → List (List Leg) → List Leg → Bool
 pathsFit g done walk =
     allBetween g (start walk) (stop g walk) done
     && distinct (start walk ∷ (stop g walk ∷ allInner (walk ∷ done)))
 
--- 14: a later step begins and ends on built vertices, its inner vertices are new and all different, and it is closed only at a branch
+-- 14: a later step is an ear (document 003): it begins and ends on built vertices, its inner vertices are new and all different, and it is closed only at a branch
 unfoldable pub earFits : Graph → List ℕ → List Leg → Bool
 earFits g built walk =
     (isBuilt g built (start walk) && isBuilt g built (stop g walk))
     && (all (λ v. not (isBuilt g built v)) (inner walk) && distinct (inner walk))
     && (not (eqb (start walk) (stop g walk)) || isBranch g built (start walk))
 
--- 15: if neither end is a branch, they lie inside different links
+-- 15: the link rule: if neither end is a branch, they lie inside different links
 unfoldable pub linksFit : Graph → List ℕ → List Leg → Bool
 linksFit g built walk =
     isBranch g built (start walk) || isBranch g built (stop g walk) || not (sameLink g built (start walk) (stop g walk))
@@ -85,11 +90,11 @@ stepNumber g done walk =
     cond (ltb (length done) 3) (cond (pathsFit g done walk) 0 13)
     (cond (earFits g (allEdges done) walk) (cond (linksFit g (allEdges done) walk) 0 15) 14)
 
--- 16: three steps or more, and every vertex is built and has three or more edges
+-- 16: the closing rule: three steps or more, and every vertex is built and has three or more edges
 unfoldable pub closingNumber : Graph → List (List Leg) → ℕ
 closingNumber g done = cond (leb 3 (length done) && all (isBranch g (allEdges done)) (vertices g)) 0 16
 
--- a row is the last of its step if no row follows or the next has another step number
+-- 01: a row is the last of its step if no row follows or the next has another step number
 unfoldable pub isLast : Row → List Row → Bool
 isLast r [] = true
 isLast r (next ∷ rest) = not (eqb (r .step) (next .step))
@@ -127,7 +132,7 @@ judgeGraph g kind list =
     let weak = judgeWeak g list in
     cond (eqb kind 0) firm (cond (eqb kind 1) weak (answer 9 0))
 
--- 01: the plan's own 1 to 5, then the verdict's
+-- 01: the check's answer: the plan's own 1 to 5, then the verdict's
 unfoldable pub judge : Limits → Plan → ℕ → List ℕ → Answer
 judge most p kind list =
     let found = judgeGraph (graph p) kind list in

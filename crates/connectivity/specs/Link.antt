@@ -18,7 +18,7 @@ pub record Link (g : Graph) (built : List ℕ) (a : ℕ) (legs : List Leg) (b : 
   pub to : Branch g built b
   pub two : (v : ℕ) → In v (inner legs) → degree g built v ≡ 2
 
--- u and w lie inside one link
+-- 01: u and w lie inside one link
 pub record SameLink (g : Graph) (built : List ℕ) (u w : ℕ) : Type 0 where
   pub a : ℕ
   pub legs : List Leg

@@ -19,10 +19,12 @@ unfoldable pub range : ℕ → ℕ → List ℕ
 range i zero = []
 range i (suc k) = i ∷ range (suc i) k
 
+-- some member passes a test
 unfoldable pub any : (ℕ → Bool) → List ℕ → Bool
 any f [] = false
 any f (x ∷ l) = f x || any f l
 
+-- every member does
 unfoldable pub all : (ℕ → Bool) → List ℕ → Bool
 all f [] = true
 all f (x ∷ l) = f x && all f l
@@ -32,14 +34,17 @@ unfoldable pub keep : (ℕ → Bool) → List ℕ → List ℕ
 keep f [] = []
 keep f (x ∷ l) = cond (f x) (x ∷ keep f l) (keep f l)
 
+-- x is a member
 unfoldable pub mem : ℕ → List ℕ → Bool
 mem x [] = false
 mem x (y ∷ l) = eqb x y || mem x l
 
+-- no member stands twice, computed
 unfoldable pub distinct : List ℕ → Bool
 distinct [] = true
 distinct (x ∷ l) = not (mem x l) && distinct l
 
+-- there is no member
 unfoldable pub empty : List ℕ → Bool
 empty [] = true
 empty (x ∷ l) = false

@@ -15,7 +15,8 @@ pub record Theta (g : Graph) (a b : ℕ) (walks : List (List Leg)) : Type 0 wher
   pub between : (legs : List Leg) → In legs walks → Between g a legs b
   pub simple : Distinct (a ∷ b ∷ allInner walks)
 
--- 01: each later step, over the edges that are built before it
+-- 01: each later step, over the edges that are built before it; document 003: what Corollary 1 adds, a Mader-path. Without the link rule it
+-- would be an ear.
 pub record MaderPath (g : Graph) (built : List ℕ) (u : ℕ) (legs : List Leg) (w : ℕ) : Type 0 where
   pub walk : Walk g u legs w
   -- it begins and ends on vertices already built
@@ -35,17 +36,17 @@ pub data Steps (g : Graph) : List (List Leg) → Type 0 where
   mader : {walks : List (List Leg)} {u w : ℕ} {legs : List Leg} → Steps g walks → MaderPath g (allEdges walks) u legs w
       → Steps g (legs ∷ walks)
 
--- 01: one row for each edge, three numbers to a row: step, edge, vertex. Steps count 0, 1, 2 and so on.
+-- 01: the rows of step s, three numbers to a row: step, edge, vertex
 abbrev pub stepRows : ℕ → List Leg → List ℕ
 stepRows s [] = []
 stepRows s (l ∷ legs) = s ∷ (l .edge ∷ (l .from ∷ stepRows s legs))
 
--- the rows of the steps, of which the latest comes first
+-- 01: a record: the rows of the steps, of which the latest comes first in `walks`. Steps count 0, 1, 2 and so on.
 abbrev pub rows : List (List Leg) → List ℕ
 rows [] = []
 rows (legs ∷ walks) = rows walks ++ stepRows (length walks) legs
 
--- 01: the list builds the plan by Mader's steps. One claim about the whole list.
+-- 01: the list builds the plan by Mader's steps. One claim about the whole list: three numbers for each edge, of the plan and the list alone.
 pub record Builds (g : Graph) (list : List ℕ) : Type 0 where
   pub walks : List (List Leg)
   pub numbers : list ≡ rows walks

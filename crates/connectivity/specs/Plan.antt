@@ -10,6 +10,7 @@ pub record Plan : Type 0 where
   pub vertices : ℕ
   pub ends : List ℕ
 
+-- the plan with n pieces and these ends
 abbrev pub plan : ℕ → List ℕ → Plan
 plan n ends = record { vertices = n; ends = ends }
 
@@ -23,11 +24,11 @@ graph p = record {
   right = λ e. getD (p .ends) (2 * e + 1) 0;
 }
 
--- 01: the limits belong to the plan
+-- 01: limits: how many pieces and tabs a plan may have
 pub record Limits : Type 0 where
   pub vertices : ℕ
   pub edges : ℕ
 
--- 01: 1,000 pieces and 4,000 tabs
+-- 01: the limits that it names, 1,000 pieces and 4,000 tabs
 abbrev pub limits : Limits
 limits = record { vertices = 1000; edges = 4000 }

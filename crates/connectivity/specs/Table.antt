@@ -11,29 +11,29 @@ use Rattle.connectivity.specs.Judge.{judge}
 pub record Checked : Type 0 where
   pub kind : ℕ
   pub list : List ℕ
-  pub answer : Answer
+  pub reply : Answer
 
 -- a plan, the space lent for a record, the verdict, and verdicts that were checked
 pub record Case : Type 0 where
   pub drawn : Plan
   pub space : ℕ
-  pub verdict : Verdict
+  pub found : Verdict
   pub checks : List Checked
 
 -- a case as the definitions have it
 unfoldable pub checkedBy : Plan → Checked → Checked
-checkedBy p c = record { kind = c .kind; list = c .list; answer = judge limits p (c .kind) (c .list) }
+checkedBy p c = record { kind = c .kind; list = c .list; reply = judge limits p (c .kind) (c .list) }
 
 unfoldable pub computed : Case → Case
 computed c = record {
   drawn = c .drawn;
   space = c .space;
-  verdict = verdict limits (c .drawn) (c .space);
+  found = verdict limits (c .drawn) (c .space);
   checks = map (checkedBy (c .drawn)) (c .checks);
 }
 
 abbrev case : ℕ → List ℕ → ℕ → Verdict → List Checked → Case
-case n ends space v checks = record { drawn = plan n ends; space = space; verdict = v; checks = checks }
+case n ends space v checks = record { drawn = plan n ends; space = space; found = v; checks = checks }
 
 -- a tab's two ends, and a row: step, tab, piece
 abbrev tab : ℕ → ℕ → List ℕ → List ℕ
@@ -43,13 +43,13 @@ abbrev row : ℕ → ℕ → ℕ → List ℕ → List ℕ
 row s e v rest = s ∷ e ∷ v ∷ rest
 
 abbrev firmList : List ℕ → Answer → Checked
-firmList list a = record { kind = 0; list = list; answer = a }
+firmList list a = record { kind = 0; list = list; reply = a }
 
 abbrev weakList : List ℕ → Answer → Checked
-weakList list a = record { kind = 1; list = list; answer = a }
+weakList list a = record { kind = 1; list = list; reply = a }
 
 abbrev other : ℕ → List ℕ → Answer → Checked
-other kind list a = record { kind = kind; list = list; answer = a }
+other kind list a = record { kind = kind; list = list; reply = a }
 
 -- P1; no step at all breaks the closing rule, and the empty list parts what is already parted
 abbrev p1 : Case

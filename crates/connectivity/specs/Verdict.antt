@@ -10,18 +10,19 @@ use Rattle.connectivity.specs.Plan.{Plan, graph, Limits}
 use Rattle.connectivity.specs.Cut.{lowestCut}
 use Rattle.connectivity.specs.Admission.{Answer, answer, Handed, served, refusal, admission}
 
--- 01: refused; weak, with the edges that it names; firm
+-- 01: a verdict: refused; weak, with the tabs that it names; firm
 pub data Verdict : Type 0 where
   refused : Answer → Verdict
   weak : List ℕ → Verdict
   firm : Verdict
 
--- weak with the lowest cut of at most two edges, else firm
+-- 01: weak, naming the lowest cut of at most two edges, where there is one; else firm
 unfoldable pub verdictOn : Option (List ℕ) → Verdict
 verdictOn none = firm
 verdictOn (some cut) = weak cut
 
--- 01: the plan's own 1 to 5; then 6, where the lent record has fewer than three numbers for each edge; then weak or firm
+-- 01: the writer's order: the plan's own 1 to 5; then 6, where the lent record, `space` numbers, has fewer than three for each edge; then weak
+-- or firm
 unfoldable pub verdict : Limits → Plan → ℕ → Verdict
 verdict most p space =
     let a = admission most p in

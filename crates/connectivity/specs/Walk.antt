@@ -6,7 +6,7 @@ use Prim.Native.Nat.{ℕ, _+_, _≤_}
 use lib.Dec.{eqb, leb}
 use Rattle.connectivity.specs.Graph.{Graph, Joins}
 
--- one row of a step: the edge, and the vertex from which it is walked
+-- 01: a row within its step: the edge, and the vertex from which it is walked
 pub record Leg : Type 0 where
   pub edge : ℕ
   pub from : ℕ
@@ -21,20 +21,22 @@ pub data Walk (g : Graph) : ℕ → List Leg → ℕ → Type 0 where
 abbrev pub Between : Graph → ℕ → List Leg → ℕ → Type 0
 Between g a legs b = Walk g a legs b ⊎ Walk g b legs a
 
--- the vertices that the legs leave from, and the inner ones: all but the first
+-- the vertices that the legs leave from
 abbrev pub froms : List Leg → List ℕ
 froms [] = []
 froms (l ∷ legs) = l .from ∷ froms legs
 
+-- 01: the inner pieces of a step: all but its first and its last
 abbrev pub inner : List Leg → List ℕ
 inner [] = []
 inner (l ∷ legs) = froms legs
 
+-- the edges of a walk
 abbrev pub edgesOf : List Leg → List ℕ
 edgesOf [] = []
 edgesOf (l ∷ legs) = l .edge ∷ edgesOf legs
 
--- the same of several walks
+-- the inner vertices, and the edges, of several walks
 abbrev pub allInner : List (List Leg) → List ℕ
 allInner [] = []
 allInner (legs ∷ walks) = inner legs ++ allInner walks
@@ -43,35 +45,40 @@ abbrev pub allEdges : List (List Leg) → List ℕ
 allEdges [] = []
 allEdges (legs ∷ walks) = edgesOf legs ++ allEdges walks
 
--- how many of the built edges have the end v
+-- 1 where the edge e has the end v, else 0
 unfoldable pub hits : Graph → ℕ → ℕ → ℕ
 hits g e v = cond (eqb (g .left e) v || eqb (g .right e) v) 1 0
 
+-- how many of the built edges have the end v
 abbrev pub degree : Graph → List ℕ → ℕ → ℕ
 degree g [] v = 0
 degree g (e ∷ built) v = hits g e v + degree g built v
 
--- 01: a built piece, and a branch piece
+-- 01: a built piece: the end of a built tab
 abbrev pub Built : Graph → List ℕ → ℕ → Type 0
 Built g built v = 1 ≤ degree g built v
 
+-- 01: a branch piece has three or more built tabs
 abbrev pub Branch : Graph → List ℕ → ℕ → Type 0
 Branch g built v = 3 ≤ degree g built v
 
+-- the same, computed
 unfoldable pub isBuilt : Graph → List ℕ → ℕ → Bool
 isBuilt g built v = leb 1 (degree g built v)
 
 unfoldable pub isBranch : Graph → List ℕ → ℕ → Bool
 isBranch g built v = leb 3 (degree g built v)
 
--- where a leg leads, where a walk begins and where it has come to
+-- 01: a row's far end: the end of the edge e that is not v
 unfoldable pub far : Graph → ℕ → ℕ → ℕ
 far g e v = cond (eqb (g .left e) v) (g .right e) (g .left e)
 
+-- where a walk begins
 unfoldable pub start : List Leg → ℕ
 start [] = 0
 start (l ∷ legs) = l .from
 
+-- where a walk has come to
 unfoldable pub stop : Graph → List Leg → ℕ
 stop g [] = 0
 stop g (l ∷ []) = far g (l .edge) (l .from)

@@ -24,7 +24,7 @@ pub not-served : {a : Answer} {x : ℕ} {l : List ℕ} → refusal a ≡ served 
 not-served p = let z = ap (λ (h : Handed). length (h .values)) p in omega (arith, z)
 
 pub told-by : {a : code.Answer} {b : Answer} → refusal (answerOf a) ≡ refusal b → a ≡ toldBy b
-told-by p = ap (λ (h : Handed). toldBy (h .answer)) p
+told-by p = ap (λ (h : Handed). toldBy (h .reply)) p
 
 -- What the constructor says.
 

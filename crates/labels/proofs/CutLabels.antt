@@ -215,8 +215,8 @@ but-or e {d} cut i = elim (T-dec (eqb e d)) [
 
 pub record LeastCut (g : Graph) (cut : List ℕ) : Type 0 where
   pub distinct : Distinct cut
-  pub edges : (e : ℕ) → In e cut → Edge g e
-  pub disconnects : Disconnects g cut
+  pub members : (e : ℕ) → In e cut → Edge g e
+  pub parts : Disconnects g cut
   pub needed : (e : ℕ) → In e cut → Connected g (but e cut)
 
 -- Its sides: what u reaches without its edges, and what is beyond.
@@ -276,9 +276,9 @@ module _ (g : Graph) (label : ℕ → ℕ) (b : Balanced g label) (loops : NoLoo
   -- the labels of a cut of which every edge is needed cancel
   pub cut-cancels : (u : ℕ) → Vertex g u → {cut : List ℕ} → LeastCut g cut → xors label cut ≡ 0
   cut-cancels u h {cut} c =
-      sym (xors-same cut (λ e i. counts e (T-true (crossing g side e) (needed-crosses g cut u h (c .disconnects) e (c .needed e i)))))
+      sym (xors-same cut (λ e i. counts e (T-true (crossing g side e) (needed-crosses g cut u h (c .parts) e (c .needed e i)))))
       ∙ sym (xors-part (λ e. when (crossing g side e) (label e)) (ordered-distinct (ordered-edges g)) (c .distinct)
-      (λ e i. edges-are g e .1 (c .edges e i))
+      (λ e i. edges-are g e .1 (c .members e i))
       (λ e i n. counts e (only-cut g cut u e (edges-are g e .0 i) n)))
       ∙ crossing-cancels g side label b loops
     where
@@ -292,8 +292,8 @@ module _ (g : Graph) (label : ℕ → ℕ) (b : Balanced g label) (loops : NoLoo
   unfolding xors
   label-one e c h dis = sym (xor-zero-r (label e)) ∙ cut-cancels (g .left e) (h .left) (record {
     distinct = one (λ i. absurd (not-in i)) no-member;
-    edges = λ d i. subst (Edge g) (sym (eq-of-singleton i)) h;
-    disconnects = dis;
+    members = λ d i. subst (Edge g) (sym (eq-of-singleton i)) h;
+    parts = dis;
     needed = λ x i. connected-less c (λ y _ j. let q = but-is x (e ∷ []) j in absurd (q .1 (eq-of-singleton (q .0) ∙ sym (eq-of-singleton i))));
   })
 
@@ -302,8 +302,8 @@ module _ (g : Graph) (label : ℕ → ℕ) (b : Balanced g label) (loops : NoLoo
   unfolding xors
   label-two e d ce cd he hd ne dis = xor-equal (label e) (label d) (ap (bitXor (label e)) (sym (xor-zero-r (label d))) ∙ cut-cancels (g .left e) (he .left) (record {
     distinct = one (λ i. ne (eq-of-singleton i)) (one (λ i. absurd (not-in i)) no-member);
-    edges = λ x i. elim (in-cons i) [ inl p ↦ subst (Edge g) (sym p) he | inr j ↦ subst (Edge g) (sym (eq-of-singleton j)) hd ];
-    disconnects = dis;
+    members = λ x i. elim (in-cons i) [ inl p ↦ subst (Edge g) (sym p) he | inr j ↦ subst (Edge g) (sym (eq-of-singleton j)) hd ];
+    parts = dis;
     needed = λ x i. elim (in-cons i) [
       | inl p ↦ connected-less cd (λ y _ j. without-first p (but-is x (e ∷ d ∷ []) j))
       | inr k ↦ connected-less ce (λ y _ j. without-second (eq-of-singleton k) (but-is x (e ∷ d ∷ []) j))

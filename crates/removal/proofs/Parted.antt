@@ -66,6 +66,6 @@ module _ (n : ℕ) (ends cut : List ℕ) (reached₀ : List Bool) where
     unchanged = λ h. absurd (not-refused t h);
   }
     where
-      not-refused : (t : Bool) → ((handed (said t)) .answer ≡ passed → ⊥) → ⊥
+      not-refused : (t : Bool) → ((handed (said t)) .reply ≡ passed → ⊥) → ⊥
       not-refused true h = h refl
       not-refused false h = h refl

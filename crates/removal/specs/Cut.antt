@@ -40,11 +40,11 @@ pub record Answered (most : Limits) (p : Plan) (cut : List ℕ) (reached₀ reac
   -- 01: the plan's own refusals, then 6 where the lent space is too short, then whether the set parts the sheet
   pub answer : handed r ≡ splitAfter (lent most p (enough p reached₀)) p cut
   -- not refused: of each vertex whether the lowest one reaches it
-  pub marks : (handed r) .answer ≡ passed → (v : ℕ) → v < p .vertices → getD reached v false ≡ not (mem v (cutOff (graph p) cut))
+  pub marks : (handed r) .reply ≡ passed → (v : ℕ) → v < p .vertices → getD reached v false ≡ not (mem v (cutOff (graph p) cut))
   -- what lies behind stays
   pub behind : (k : ℕ) → p .vertices ≤ k → getD reached k false ≡ getD reached₀ k false
   -- refused: all of it stays
-  pub unchanged : ((handed r) .answer ≡ passed → ⊥) → reached ≡ reached₀
+  pub unchanged : ((handed r) .reply ≡ passed → ⊥) → reached ≡ reached₀
 
 -- what a search has left of an admitted plan without the cut: `count` vertices were seen, and those that were not are cut off
 pub record Left (n : ℕ) (ends cut first : List ℕ) (count : ℕ) : Type 0 where

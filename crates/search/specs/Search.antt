@@ -121,7 +121,7 @@ Served p roles dead first₀ order₀ first order (count ∷ (met ∷ (more ∷ 
 -- the whole answer of a search
 pub record Answered (most : Limits) (p : Plan) (roles dead first₀ order₀ first order : List ℕ) (r : Explored) : Type 0 where
   -- 01: the plan's own refusals, then 6 where the lent space is too short
-  pub answer : (handed r) .answer ≡ lent most p (enough p roles dead first₀ order₀)
+  pub answer : (handed r) .reply ≡ lent most p (enough p roles dead first₀ order₀)
   -- what is found
   pub found : lent most p (enough p roles dead first₀ order₀) ≡ passed → Served p roles dead first₀ order₀ first order ((handed r) .values)
   -- refused: both slices stay

@@ -168,8 +168,8 @@ pub record Passing (ws : List ℕ) (limits : Limits) (plan verdict : List ℕ) :
   pub drawn : Plan
   pub kind : ℕ
   pub list : List ℕ
-  pub plan-is : plan ≡ planText ws drawn
-  pub verdict-is : verdict ≡ verdictText ws kind list
+  pub plan-same : plan ≡ planText ws drawn
+  pub verdict-same : verdict ≡ verdictText ws kind list
   pub passes : judge limits drawn kind list ≡ passed
 
 -- 01: only such texts pass
@@ -183,8 +183,8 @@ module _ (ws : List ℕ) (most : ℕ) (limits : Limits) (plan verdict : List ℕ
     drawn = d;
     kind = kind;
     list = list;
-    plan-is = plan-is ws most limits plan _ d p;
-    verdict-is = verdict-is ws most limits verdict _ kind list q;
+    plan-same = plan-is ws most limits plan _ d p;
+    verdict-same = verdict-is ws most limits verdict _ kind list q;
     passes = z;
   }
 

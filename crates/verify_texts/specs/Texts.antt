@@ -9,10 +9,11 @@ use Rattle.text.specs.Verdict.{VerdictReading, needed, readVerdict}
 
 -- In what follows `ws` are the worths of a column's digits and `most` is the largest value.
 
--- 01: a text read in stated space: as many numbers as its header asks for, so that 6 is never the answer
+-- 01: a plan text read in stated space: as many numbers as its header asks for, so that 6 is never the answer
 unfoldable pub planIn : List ℕ → ℕ → Limits → List ℕ → PlanReading
 planIn ws most limits text = readPlan ws most limits text (2 * headerSecond ws text)
 
+-- the same of a verdict text
 unfoldable pub verdictIn : List ℕ → ℕ → Limits → List ℕ → VerdictReading
 verdictIn ws most limits text = readVerdict ws most limits text (needed (headerFirst ws text) (headerSecond ws text))
 
