@@ -1,5 +1,5 @@
 -- The writer's answer is the one about the record, as an outcome with the cut beside it.
-use mathlib.Core.Path.{_≡_, refl, ap, _∙_}
+use mathlib.Core.Path.{_≡_, refl, _∙_}
 use mathlib.Core.List.{List}
 use Prim.Native.Nat.{ℕ}
 use Rattle.connectivity.specs.Plan.{Plan, Limits}

@@ -2,18 +2,16 @@
 -- bytes that are left in the lent buffer pass the check of both texts.
 use mathlib.Core.Path.{_≡_, refl, sym, ap, subst, _∙_}
 use mathlib.Core.Logic.{⊎-elim}
-use mathlib.Core.Bool.{Bool, true, _&&_}
+use mathlib.Core.Bool.{true}
 use mathlib.Core.List.{List, [], _∷_, List·Memᴰ as In, List·Memᴰ·head as first, List·Memᴰ·tail as later}
 use Prim.Native.Nat.{ℕ, zero, suc, _+_, _*_, _/_, _%_, _≤_, _<_, _^_}
 use native.Mathlib.Omega.{arith}
-use lib.Dec.{eqb, leb}
 use lib.ListN.{length, getD, take, drop}
 use lib.Seq.{take-at}
 use borrow.Author.Tests.{eq-eqb, le-leb}
 use Rattle.connectivity.specs.Plan.{Plan, graph, Limits}
 use Rattle.connectivity.specs.Admission.{Admitted, Handed, passed}
 use Rattle.connectivity.specs.Judge.{judge}
-use Rattle.connectivity.specs.Verdict as meaning
 use Rattle.connectivity.proofs.Admission.{admitted-edges}
 use Rattle.connectivity.proofs.Verdict.{verdict-weak}
 use Rattle.connectivity.proofs.Judge.{firm-passes, weak-passes}

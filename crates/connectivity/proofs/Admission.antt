@@ -1,19 +1,19 @@
 -- `admission` answers 0 and 0 exactly for the plans that are admitted; the limits of 01; and what an admitted plan's graph has.
-use mathlib.Core.Path.{_≡_, refl, sym, ap, _∙_, subst}
+use mathlib.Core.Path.{_≡_, refl, sym, ap, _∙_}
 use mathlib.Core.Logic.{_⊎_, inl, inr, _↔_}
 use mathlib.Core.Bool.{Bool, true, false, cond, _&&_, _||_}
 use mathlib.Core.List.{List, [], _∷_, List·Memᴰ as In, List·Memᴰ·head as first, List·Memᴰ·tail as later}
-use Prim.Native.Nat.{ℕ, zero, suc, _+_, _*_, _/_, _%_, _≤_, _<_}
+use Prim.Native.Nat.{ℕ, zero, suc, _+_, _*_, _/_, _%_, _<_}
 use native.Mathlib.Omega.{arith}
 use native.Mathlib.Decide.{ℕ-discrete, decLt}
-use lib.Dec.{T, eqb, ltb, ltb→lt, lt→ltb, eqb→eq}
+use lib.Dec.{T, eqb, ltb, ltb→lt}
 use lib.ListN.{length, getD}
-use borrow.Author.Tests.{eqb-true, eqb-false, ltb-true, ltb-false, eq-eqb, ne-eqb, lt-ltb, le-ltb}
+use borrow.Author.Tests.{eqb-true, eqb-false, ltb-false, eq-eqb, ne-eqb, lt-ltb, le-ltb}
 use Rattle.connectivity.specs.Lists.{range, keep}
-use Rattle.connectivity.specs.Graph.{Graph, Vertex, Edge, isEdge, edges}
+use Rattle.connectivity.specs.Graph.{Vertex, Edge, isEdge, edges}
 use Rattle.connectivity.specs.Plan.{Plan, plan, graph, Limits}
 use Rattle.connectivity.specs.Admission.{Answer, answer, passed, EndsFit, Admitted, andThen, edgeNumber, endsAnswer, admission}
-use Rattle.connectivity.proofs.Lists.{and-both, both-and, T-true, T-false, true-T, range-is}
+use Rattle.connectivity.proofs.Lists.{and-both, T-true, T-false, true-T, range-is}
 use Rattle.connectivity.proofs.Search.{is-edge}
 
 -- two answers, one after the other, are success where both are

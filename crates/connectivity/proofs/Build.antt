@@ -1,19 +1,18 @@
 -- A firm list passes exactly when it builds the graph by Mader's steps: one claim about the whole list, with no mark of the check's in it.
 use mathlib.Core.Path.{_≡_, refl, sym, ap, _∙_, subst}
 use mathlib.Core.Logic.{_⊎_, inl, inr, ⊎-swap, _↔_}
-use mathlib.Core.Bool.{Bool, true, false, cond}
-use mathlib.Core.List.{List, [], _∷_, _++_, List·Memᴰ as In, List·Memᴰ·head as first, List·Memᴰ·tail as later, List·Memᴰ·not-nil as not-in, List·Memᴰ·cases-cons as in-cons, List·Memᴰ·append-cases as in-cases, List·Memᴰ·eq-of-singleton as eq-of-singleton, Memᴰ·append-right as in-right, Memᴰ·cast, append-assoc, append-nil, reverseAux, reverse, reverse-reverse}
+use mathlib.Core.List.{List, [], _∷_, _++_, List·Memᴰ as In, List·Memᴰ·head as first, List·Memᴰ·tail as later, List·Memᴰ·not-nil as not-in, List·Memᴰ·cases-cons as in-cons, List·Memᴰ·append-cases as in-cases, List·Memᴰ·eq-of-singleton as eq-of-singleton, append-assoc, append-nil, reverseAux, reverse, reverse-reverse}
 use Prim.Native.Nat.{ℕ, zero, suc, _+_, _*_, _≤_, _<_}
 use native.Mathlib.Omega.{arith}
 use native.Mathlib.Decide.{decLt}
 use lib.Dec.{eqb, eqb→eq}
 use lib.ListN.{length, length-append}
 use borrow.Author.Tests.{eq-eqb}
-use Rattle.connectivity.specs.Lists.{Ordered, nil, cons, Distinct, no-member, one}
+use Rattle.connectivity.specs.Lists.{Distinct, no-member, one}
 use Rattle.connectivity.specs.Graph.{Graph, Vertex, Edge, edges}
-use Rattle.connectivity.specs.Walk.{Leg, Walk, last, then, Between, inner, edgesOf, allInner, allEdges, Branch, start, stop}
-use Rattle.connectivity.specs.Mader.{Theta, MaderPath, Steps, theta, mader, stepRows, rows, Builds}
-use Rattle.connectivity.specs.Admission.{Answer, answer, passed}
+use Rattle.connectivity.specs.Walk.{Leg, Walk, last, then, Between, inner, edgesOf, allInner, allEdges, Branch}
+use Rattle.connectivity.specs.Mader.{Steps, theta, mader, stepRows, rows, Builds}
+use Rattle.connectivity.specs.Admission.{passed}
 use Rattle.connectivity.specs.Judge.{Row, rowsOf, stepNumber, closingNumber, judgeRows, judgeFirm}
 use Rattle.connectivity.proofs.Lists.{in-dec}
 use Rattle.connectivity.proofs.Search.{edges-are}

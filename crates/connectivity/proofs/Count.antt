@@ -1,13 +1,13 @@
 -- Counts: in every list that builds the graph, steps and vertices together are two more than the edges.
-use mathlib.Core.Path.{_≡_, refl, sym, subst}
+use mathlib.Core.Path.{_≡_, refl}
 use mathlib.Core.Logic.{inl, inr, ⊎-swap}
 use mathlib.Core.List.{List, [], _∷_, _++_, List·Memᴰ as In, List·Memᴰ·head as first, List·Memᴰ·tail as later, List·Memᴰ·not-nil as not-in, List·Memᴰ·cases-cons as in-cons, List·Memᴰ·append-cases as in-cases, Memᴰ·append-left as in-left, Memᴰ·append-right as in-right}
 use Prim.Native.Nat.{ℕ, suc, _+_, _≤_}
 use native.Mathlib.Omega.{arith}
 use native.Mathlib.Decide.{ℕ-discrete, decLe}
 use lib.ListN.{length, length-append}
-use Rattle.connectivity.specs.Lists.{Distinct, no-member, one}
-use Rattle.connectivity.specs.Graph.{Graph, Vertex, vertices, edges}
+use Rattle.connectivity.specs.Lists.{Distinct}
+use Rattle.connectivity.specs.Graph.{Graph, vertices, edges}
 use Rattle.connectivity.specs.Walk.{Leg, Walk, last, then, Between, inner, edgesOf, allInner, allEdges, degree, Built}
 use Rattle.connectivity.specs.Mader.{Theta, MaderPath, Steps, theta, mader, Builds}
 use Rattle.connectivity.proofs.Search.{vertices-are}

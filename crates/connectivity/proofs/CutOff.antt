@@ -1,5 +1,5 @@
 -- `cutOff` has the vertices that the lowest one does not reach, and is empty exactly where the set does not disconnect.
-use mathlib.Core.Path.{_≡_, refl, sym, subst}
+use mathlib.Core.Path.{_≡_, refl}
 use mathlib.Core.Logic.{_⊎_, inl, inr, _↔_}
 use mathlib.Core.Bool.{Bool, not}
 use mathlib.Core.List.{List, [], _∷_, List·Memᴰ as In, List·Memᴰ·head as first, List·Memᴰ·not-nil as not-in, List·Memᴰ·cases-cons as in-cons}
@@ -10,7 +10,7 @@ use Rattle.connectivity.specs.Lists.{Ordered, mem, empty}
 use Rattle.connectivity.specs.Graph.{Graph, Vertex, vertices}
 use Rattle.connectivity.specs.Reach.{Reach, Without}
 use Rattle.connectivity.specs.Cut.{unreached, unreachedFrom, cutOff, disconnects}
-use Rattle.connectivity.proofs.Lists.{T-dec, not-mem, empty-none, none-empty, Decides}
+use Rattle.connectivity.proofs.Lists.{not-mem, Decides}
 use Rattle.connectivity.proofs.Reach.{reach-map}
 use Rattle.connectivity.proofs.Search.{vertices-are, unreached-not, unreached-or}
 use Rattle.connectivity.proofs.Order.{before-rest, ordered-vertices}

@@ -1,23 +1,23 @@
 -- The tests on a whole step and what they decide: three paths, a Mader-path, its links, and the end of the record.
-use mathlib.Core.Path.{_≡_, refl, sym, ap, _∙_, subst}
+use mathlib.Core.Path.{_≡_, refl, sym, subst}
 use mathlib.Core.Logic.{_⊎_, inl, inr, _↔_}
-use mathlib.Core.Bool.{Bool, true, false, not, cond, _&&_, _||_}
-use mathlib.Core.List.{List, [], _∷_, _++_, List·Memᴰ as In, List·Memᴰ·head as first, List·Memᴰ·tail as later, List·Memᴰ·not-nil as not-in, List·Memᴰ·cases-cons as in-cons}
-use Prim.Native.Nat.{ℕ, zero, suc, _+_, _≤_, _<_}
+use mathlib.Core.Bool.{Bool, true, false, not, cond, _&&_}
+use mathlib.Core.List.{List, [], _∷_, List·Memᴰ as In, List·Memᴰ·head as first, List·Memᴰ·tail as later, List·Memᴰ·not-nil as not-in, List·Memᴰ·cases-cons as in-cons}
+use Prim.Native.Nat.{ℕ, _≤_, _<_}
 use native.Mathlib.Omega.{arith}
 use native.Mathlib.Decide.{ℕ-discrete}
-use lib.Dec.{T, eqb, ltb, leb, eqb→eq, leb→le, le→leb, T-not, not-T}
+use lib.Dec.{T, leb, leb→le, le→leb}
 use lib.ListN.{length}
 use borrow.Author.Tests.{lt-ltb, le-ltb}
-use Rattle.connectivity.specs.Lists.{Distinct, no-member, one, all, mem, distinct}
-use Rattle.connectivity.specs.Graph.{Graph, Vertex, Edge, Joins, vertices}
+use Rattle.connectivity.specs.Lists.{Distinct, all, mem, distinct}
+use Rattle.connectivity.specs.Graph.{Graph, Vertex, vertices}
 use Rattle.connectivity.specs.Reach.{Reach}
 use Rattle.connectivity.specs.Cut.{unreached}
-use Rattle.connectivity.specs.Walk.{Leg, Walk, Between, inner, edgesOf, allInner, allEdges, degree, Built, Branch, isBuilt, isBranch, start, stop}
-use Rattle.connectivity.specs.Link.{SameLink, isBare, sameLink}
-use Rattle.connectivity.specs.Mader.{Theta, MaderPath}
+use Rattle.connectivity.specs.Walk.{Leg, Walk, Between, inner, allInner, allEdges, degree, Built, Branch, isBuilt, isBranch, start, stop}
+use Rattle.connectivity.specs.Link.{isBare, sameLink}
+use Rattle.connectivity.specs.Mader.{MaderPath}
 use Rattle.connectivity.specs.Judge.{leadsBetween, allBetween, pathsFit, earFits, linksFit, stepNumber, closingNumber}
-use Rattle.connectivity.proofs.Lists.{T-dec, T-true, true-T, mem-in, in-mem, not-mem, distinct-is, Decides, decides, decides-eq, decides-not, decides-to, decides-and, decides-or, decides-all}
+use Rattle.connectivity.proofs.Lists.{T-dec, mem-in, in-mem, not-mem, distinct-is, Decides, decides, decides-eq, decides-not, decides-to, decides-and, decides-or, decides-all}
 use Rattle.connectivity.proofs.Reach.{reach-map}
 use Rattle.connectivity.proofs.Search.{vertices-are, unreached-not, unreached-or}
 use Rattle.connectivity.proofs.Degree.{walk-to}

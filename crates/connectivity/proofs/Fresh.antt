@@ -4,12 +4,11 @@ use mathlib.Core.Logic.{_⊎_, inl, inr, ⊎-swap, _↔_}
 use mathlib.Core.List.{List, [], _∷_, _++_, List·Memᴰ as In, List·Memᴰ·head as first, List·Memᴰ·tail as later, List·Memᴰ·not-nil as not-in, List·Memᴰ·cases-cons as in-cons, List·Memᴰ·append-cases as in-cases, List·Memᴰ·eq-of-singleton as eq-of-singleton, Memᴰ·append-left as in-left, Memᴰ·append-right as in-right, Memᴰ·cast}
 use Prim.Native.Nat.{ℕ, _≤_}
 use native.Mathlib.Omega.{arith}
-use native.Mathlib.Decide.{ℕ-discrete}
 use lib.ListN.{length}
 use Rattle.connectivity.specs.Lists.{Distinct, no-member, one}
 use Rattle.connectivity.specs.Graph.{Graph}
-use Rattle.connectivity.specs.Walk.{Leg, Walk, last, then, Between, froms, inner, allInner, allEdges, degree, Built}
-use Rattle.connectivity.proofs.Distinct.{head-distinct, tail-distinct, left-distinct, right-distinct, apart-distinct, join-distinct}
+use Rattle.connectivity.specs.Walk.{Leg, Walk, last, then, Between, froms, inner, allInner, allEdges, Built}
+use Rattle.connectivity.proofs.Distinct.{head-distinct, tail-distinct, left-distinct, apart-distinct, join-distinct}
 use Rattle.connectivity.proofs.Degree.{from-first, froms-cases}
 use Rattle.connectivity.proofs.Stage.{AllBetween, all-degree, all-inner}
 use Rattle.connectivity.proofs.Legs.{leg}

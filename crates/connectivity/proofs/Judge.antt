@@ -1,12 +1,12 @@
 -- What it means that a verdict passes: a firm one builds the graph by Mader's steps, a weak one is a cut, and no other kind passes;
 -- and the plan's own refusal comes first.
-use mathlib.Core.Path.{_≡_, refl, sym, ap, _∙_}
-use mathlib.Core.Logic.{_⊎_, inl, inr, _↔_}
-use mathlib.Core.Bool.{Bool, true, false, cond, _&&_}
+use mathlib.Core.Path.{_≡_, refl, ap, _∙_}
+use mathlib.Core.Logic.{inl, inr, _↔_}
+use mathlib.Core.Bool.{cond, _&&_}
 use mathlib.Core.List.{List, [], _∷_, List·Memᴰ as In, List·Memᴰ·head as first, List·Memᴰ·tail as later, List·Memᴰ·not-nil as not-in, List·Memᴰ·cases-cons as in-cons}
-use Prim.Native.Nat.{ℕ, zero, suc, _+_, _≤_, _<_}
+use Prim.Native.Nat.{ℕ, suc, _≤_, _<_}
 use native.Mathlib.Omega.{arith}
-use lib.Dec.{T, eqb, leb, leb→le, le→leb}
+use lib.Dec.{T, leb, leb→le, le→leb}
 use lib.ListN.{length}
 use borrow.Author.Tests.{ne-eqb}
 use Rattle.connectivity.specs.Lists.{Ordered, nil, cons}
@@ -16,7 +16,7 @@ use Rattle.connectivity.specs.Reach.{ThreeEdgeConnected}
 use Rattle.connectivity.specs.Cut.{EdgeSet, Cut, disconnects}
 use Rattle.connectivity.specs.Mader.{Builds}
 use Rattle.connectivity.specs.Admission.{Answer, answer, passed, andThen, Admitted, admission}
-use Rattle.connectivity.specs.Judge.{ascending, judgeFirm, judgeWeak, judgeGraph, judge}
+use Rattle.connectivity.specs.Judge.{ascending, judgeWeak, judgeGraph, judge}
 use Rattle.connectivity.proofs.Lists.{Decides, decides, decides-and}
 use Rattle.connectivity.proofs.Search.{is-edge}
 use Rattle.connectivity.proofs.Disconnects.{disconnects-is}

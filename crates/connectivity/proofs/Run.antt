@@ -1,24 +1,23 @@
 -- The rows pass in turn exactly when they are the rows of walks that run: each a walk over edges that are new, whose step passes.
 use mathlib.Core.Path.{_≡_, refl, sym, ap, _∙_, subst}
 use mathlib.Core.Logic.{_⊎_, inl, inr, _↔_}
-use mathlib.Core.Bool.{Bool, true, false, not, cond, _&&_, _||_}
-use mathlib.Core.List.{List, [], _∷_, _++_, List·Memᴰ as In, List·Memᴰ·head as first, List·Memᴰ·tail as later, Memᴰ·append-right as in-right, append-assoc}
-use Prim.Native.Nat.{ℕ, zero, suc, _+_, _≤_, _<_}
+use mathlib.Core.Bool.{Bool, true, false, not, cond, _||_}
+use mathlib.Core.List.{List, [], _∷_, _++_, List·Memᴰ as In, List·Memᴰ·head as first, Memᴰ·append-right as in-right, append-assoc}
+use Prim.Native.Nat.{ℕ, suc, _+_}
 use native.Mathlib.Omega.{arith}
-use native.Mathlib.Decide.{ℕ-discrete}
-use lib.Dec.{T, eqb, eqb→eq, T-not, not-T}
+use lib.Dec.{T, eqb, eqb→eq, not-T}
 use lib.ListN.{length}
-use borrow.Author.Tests.{eqb-true, eqb-false, eq-eqb, ne-eqb}
-use Rattle.connectivity.specs.Lists.{Distinct, no-member, one, mem}
+use borrow.Author.Tests.{eqb-true, eq-eqb}
+use Rattle.connectivity.specs.Lists.{Distinct, no-member, mem}
 use Rattle.connectivity.specs.Graph.{Graph, Edge, Joins, isEdge}
-use Rattle.connectivity.specs.Walk.{Leg, Walk, last, then, edgesOf, allEdges, far, start, stop}
-use Rattle.connectivity.specs.Admission.{Answer, answer, passed, andThen}
+use Rattle.connectivity.specs.Walk.{Leg, Walk, last, then, edgesOf, allEdges, far, stop}
+use Rattle.connectivity.specs.Admission.{Answer, answer, passed}
 use Rattle.connectivity.specs.Judge.{Row, legOf, stepFits, edgeFits, comesTo, fromFits, rowNumber, stepNumber, closingNumber, isLast, judgeRows}
 use Rattle.connectivity.proofs.Lists.{and-both, both-and, T-dec, T-true, T-false, true-T, eq-T, not-mem}
 use Rattle.connectivity.proofs.Search.{is-edge}
 use Rattle.connectivity.proofs.Admission.{both-passed, passed-then}
 use Rattle.connectivity.proofs.Distinct.{apart-distinct, left-distinct}
-use Rattle.connectivity.proofs.Legs.{leg, far-is, joins-far, joins-end, walk-start, walk-stop, stop-snoc, walk-snoc, edges-snoc, distinct-between}
+use Rattle.connectivity.proofs.Legs.{leg, far-is, joins-far, joins-end, walk-stop, stop-snoc, walk-snoc, edges-snoc, distinct-between}
 
 -- `done` are the steps before, the latest first, and the second list those to come, the next first
 pub data Runs (g : Graph) : List (List Leg) → List (List Leg) → Type 0 where

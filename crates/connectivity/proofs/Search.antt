@@ -1,8 +1,8 @@
 -- The search finds exactly what is not reached: `unreached` has the vertices that no way over live edges leads to.
-use mathlib.Core.Path.{_≡_, refl, sym, ap, _∙_, subst}
+use mathlib.Core.Path.{refl, sym, subst}
 use mathlib.Core.Logic.{_⊎_, inl, inr, _↔_}
-use mathlib.Core.Bool.{Bool, true, false, not, cond, _&&_, _||_}
-use mathlib.Core.List.{List, [], _∷_, _++_, List·Memᴰ as In, List·Memᴰ·head as first, List·Memᴰ·tail as later, List·Memᴰ·not-nil as not-in, List·Memᴰ·eq-of-singleton as eq-of-singleton, List·Memᴰ·append-cases as in-cases, Memᴰ·append-left as in-left, Memᴰ·append-right as in-right}
+use mathlib.Core.Bool.{Bool, not, cond, _&&_}
+use mathlib.Core.List.{List, [], _∷_, _++_, List·Memᴰ as In, List·Memᴰ·head as first, List·Memᴰ·not-nil as not-in, List·Memᴰ·eq-of-singleton as eq-of-singleton, List·Memᴰ·append-cases as in-cases, Memᴰ·append-left as in-left, Memᴰ·append-right as in-right}
 use Prim.Native.Nat.{ℕ, zero, suc, _+_, _≤_, _<_}
 use native.Mathlib.Omega.{arith}
 use lib.Dec.{T, eqb, ltb, eqb→eq, eqb-refl, ltb→lt, lt→ltb, T-not, not-T}
@@ -11,8 +11,8 @@ use Rattle.connectivity.specs.Lists.{range, keep, mem, empty}
 use Rattle.connectivity.specs.Graph.{Graph, Vertex, Edge, Joins, isVertex, isEdge, vertices, edges}
 use Rattle.connectivity.specs.Reach.{Reach, here, over}
 use Rattle.connectivity.specs.Cut.{near, spread, unreached}
-use Rattle.connectivity.proofs.Lists.{and-both, both-and, or-one, or-left, or-right, T-dec, T-true, T-false, true-T, eq-T, mem-in, in-mem, any-is, keep-is, keep-length, range-is, in-dec, empty-none, not-empty}
-use Rattle.connectivity.proofs.Reach.{joins-sym, joins-vertex, reach-trans, closed-reach}
+use Rattle.connectivity.proofs.Lists.{and-both, both-and, or-one, or-left, or-right, T-dec, T-true, T-false, eq-T, mem-in, in-mem, any-is, keep-is, keep-length, range-is, in-dec, empty-none, not-empty}
+use Rattle.connectivity.proofs.Reach.{joins-vertex, reach-trans, closed-reach}
 
 -- the lists of vertices and edges
 pub is-vertex : (g : Graph) (v : ℕ) → T (isVertex g v) ↔ Vertex g v

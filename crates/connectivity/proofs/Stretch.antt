@@ -1,18 +1,17 @@
 -- Links are stretches of walks: two vertices inside a step's walk lie inside one link exactly if no branch stands between them on it.
 use mathlib.Core.Path.{_≡_, refl, sym, ap, _∙_, subst}
 use mathlib.Core.Logic.{_⊎_, inl, inr, ⊎-swap, _↔_}
-use mathlib.Core.List.{List, [], _∷_, _++_, List·Memᴰ as In, List·Memᴰ·head as first, List·Memᴰ·tail as later, List·Memᴰ·not-nil as not-in, List·Memᴰ·cases-cons as in-cons, Memᴰ·append-left as in-left, Memᴰ·append-right as in-right, Memᴰ·cast}
-use Prim.Native.Nat.{ℕ, zero, suc, _+_, _≤_, _<_}
+use mathlib.Core.List.{List, [], _∷_, _++_, List·Memᴰ as In, List·Memᴰ·head as first, List·Memᴰ·tail as later, List·Memᴰ·not-nil as not-in, List·Memᴰ·cases-cons as in-cons, Memᴰ·append-left as in-left, Memᴰ·append-right as in-right}
+use Prim.Native.Nat.{ℕ, zero, suc, _+_, _≤_}
 use native.Mathlib.Omega.{arith}
 use native.Mathlib.Decide.{ℕ-discrete, decLe}
-use lib.ListN.{length, getD}
-use Rattle.connectivity.specs.Lists.{Distinct, no-member, one}
+use Rattle.connectivity.specs.Lists.{Distinct}
 use Rattle.connectivity.specs.Graph.{Graph, Joins}
 use Rattle.connectivity.specs.Reach.{Reach, here, over}
-use Rattle.connectivity.specs.Walk.{Leg, Walk, last, then, Between, froms, inner, edgesOf, allInner, allEdges, hits, degree, Built, Branch}
+use Rattle.connectivity.specs.Walk.{Leg, Walk, last, then, froms, inner, edgesOf, allInner, allEdges, Branch}
 use Rattle.connectivity.specs.Link.{SameLink}
-use Rattle.connectivity.specs.Mader.{Theta, MaderPath, Steps, theta, mader}
-use Rattle.connectivity.proofs.Reach.{joins-sym, reach-trans, reach-sym, closed-reach}
+use Rattle.connectivity.specs.Mader.{Theta, Steps, theta, mader}
+use Rattle.connectivity.proofs.Reach.{reach-trans, reach-sym, closed-reach}
 use Rattle.connectivity.proofs.Distinct.{head-distinct, tail-distinct, left-distinct, right-distinct}
 use Rattle.connectivity.proofs.Degree.{degree-append, hits-from, in-degree, froms-cases, start-degree, stop-degree, full, inner-least}
 use Rattle.connectivity.proofs.Stage.{Bare, bare-edge, all-degree}

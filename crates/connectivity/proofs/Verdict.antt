@@ -1,20 +1,18 @@
 -- The verdict on a plan: firm exactly where the graph is 3-edge-connected, else weak with the lowest cut; and each other answer.
-use mathlib.Core.Path.{_≡_, refl, sym, ap, _∙_, subst}
-use mathlib.Core.Logic.{_⊎_, inl, inr, _↔_}
-use mathlib.Core.Bool.{Bool, true, false, cond}
+use mathlib.Core.Path.{_≡_, refl, sym, ap, _∙_}
+use mathlib.Core.Logic.{_↔_}
 use mathlib.Core.List.{List}
 use mathlib.Core.Option.{Option, none, some}
 use Prim.Native.Nat.{ℕ, _*_, _≤_, _<_}
 use native.Mathlib.Omega.{arith}
-use lib.Dec.{eqb, ltb}
 use lib.ListN.{length}
 use borrow.Author.Tests.{le-ltb, lt-ltb, ne-eqb}
-use Rattle.connectivity.specs.Graph.{Graph, Vertex, edges}
+use Rattle.connectivity.specs.Graph.{Graph, edges}
 use Rattle.connectivity.specs.Plan.{Plan, graph, Limits}
 use Rattle.connectivity.specs.Reach.{ThreeEdgeConnected}
 use Rattle.connectivity.specs.Cut.{LowestCut, lowestCut}
-use Rattle.connectivity.specs.Admission.{Answer, answer, passed, Admitted, admission}
-use Rattle.connectivity.specs.Verdict.{Verdict, refused, weak, firm, verdictOn, verdict}
+use Rattle.connectivity.specs.Admission.{answer, Admitted, admission}
+use Rattle.connectivity.specs.Verdict.{refused, weak, firm, verdictOn, verdict}
 use Rattle.connectivity.proofs.LowestCut.{lowest-cut, lowest-found, three-edge-connected}
 use Rattle.connectivity.proofs.Admission.{admission-is, admission-number, admitted-vertex}
 

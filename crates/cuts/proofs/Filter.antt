@@ -1,9 +1,9 @@
 -- The lowest cut by its parts: labels that cancel hide none, and the sets are tried in order.
 use mathlib.Core.Path.{_≡_, refl, sym, ap, _∙_}
-use mathlib.Core.Bool.{Bool, true, false, not, cond}
+use mathlib.Core.Bool.{Bool, true, false, cond}
 use mathlib.Core.Logic.{_⊎_, inl, inr}
 use mathlib.Core.List.{List, [], _∷_, _++_, List·Memᴰ as In, List·Memᴰ·not-nil as not-in, List·Memᴰ·cases-cons as in-cons}
-use mathlib.Core.Option.{Option, none, some}
+use mathlib.Core.Option.{none, some}
 use Prim.Native.Nat.{ℕ, _-_, _/_, _≤_, _<_}
 use native.Mathlib.Omega.{arith}
 use lib.ListN.{length, getD}
@@ -18,7 +18,7 @@ use Rattle.connectivity.proofs.Search.{edges-are}
 use Rattle.connectivity.proofs.Admission.{admitted-edge, admitted-range}
 use Rattle.connectivity.proofs.LowestCut.{singles-in}
 use Rattle.labels.proofs.CutLabels.{no-loops, skip-one, skip-two}
-use Rattle.cuts.specs.Lowest.{Shown, ShownBoth, Whole, oneTold, twoTold, firstOne, firstTwo}
+use Rattle.cuts.specs.Lowest.{Shown, ShownBoth, Whole, oneTold, firstOne, firstTwo}
 use Rattle.cuts.proofs.First.{none-some, first-yes, first-no, first-some, first-later}
 
 -- no set in a list of which none is first

@@ -1,6 +1,5 @@
 -- What the constructor says of a plan, and the refusal that follows from it and from the lent space.
-use mathlib.Core.Path.{_≡_, refl, sym, ap, _∙_, subst}
-use mathlib.Core.Logic.{_⊎_, inl, inr, _↔_}
+use mathlib.Core.Path.{_≡_, refl, sym, ap, _∙_}
 use mathlib.Core.Bool.{Bool, true, false, cond}
 use mathlib.Core.List.{List, [], _∷_}
 use Prim.Native.Nat.{ℕ, _/_}
@@ -10,7 +9,7 @@ use lib.Dec.{T, eqb}
 use lib.ListN.{length, getD}
 use borrow.Author.Tests.{eqb-true, eqb-false}
 use Rattle.connectivity.specs.Plan.{Plan, Limits}
-use Rattle.connectivity.specs.Admission.{Answer, answer, passed, Handed, served, refusal, andThen, Admitted, admission}
+use Rattle.connectivity.specs.Admission.{Answer, answer, passed, Handed, served, refusal, Admitted, admission}
 use Rattle.connectivity.proofs.Lists.{T-true, T-false}
 use Rattle.connectivity.proofs.Admission.{passed-then, failed-then, admission-number}
 use Rattle.graph.specs.declared.Answer as code

@@ -1,13 +1,12 @@
 -- What the constructor of a graph answers.
 use mathlib.Core.Bool.{Bool, cond}
-use mathlib.Core.List.{List, [], _∷_}
-use Prim.Native.Nat.{ℕ, _/_}
+use mathlib.Core.List.{[], _∷_}
+use Prim.Native.Nat.{_/_}
 use lib.Dec.{eqb}
 use lib.ListN.{length}
 use Rattle.connectivity.specs.Plan.{Plan, Limits}
 use Rattle.connectivity.specs.Admission as meaning
 use Rattle.graph.specs.declared.Answer.{Answer}
-use Rattle.graph.specs.declared.Graph.{Graph}
 use Rattle.graph.specs.declared.Admission.{Admission}
 use Rattle.graph.specs.declared.Admission.the-variants.{Admitted, Refused}
 

@@ -11,7 +11,7 @@ use lib.Bits.{bitXor, xor-self, xor-zero-r, xor-comm, xor-shr, xor-mod}
 use lib.Dec.{T, eqb, eqb→eq, T-not, not-T}
 use borrow.Author.Tests.{eqb-true, eqb-false, eq-eqb, ne-eqb}
 use Rattle.connectivity.specs.Lists.{Distinct, no-member, one, keep, mem}
-use Rattle.connectivity.specs.Plan.{plan, graph, Limits, limits}
+use Rattle.connectivity.specs.Plan.{plan, graph, Limits}
 use Rattle.connectivity.specs.Graph.{Graph, Vertex, Edge, Joins, vertices, edges}
 use Rattle.connectivity.specs.Reach.{Reach, here, over, Without, Connected, Disconnects}
 use Rattle.connectivity.specs.Cut.{unreached, disconnects}

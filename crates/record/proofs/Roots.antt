@@ -12,7 +12,7 @@ use Rattle.connectivity.specs.Graph.{Graph}
 use Rattle.connectivity.proofs.Through.{Through, stay, leave}
 use Rattle.connectivity.specs.Walk.{Leg, froms}
 use Rattle.connectivity.specs.Admission.{Answer, Admitted}
-use Rattle.search.specs.Search.{Live, Pass, Start, Goal, Marked, Tree, Found, Whole}
+use Rattle.search.specs.Search.{Live, Pass, Start, Goal, Marked, Found, Whole}
 use Rattle.search.specs.declared.Explored.{Explored}
 use Rattle.search.specs.declared.Explored.the-variants.{Refused, Seen, Met}
 use Rattle.search.proofs.Climb as trees

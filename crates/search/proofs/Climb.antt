@@ -1,18 +1,17 @@
 -- The seen vertices form a tree by their first edges: a climb from any of them comes to a start, and passes each vertex once. And the
 -- edges that lead out of a whole search are not live, or leave a vertex that may not be passed through.
-use mathlib.Core.Path.{_≡_, refl, sym, ap, _∙_, subst}
-use mathlib.Core.Logic.{_⊎_, inl, inr}
-use mathlib.Core.List.{List, [], _∷_, List·Memᴰ as In, List·Memᴰ·head as first, List·Memᴰ·tail as later, List·Memᴰ·not-nil as not-in, List·Memᴰ·cases-cons as in-cons}
+use mathlib.Core.Path.{_≡_, sym}
+use mathlib.Core.Logic.{inl, inr}
+use mathlib.Core.List.{List, [], _∷_, List·Memᴰ as In, List·Memᴰ·head as first, List·Memᴰ·tail as later, List·Memᴰ·not-nil as not-in}
 use Prim.Native.Nat.{ℕ, zero, suc, _-_, _≤_, _<_}
 use native.Mathlib.Omega.{arith}
-use native.Mathlib.Decide.{decLt}
 use lib.ListN.{getD}
 use Rattle.connectivity.specs.Lists.{Distinct, no-member, one}
 use Rattle.connectivity.specs.Graph.{Graph, Joins}
 use Rattle.connectivity.specs.Walk.{Leg, Walk, last, then, froms}
 use Rattle.connectivity.proofs.Reach.{joins-sym}
 use Rattle.connectivity.proofs.Through.{through-on}
-use Rattle.search.specs.Search.{Marked, Reached, Tree, FromStart, Found, Whole}
+use Rattle.search.specs.Search.{Marked, Reached, Tree, Found, Whole}
 
 -- from place k of the order up to a start: each leg leaves a vertex over the edge by which it was first reached
 pub data Climb (g : Graph) (live pass start : ℕ → Type 0) (marks order : List ℕ) : ℕ → List Leg → ℕ → Type 0 where

@@ -2,20 +2,19 @@
 -- have seen everything that is reached.
 use mathlib.Core.Path.{_≡_, refl, sym, ap, _∙_, subst}
 use mathlib.Core.Logic.{_⊎_, inl, inr, ⊎-elim}
-use mathlib.Core.Bool.{Bool, true, false}
+use mathlib.Core.Bool.{false}
 use mathlib.Core.List.{List}
-use Prim.Native.Nat.{ℕ, zero, suc, _+_, _-_, _*_, _/_, _≤_, _<_}
+use Prim.Native.Nat.{ℕ, zero, suc, _+_, _-_, _≤_, _<_}
 use native.Mathlib.Omega.{arith}
 use native.Mathlib.Decide.{ℕ-discrete}
 use borrow.Author.Count.{below-more}
 use lib.ListN.{length, getD, set, length-set}
 use lib.Seq.{getD-set-same, getD-set-other}
 use Rattle.connectivity.specs.Graph.{Graph, Joins}
-use Rattle.connectivity.proofs.Reach.{joins-sym, joins-vertex}
-use Rattle.connectivity.proofs.Through.{Through, stay, leave, through-on, closed-through}
+use Rattle.connectivity.proofs.Through.{stay, through-on, closed-through}
 use Rattle.search.specs.declared.Progress.{Progress}
-use Rattle.search.specs.Search.{Live, Start, Pass, Goal, Marked, tally, Reached, Tree, FromStart, Found, Whole, Stopped}
-use Rattle.search.specs.Sweep.{Fit, Edge, State, Plain, More, Placed, Begun, Lead, Noted, kept, added, SweepStart, Swept, Rounded}
+use Rattle.search.specs.Search.{Start, Goal, Marked, Reached, Tree, FromStart, Found, Whole, Stopped}
+use Rattle.search.specs.Sweep.{Fit, State, Plain, More, Begun, Lead, Noted, kept, added, Swept}
 use Rattle.search.proofs.Tally.{tally-lt, tally-set, tally-le}
 
 -- a Joins at equal numbers

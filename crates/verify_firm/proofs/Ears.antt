@@ -1,18 +1,16 @@
 -- 14 and 15 at the end of a later step: what the marks tell is that it is an ear, and whether its ends lie inside one link.
 use mathlib.Core.Path.{_≡_, refl, sym, ap, subst, _∙_}
 use mathlib.Core.Logic.{_⊎_, inl, inr, _↔_}
-use mathlib.Core.Bool.{Bool, true, false}
-use mathlib.Core.List.{List, [], _∷_, _++_, List·Memᴰ as In, List·Memᴰ·head as first, List·Memᴰ·tail as later, List·Memᴰ·not-nil as not-in, Memᴰ·cast}
-use Prim.Native.Nat.{ℕ, zero, suc, _+_, _*_, _-_, _≤_, _<_}
+use mathlib.Core.List.{List, [], _∷_, List·Memᴰ as In, List·Memᴰ·head as first, List·Memᴰ·tail as later}
+use Prim.Native.Nat.{ℕ, suc, _+_, _*_, _-_, _≤_, _<_}
 use native.Mathlib.Omega.{arith}
 use native.Mathlib.Decide.{decLe}
-use lib.Dec.{T}
 use lib.ListN.{length, getD}
 use Rattle.connectivity.specs.Lists.{Distinct}
 use Rattle.connectivity.specs.Plan.{Limits}
-use Rattle.connectivity.specs.Graph.{Graph, Vertex}
+use Rattle.connectivity.specs.Graph.{Graph}
 use Rattle.connectivity.specs.Reach.{Reach}
-use Rattle.connectivity.specs.Walk.{Leg, Walk, inner, edgesOf, allEdges, degree, Built, Branch, start, stop}
+use Rattle.connectivity.specs.Walk.{Leg, Walk, inner, edgesOf, allEdges, degree, Built, Branch, start}
 use Rattle.connectivity.specs.Mader.{Steps}
 use Rattle.connectivity.specs.Judge.{earFits, linksFit}
 use Rattle.connectivity.proofs.Lists.{Decides, decides-to}
@@ -22,11 +20,11 @@ use Rattle.connectivity.proofs.Degree.{degree-append, on-inner, walk-from, walk
 use Rattle.connectivity.proofs.Stage.{Bare}
 use Rattle.connectivity.proofs.Legs.{walk-start, walk-stop}
 use Rattle.connectivity.proofs.Fit.{EarFits, ear-fits, links-fit}
-use Rattle.connectivity.proofs.Fresh.{Fresh, ear-fresh}
+use Rattle.connectivity.proofs.Fresh.{ear-fresh}
 use Rattle.connectivity.proofs.Stretch.{WalkIn, walk-in, Place, Within, Clear, stays, stretch}
 use Rattle.verify_firm.specs.declared.state.Run.{Run}
-use Rattle.verify_firm.specs.Marks.{stepAt, edgeAt, fromAt, Lies, Laid, Lefts, Holds, FitsEar, Joined, FitsLinks, RowsFit, Reads}
-use Rattle.verify_firm.proofs.Rows.{Home, Placed, place-row, row-place, home, span, inner-row, InnerRow}
+use Rattle.verify_firm.specs.Marks.{stepAt, edgeAt, fromAt, Lefts, Holds, FitsEar, Joined, FitsLinks, RowsFit, Reads}
+use Rattle.verify_firm.proofs.Rows.{Home, Placed, place-row, row-place, home, span, inner-row}
 use Rattle.verify_firm.proofs.Going.{told, tells}
 
 -- a built vertex that is no branch lies inside one of the steps

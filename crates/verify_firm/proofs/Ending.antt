@@ -1,31 +1,30 @@
 -- The end of a step: the number that the marks give is the step's, and a step that passes leaves the marks of one step more.
-use mathlib.Core.Path.{_≡_, refl, sym, ap, subst, _∙_}
-use mathlib.Core.Logic.{_⊎_, inl, inr, _↔_}
+use mathlib.Core.Path.{_≡_, refl, sym, subst, _∙_}
+use mathlib.Core.Logic.{inl, inr}
 use mathlib.Core.Bool.{Bool, true, false, cond}
-use mathlib.Core.List.{List, [], _∷_, _++_, List·Memᴰ as In, List·Memᴰ·cases-cons as in-cons}
-use Prim.Native.Nat.{ℕ, suc, _+_, _*_, _≤_, _<_}
+use mathlib.Core.List.{List, [], _∷_, List·Memᴰ as In, List·Memᴰ·cases-cons as in-cons}
+use Prim.Native.Nat.{ℕ, _+_, _≤_, _<_}
 use native.Mathlib.Omega.{arith}
 use native.Mathlib.Decide.{decLt}
 use lib.Dec.{T}
-use lib.ListN.{length, getD}
+use lib.ListN.{length}
 use borrow.Author.Tests.{lt-ltb, le-ltb}
 use Rattle.connectivity.specs.Lists.{Distinct}
 use Rattle.connectivity.specs.Plan.{plan, graph, Limits}
 use Rattle.connectivity.specs.Graph.{Graph}
-use Rattle.connectivity.specs.Walk.{Leg, Walk, Between, edgesOf, allInner, allEdges, degree}
+use Rattle.connectivity.specs.Walk.{Leg, Walk, Between, edgesOf, allInner, allEdges}
 use Rattle.connectivity.specs.Mader.{Steps, theta, mader}
 use Rattle.connectivity.specs.Judge.{pathsFit, earFits, linksFit, stepNumber}
 use Rattle.connectivity.proofs.Lists.{Decides, T-true, T-false}
 use Rattle.connectivity.proofs.Degree.{degree-append, walk-from, walk-to}
-use Rattle.connectivity.proofs.Legs.{walk-start, walk-stop}
 use Rattle.connectivity.proofs.Fit.{step-few, step-many, fitting-path, walk-sound}
 use Rattle.verify_firm.specs.declared.state.Run.{Run}
 use Rattle.graph.specs.Tells.{Tells}
-use Rattle.verify_firm.specs.Marks.{Laid, Lies, Stands, Holds, Opens, Parallels, FitsEar, FitsLinks, Reads, Whole, RowsAdded}
+use Rattle.verify_firm.specs.Marks.{Holds, Opens, Parallels, FitsEar, FitsLinks, Reads, Whole, RowsAdded}
 use Rattle.verify_firm.specs.Marks as marks
 use Rattle.verify_firm.proofs.Going.{fresh-none}
 use Rattle.verify_firm.proofs.Paths.{paths-are, opens-are, parallels-are}
-use Rattle.verify_firm.proofs.Ears.{start-below, at-below, ear-is, reads, links-are}
+use Rattle.verify_firm.proofs.Ears.{ear-is, reads, links-are}
 
 no-steps : (done : List (List Leg)) → length done ≡ 0 → done ≡ []
 no-steps [] p = refl

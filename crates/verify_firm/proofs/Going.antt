@@ -1,18 +1,17 @@
 -- A row that fits is taken up: the marks then hold of the longer walk.
 use mathlib.Core.Path.{_≡_, refl, sym, ap, subst, _∙_}
 use mathlib.Core.Logic.{_⊎_, inl, inr}
-use mathlib.Core.Bool.{Bool, true, false, _||_}
+use mathlib.Core.Bool.{Bool, true, false}
 use mathlib.Core.List.{List, [], _∷_, _++_, List·Memᴰ as In, List·Memᴰ·head as first, List·Memᴰ·not-nil as not-in, Memᴰ·cast}
-use Prim.Native.Nat.{ℕ, zero, suc, _+_, _-_, _≤_, _<_}
+use Prim.Native.Nat.{ℕ, suc, _+_, _-_, _≤_, _<_}
 use native.Mathlib.Omega.{arith}
-use native.Mathlib.Decide.{ℕ-discrete, decLt, decLe}
-use lib.Dec.{T, eqb, eqb→eq}
+use native.Mathlib.Decide.{ℕ-discrete, decLt}
 use lib.ListN.{length, getD, set, length-set}
 use lib.Seq.{getD-set-same, getD-set-other}
 use Rattle.connectivity.specs.Lists.{no-member, one}
 use Rattle.connectivity.specs.Plan.{Limits}
-use Rattle.connectivity.specs.Graph.{Graph, Vertex, Edge, Joins}
-use Rattle.connectivity.specs.Walk.{Leg, Walk, last, froms, inner, edgesOf, allEdges, degree, Built, far}
+use Rattle.connectivity.specs.Graph.{Graph, Joins}
+use Rattle.connectivity.specs.Walk.{Leg, Walk, last, froms, allEdges, Built, far}
 use Rattle.connectivity.specs.Judge.{legOf}
 use Rattle.connectivity.proofs.Lists.{true-T}
 use Rattle.connectivity.proofs.Reach.{joins-vertex}
@@ -23,7 +22,7 @@ use Rattle.connectivity.proofs.Fresh.{Fresh, fresh-snoc}
 use Rattle.connectivity.proofs.Stretch.{place-vertex, place-edge, edges-of}
 use Rattle.verify_firm.specs.declared.state.Run.{Run}
 use Rattle.graph.specs.Tells.{Tells}
-use Rattle.verify_firm.specs.Marks.{stepAt, edgeAt, fromAt, rowAt, Lies, Laid, GoesOn, Left, Lefts, Stands, Holds, StaysFresh, WentOn, begun, on}
+use Rattle.verify_firm.specs.Marks.{stepAt, edgeAt, fromAt, rowAt, Lies, Laid, GoesOn, Left, Lefts, Holds, StaysFresh, WentOn, begun, on}
 use Rattle.verify_firm.specs.Marks as marks
 use Rattle.verify_firm.proofs.Rows.{Placed, lies-le, lies-snoc, row-place, laid-step, home, inner-row}
 

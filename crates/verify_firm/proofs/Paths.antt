@@ -1,16 +1,14 @@
 -- 13 at the end of steps 0, 1 and 2: what the marks tell is that the steps so far are paths between the same two vertices.
 use mathlib.Core.Path.{_≡_, refl, sym, ap, subst, _∙_}
 use mathlib.Core.Logic.{_⊎_, inl, inr, ⊎-swap}
-use mathlib.Core.Bool.{Bool, true, false}
-use mathlib.Core.List.{List, [], _∷_, _++_, append-nil, List·Memᴰ as In, List·Memᴰ·head as first, List·Memᴰ·not-nil as not-in, Memᴰ·cast}
-use Prim.Native.Nat.{ℕ, zero, suc, _+_, _≤_, _<_}
+use mathlib.Core.List.{List, [], _∷_, append-nil, List·Memᴰ as In, List·Memᴰ·head as first, List·Memᴰ·not-nil as not-in, Memᴰ·cast}
+use Prim.Native.Nat.{ℕ, suc, _≤_, _<_}
 use native.Mathlib.Omega.{arith}
-use lib.Dec.{T}
 use lib.ListN.{length, getD}
 use Rattle.connectivity.specs.Lists.{Distinct}
 use Rattle.connectivity.specs.Plan.{Limits}
 use Rattle.connectivity.specs.Graph.{Graph}
-use Rattle.connectivity.specs.Walk.{Leg, Walk, Between, froms, inner, allInner, allEdges}
+use Rattle.connectivity.specs.Walk.{Leg, Walk, Between, inner, allInner, allEdges}
 use Rattle.connectivity.specs.Judge.{pathsFit}
 use Rattle.connectivity.proofs.Lists.{Decides, decides-to}
 use Rattle.connectivity.proofs.Distinct.{swap-distinct}
@@ -21,7 +19,7 @@ use Rattle.connectivity.proofs.Fit.{Sound, walk-sound, paths-fit}
 use Rattle.connectivity.proofs.Fresh.{Fresh, path-fresh, paths-fresh}
 use Rattle.connectivity.proofs.Stretch.{place-vertex}
 use Rattle.verify_firm.specs.declared.state.Run.{Run}
-use Rattle.verify_firm.specs.Marks.{fromAt, Laid, nothing, more, Left, Lefts, Holds, Opens, Parallels}
+use Rattle.verify_firm.specs.Marks.{Laid, nothing, Holds, Opens, Parallels}
 use Rattle.verify_firm.proofs.Rows.{row-place, inner-row}
 use Rattle.verify_firm.proofs.Going.{told, tells}
 

@@ -23,7 +23,6 @@ use Rattle.graph.specs.Admission.{toldBy}
 use Rattle.verify_firm.specs.declared.state.Run.{Run}
 use Rattle.verify_firm.specs.declared.state.State.{State}
 use Rattle.verify_firm.specs.Marks.{rowAt, edgeAt, fromAt, rowMark, WentOn, begun, on, Ready, Whole, StepTold, RowsReady, RowsAdded, Used, Holds, Represents, takenNumber, rowAnswer, SteppedAt}
-use Rattle.verify_firm.specs.Marks as marks
 use Rattle.verify_firm.proofs.Rows.{lies-le, laid-length}
 use Rattle.verify_firm.proofs.Going.{lies-nil, went-on}
 use Rattle.verify_firm.proofs.Ending.{finished}

@@ -1,9 +1,8 @@
 -- `write_admitted` meets its contract: the table of rows has room for every admitted plan, so it is weak or firm, and what is found of it is
 -- written.
-use mathlib.Core.Path.{_≡_}
-use Prim.Native.Nat.{ℕ, _*_, _/_, _≤_}
+use Prim.Native.Nat.{ℕ, _*_, _≤_}
 use native.Mathlib.Omega.{arith}
-use lib.ListN.{length, take, length-take, length-replicate}
+use lib.ListN.{length-take, length-replicate}
 use borrow.Author.Needs.{needs}
 use Rattle.connectivity.specs.Plan.{plan, limits}
 use Rattle.certify.specs.Answered.{named}

@@ -1,8 +1,8 @@
 -- `judge_ends` meets its contract. The loop's invariant: the answer is the one from edge e on.
 use mathlib.Core.Path.{_≡_, refl, sym, ap, _∙_}
-use Prim.Native.Nat.{ℕ, _+_, _*_, _/_, _-_, _≤_, _<_}
+use Prim.Native.Nat.{ℕ, _*_, _/_, _-_, _≤_}
 use native.Mathlib.Omega.{arith}
-use lib.ListN.{length, getD, drop, length-drop}
+use lib.ListN.{length, drop, length-drop}
 use borrow.Author.Needs.{needs}
 use Rattle.connectivity.specs.Plan.{limits}
 use Rattle.connectivity.specs.Admission.{endsAnswer}

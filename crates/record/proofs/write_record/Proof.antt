@@ -1,6 +1,6 @@
 -- `write_record` meets its contract: a plan that the constructor refuses is refused by its answer, any other is judged.
 use borrow.Author.Needs.{needs}
-use mathlib.Core.Path.{refl, sym, _∙_}
+use mathlib.Core.Path.{refl}
 use Rattle.graph.proofs.Lent.{constructed-refused, constructed-admitted}
 use Rattle.record.proofs.Answering.{answers-refused}
 use Rattle.record.proofs.write_record.Statement.{statement}

@@ -2,7 +2,6 @@
 use mathlib.Core.Path.{_≡_, refl, subst}
 use Prim.Native.Nat.{ℕ, _-_, _≤_}
 use native.Mathlib.Omega.{arith}
-use lib.ListN.{length}
 use Rattle.removal.specs.Cut.{Copied}
 use Rattle.removal.proofs.Loops.{copied-start, copied-step}
 use Rattle.removal.proofs.copy.Statement.{statement}

@@ -7,9 +7,6 @@ use Rattle.search.proofs.Tally.{tally-le}
 use Rattle.search.proofs.Starts.{begun-none, begun-next}
 use Rattle.search.proofs.begin.Statement.{statement}
 use Rattle.search.proofs.begin.Tie as tie
-use Rattle.search.proofs.begin.Reads as reads
-use Rattle.search.proofs.begin.Lts as lts
-use Rattle.search.proofs.place.Reads as place-reads
 
 abbrev Inv-loop : tie.InvT-loop
 Inv-loop vertices roles first₀ order₀ count₀ v₀ first order count v =

@@ -1,5 +1,5 @@
 -- `explore_admitted` meets its contract: where the slices are long enough, `begin` and `rounds` find what a search is to find.
-use mathlib.Core.Path.{_≡_, refl, _∙_}
+use mathlib.Core.Path.{refl, _∙_}
 use Prim.Native.Nat.{_/_, _≤_}
 use native.Mathlib.Omega.{arith}
 use borrow.Author.Needs.{needs}

@@ -1,5 +1,4 @@
 -- `lead` meets its contract: each way out cites the law for its tests.
-use native.Mathlib.Omega.{arith}
 use borrow.Author.Needs.{needs}
 use Rattle.search.proofs.Leads.{lead-dead, lead-right, lead-left, lead-neither}
 use Rattle.search.proofs.lead.Statement.{statement}

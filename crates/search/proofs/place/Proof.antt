@@ -1,6 +1,5 @@
 -- `place` meets its contract, by its test.
 use mathlib.Core.Path.{refl}
-use native.Mathlib.Omega.{arith}
 use borrow.Author.Needs.{needs}
 use Rattle.search.specs.Sweep.{cleared, started}
 use Rattle.search.proofs.place.Statement.{statement}

@@ -1,5 +1,5 @@
 -- `rounds` meets its contract. The loop's invariant: where the last pass added nothing, no live edge leads out of what is open.
-use mathlib.Core.Path.{_≡_, sym, _∙_}
+use mathlib.Core.Path.{sym, _∙_}
 use mathlib.Core.Bool.{true≢false, false≢true}
 use Prim.Native.Nat.{_-_}
 use native.Mathlib.Omega.{arith}
@@ -9,9 +9,6 @@ use Rattle.search.proofs.Growth.{Rounds, rounds-start, rounds-step, rou
 use Rattle.search.proofs.Leads.{joins-below}
 use Rattle.search.proofs.rounds.Statement.{statement}
 use Rattle.search.proofs.rounds.Tie as tie
-use Rattle.search.proofs.rounds.Reads as reads
-use Rattle.search.proofs.rounds.Lts as lts
-use Rattle.search.proofs.sweep.Reads as sweep-reads
 
 abbrev Inv-loop : tie.InvT-loop
 Inv-loop vertices ends edges roles dead starts first₀ order₀ count₀ was₀ first order count was =

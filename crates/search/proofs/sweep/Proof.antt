@@ -1,7 +1,6 @@
 -- `sweep` meets its contract. The loop's invariant: the edges passed lead from what was open at the start only to what has been seen.
-use mathlib.Core.Path.{_≡_, refl}
 use mathlib.Core.Bool.{true≢false, false≢true}
-use Prim.Native.Nat.{ℕ, _-_, _≤_}
+use Prim.Native.Nat.{_-_, _≤_}
 use native.Mathlib.Omega.{arith}
 use Rattle.connectivity.specs.Plan.{plan, graph}
 use Rattle.search.specs.Search.{Live, Pass, Start, Goal}
@@ -10,11 +9,6 @@ use Rattle.search.proofs.Growth.{noted-below, Sweeping, sweeping-start,
 use Rattle.search.proofs.Leads.{joins-below, joins-edge}
 use Rattle.search.proofs.sweep.Statement.{statement}
 use Rattle.search.proofs.sweep.Tie as tie
-use Rattle.search.proofs.sweep.Reads as reads
-use Rattle.search.proofs.sweep.Lts as lts
-use Rattle.search.proofs.is_met.Reads as is-met-reads
-use Rattle.search.proofs.lead.Reads as lead-reads
-use Rattle.search.proofs.note.Reads as note-reads
 
 abbrev Inv-loop : tie.InvT-loop
 Inv-loop vertices ends edges roles dead from first₀ order₀ count₀ e₀ first order count e =

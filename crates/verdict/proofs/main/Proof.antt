@@ -1,7 +1,7 @@
 -- `main` is safe and ends: the bytes of the verdict text fit in the table that it is written to.
 use Prim.Native.Nat.{ℕ, _+_, _*_, _≤_}
 use native.Mathlib.Omega.{arith}
-use lib.ListN.{length, length-take, length-replicate}
+use lib.ListN.{length-take, length-replicate}
 use borrow.Author.Needs.{needs}
 use Rattle.connectivity.specs.Plan.{limits}
 use Rattle.text.specs.Column.{five, lineSize}

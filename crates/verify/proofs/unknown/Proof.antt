@@ -1,5 +1,5 @@
 -- `unknown` meets its contract: a plan that the constructor refuses is refused by its answer, for any other it is 9.
-use mathlib.Core.Path.{_≡_, sym, ap, _∙_}
+use mathlib.Core.Path.{sym, ap, _∙_}
 use borrow.Author.Needs.{needs}
 use Rattle.connectivity.specs.Plan.{plan}
 use Rattle.connectivity.proofs.Admission.{passed-then, failed-then, admission-number}

@@ -1,5 +1,5 @@
 -- `check_weak` meets its contract: a plan that the constructor refuses is refused by its answer, any other is judged.
-use mathlib.Core.Path.{_≡_, sym, ap, _∙_}
+use mathlib.Core.Path.{sym, ap, _∙_}
 use borrow.Author.Needs.{needs}
 use Rattle.connectivity.specs.Plan.{plan, limits}
 use Rattle.connectivity.proofs.Judge.{judge-refused}

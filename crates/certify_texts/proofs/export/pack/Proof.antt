@@ -1,5 +1,5 @@
 -- `pack` meets its contract: the four numbers are those of the outcome.
-use mathlib.Core.Path.{_≡_, sym, ap, _∙_}
+use mathlib.Core.Path.{sym, ap, _∙_}
 use borrow.Author.Needs.{needs}
 use Rattle.certify.specs.declared.Outcome.{Outcome}
 use Rattle.certify.specs.Answered.{handedBy}

@@ -1,7 +1,7 @@
 -- `lowest_with` meets its contract: every edge between the two has been tried or passed over.
 use borrow.Author.Needs.{needs}
-use mathlib.Core.Path.{_≡_, refl, sym, ap, _∙_}
-use Prim.Native.Nat.{ℕ, _-_, _≤_, _<_}
+use mathlib.Core.Path.{_≡_, refl, sym, _∙_}
+use Prim.Native.Nat.{_-_, _≤_, _<_}
 use native.Mathlib.Omega.{arith}
 use Rattle.connectivity.specs.Plan.{plan, graph}
 use Rattle.connectivity.specs.Cut.{disconnects, pairsWith, firstOf}

@@ -1,5 +1,4 @@
 -- `small_cut` meets its contract: the first single edge, else the first pair, else none.
-use borrow.Author.Needs.{needs}
 use mathlib.Core.Path.{_≡_, _∙_}
 use mathlib.Core.List.{List}
 use Prim.Native.Nat.{ℕ, _≤_}

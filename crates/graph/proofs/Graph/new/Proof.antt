@@ -1,5 +1,5 @@
 -- `Graph::new` meets its contract: each way out cites the law for its tests.
-use mathlib.Core.Path.{_≡_, sym, ap, _∙_}
+use mathlib.Core.Path.{sym, ap, _∙_}
 use native.Mathlib.Omega.{arith}
 use borrow.Author.Needs.{needs}
 use Rattle.connectivity.specs.Plan.{limits}

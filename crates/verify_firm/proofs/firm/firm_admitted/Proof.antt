@@ -2,7 +2,6 @@
 use borrow.Author.Needs.{needs}
 use mathlib.Core.Path.{sym, ap, _∙_}
 use Prim.Native.Nat.{_*_}
-use native.Mathlib.Omega.{arith}
 use Rattle.graph.specs.Admission.{toldBy}
 use Rattle.verify_firm.proofs.Judged.{firm-long, firm-rows}
 use Rattle.verify_firm.proofs.firm.firm_admitted.Statement.{statement}
