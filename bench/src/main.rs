@@ -1,15 +1,19 @@
 //! The proved check and the proved writer beside second ones: `measure`, `measure-writer` and `measure-texts` have them timed, `stack` has
-//! their stack measured, `figures` all of these; `compare` and `compare-writer` have the answers of both compared.
+//! their stack measured, `figures` all of these; `callgrind` has their instructions counted, of the calls that `call` makes; `compare` and
+//! `compare-writer` have the answers of both compared.
 
 mod archive;
 mod brute;
+mod callgrind;
 mod clock;
 mod compare;
 mod compare_writer;
 mod damage;
+mod firm_shapes;
 mod grow;
 mod measure;
 mod measure_texts;
+mod measure_weak;
 mod measure_writer;
 mod plans;
 mod random;
@@ -18,11 +22,12 @@ mod shapes;
 mod stack;
 mod table;
 mod texts;
+mod weak_shapes;
 mod writer;
 
 use std::process::ExitCode;
 
-const USE: &str = "use: bench/run [measure | measure-writer | measure-texts | stack | figures | compare [COUNT [SEED]] | compare-writer [COUNT [SEED]]]";
+const USE: &str = "use: bench/run [measure | measure-writer | measure-texts | stack | figures | callgrind [all | SHAPE] | compare [COUNT [SEED]] | compare-writer [COUNT [SEED]]]";
 
 fn main() -> ExitCode {
     let words: Vec<String> = std::env::args().skip(1).collect();
@@ -33,6 +38,11 @@ fn main() -> ExitCode {
         ["measure-texts"] => measure_texts::run(),
         ["stack"] => stack::run(),
         ["figures"] => figures(),
+        ["callgrind"] => callgrind::run(None),
+        ["callgrind", name] => callgrind::run(Some(name)),
+        ["call", which, what, shape, order, size, count] => {
+            callgrind::call([which, what, shape, order, size], whole(count))
+        }
         ["compare"] => compare::run(500_000, 1),
         ["compare", count] => compare::run(whole(count), 1),
         ["compare", count, seed] => compare::run(whole(count), whole(seed)),

@@ -2,11 +2,13 @@
 
 use crate::clock::{median, time};
 use crate::compare::same;
+use crate::firm_shapes::firm;
 use crate::grow::{Case, Family, grow};
 use crate::random::Random;
-use crate::shapes::{grouped, shapes};
+use crate::second::Check;
+use crate::shapes::Plan;
 use crate::table::{head, number, numbers, row, whole};
-use crate::{archive, second, writer};
+use crate::{archive, measure_weak, second, writer};
 use std::hint::black_box;
 use std::time::Duration;
 
@@ -16,25 +18,27 @@ const FAMILIES: [(&str, Family); 3] = [
     ("few long links", Family::Long),
     ("ends far apart", Family::Far),
 ];
-/// Graphs of each size and family, samples of each verdict, and how long a sample takes at least.
+/// Graphs of each size and family, samples of each verdict, firm and weak, and how long a sample takes at least.
 const GRAPHS: usize = 9;
 const SAMPLES: usize = 15;
+const WEAK_SAMPLES: usize = 5;
 const TIME: Duration = Duration::from_millis(2);
 
-/// Prints two tables: median times of a check of one verdict, of firm ones by size, of weak ones at the limits of their shape.
+/// Prints three tables: median times of a check of one verdict, of firm ones and of weak ones by size, and of weak ones that are no cut.
 pub fn run() -> Result<(), String> {
     records()?;
     println!();
-    weak_lists()
+    weak_verdicts()?;
+    println!();
+    no_cuts()
 }
 
-type Check = fn(u16, &[u16], u16, &[u16]) -> second::Answer;
 const CHECKS: [Check; 2] = [archive::check, second::check];
 
-/// The median nanoseconds of each check over some verdicts, sampled in turn.
-fn medians(cases: &[Case]) -> [f64; 2] {
+/// The median nanoseconds of each check over some verdicts, sampled so often in turn.
+fn medians(cases: &[Case], samples: usize) -> [f64; 2] {
     let mut times = [Vec::new(), Vec::new()];
-    for _ in 0..SAMPLES {
+    for _ in 0..samples {
         for case in cases {
             for (check, times) in CHECKS.iter().zip(&mut times) {
                 times.push(time(TIME, || {
@@ -63,8 +67,8 @@ fn records() -> Result<(), String> {
         for tabs in SIZES {
             let grown = (0..GRAPHS).map(|_| grow(&mut random, family, tabs / 4, tabs));
             let cases: Vec<Case> = grown.collect();
-            cases.iter().try_for_each(passes)?;
-            let [proved, other] = medians(&cases);
+            cases.iter().try_for_each(|case| answers(case, 0))?;
+            let [proved, other] = medians(&cases, SAMPLES);
             let growth = before.map_or(String::new(), |before| format!("× {:.1}", proved / before));
             row(&[
                 name.to_string(),
@@ -81,50 +85,64 @@ fn records() -> Result<(), String> {
     Ok(())
 }
 
-/// Both checks answer 0 and 0.
-fn passes(case: &Case) -> Result<(), String> {
+/// Both checks answer this number, and place 0.
+fn answers(case: &Case, number: u16) -> Result<(), String> {
     let answer = same(case)?;
-    if answer.number == 0 && answer.place == 0 {
+    if answer.number == number && answer.place == 0 {
         return Ok(());
     }
     Err(format!("a verdict is answered {answer:?}: {case:?}"))
 }
 
+/// The weak verdict about a plan: its lowest cut.
+pub fn weak_verdict(plan: Plan) -> Case {
+    let mut rows = vec![0; plan.ends.len() / 2 * 3];
+    let [kind, count, first, last] = writer::verdict(plan.vertices, &plan.ends, &mut rows);
+    Case {
+        vertices: plan.vertices,
+        ends: plan.ends,
+        kind,
+        list: [first, last][..count as usize].to_vec(),
+    }
+}
+
 /// Weak verdicts that pass, each the lowest cut of its plan.
-fn weak_lists() -> Result<(), String> {
+fn weak_verdicts() -> Result<(), String> {
+    measure_weak::table("weak verdicts", |plans| {
+        let cases: Vec<Case> = plans.into_iter().map(weak_verdict).collect();
+        cases.iter().try_for_each(|case| answers(case, 0))?;
+        Ok(medians(&cases, WEAK_SAMPLES))
+    })
+}
+
+/// Weak verdicts about firm plans, with the first and the last tab: both are no cut.
+fn no_cuts() -> Result<(), String> {
     let mut random = Random::new(1);
-    head(&[
-        "weak verdicts",
-        "pieces",
-        "tabs",
-        "proved, µs",
-        "second, µs",
-    ]);
-    let shapes = shapes();
-    for group in grouped(&shapes).filter(|group| !group[0].firm) {
-        let mut times = Vec::new();
-        let mut about = (0, 0);
-        for shape in group {
-            let plan = shape.plan(&mut random, SIZES[2]);
-            about = (plan.vertices as usize, plan.ends.len() / 2);
-            let mut rows = vec![0; about.1 * 3];
-            let [kind, count, first, last] = writer::verdict(plan.vertices, &plan.ends, &mut rows);
-            let case = Case {
-                vertices: plan.vertices,
-                ends: plan.ends,
-                kind,
-                list: [first, last][..count as usize].to_vec(),
-            };
-            passes(&case)?;
-            times.push(medians(&[case]));
+    head(&["no cut", "pieces", "tabs", "proved, µs", "second, µs"]);
+    for shape in firm() {
+        for size in &SIZES[1..] {
+            let mut about = (0, 0);
+            let mut times = Vec::new();
+            for &order in shape.orders {
+                let Plan { vertices, ends } = shape.plan(&mut random, *size, order);
+                about = (vertices as usize, ends.len() / 2);
+                let case = Case {
+                    vertices,
+                    ends,
+                    kind: 1,
+                    list: vec![0, about.1 as u16 - 1],
+                };
+                answers(&case, 17)?;
+                times.push(medians(&[case], WEAK_SAMPLES));
+            }
+            row(&[
+                shape.title(),
+                whole(about.0),
+                whole(about.1),
+                numbers(times.iter().map(|[proved, _]| proved / 1e3)),
+                numbers(times.iter().map(|[_, other]| other / 1e3)),
+            ]);
         }
-        row(&[
-            group[0].title(),
-            whole(about.0),
-            whole(about.1),
-            numbers(times.iter().map(|[proved, _]| proved / 1e3)),
-            numbers(times.iter().map(|[_, other]| other / 1e3)),
-        ]);
     }
     Ok(())
 }

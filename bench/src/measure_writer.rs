@@ -2,19 +2,21 @@
 
 use crate::clock::{median, time};
 use crate::compare_writer::obeys;
+use crate::firm_shapes::firm;
 use crate::plans::Trial;
 use crate::random::Random;
-use crate::shapes::{Plan, Shape, grouped, shapes};
+use crate::shapes::{Order, Plan, Shape};
 use crate::table::{head, number, numbers, row, whole};
 use crate::writer::Write;
-use crate::{archive, writer};
+use crate::{archive, measure_weak, writer};
 use std::hint::black_box;
 use std::time::Duration;
 
 const SIZES: [usize; 3] = [100, 1000, 4000];
-/// Plans of each size and shape that varies, samples of each plan, and how long a sample takes at least.
+/// Plans of each size and shape that varies, samples of each plan, firm and weak, and how long a sample takes at least.
 const PLANS: usize = 5;
 const SAMPLES: usize = 9;
+const WEAK_SAMPLES: usize = 5;
 const TIME: Duration = Duration::from_millis(2);
 const WRITERS: [Write; 2] = [archive::verdict, writer::verdict];
 
@@ -25,32 +27,22 @@ struct Cell {
     times: [f64; 2],
 }
 
-/// Prints three tables: median times of one verdict, of random firm plans by size, of the other firm shapes and of weak ones at their limits.
+/// Prints three tables: median times of one verdict, of random firm plans by size, of the other firm shapes at their limits, and of weak ones by
+/// size.
 pub fn run() -> Result<(), String> {
     let mut random = Random::new(1);
-    let shapes = shapes();
-    growth(&mut random, &shapes)?;
-    for (firm, name) in [(true, "other firm plans"), (false, "weak plans")] {
-        println!();
-        head(&[name, "pieces", "tabs", "proved, ms", "second, ms"]);
-        let chosen = |shape: &Shape| shape.firm == firm && !(firm && shape.varies());
-        for group in grouped(&shapes).filter(|group| chosen(&group[0])) {
-            let cells = group.iter().map(|s| measure(&mut random, s, SIZES[2]));
-            let cells: Vec<Cell> = cells.collect::<Result<_, _>>()?;
-            row(&[
-                group[0].title(),
-                whole(cells[0].pieces),
-                whole(cells[0].tabs),
-                numbers(cells.iter().map(|cell| cell.times[0] / 1e6)),
-                numbers(cells.iter().map(|cell| cell.times[1] / 1e6)),
-            ]);
-        }
-    }
-    Ok(())
+    growth(&mut random)?;
+    println!();
+    others(&mut random)?;
+    println!();
+    measure_weak::table("weak plans", |plans| {
+        plans.iter().try_for_each(|plan| agree(plan, 1))?;
+        Ok(medians(&plans, WEAK_SAMPLES))
+    })
 }
 
 /// How the time grows with the size, for the firm shapes that vary.
-fn growth(random: &mut Random, shapes: &[Shape]) -> Result<(), String> {
+fn growth(random: &mut Random) -> Result<(), String> {
     head(&[
         "firm plans, by size",
         "tabs",
@@ -59,10 +51,10 @@ fn growth(random: &mut Random, shapes: &[Shape]) -> Result<(), String> {
         "ratio",
         "against the size before",
     ]);
-    for shape in shapes.iter().filter(|shape| shape.firm && shape.varies()) {
+    for shape in firm().iter().filter(|shape| shape.varies()) {
         let mut before = None;
         for size in SIZES {
-            let cell = measure(random, shape, size)?;
+            let cell = measure(random, shape, size, Order::Up)?;
             let [proved, other] = cell.times;
             let growth = before.map_or(String::new(), |before| format!("× {:.1}", proved / before));
             row(&[
@@ -79,38 +71,68 @@ fn growth(random: &mut Random, shapes: &[Shape]) -> Result<(), String> {
     Ok(())
 }
 
-fn measure(random: &mut Random, shape: &Shape, size: usize) -> Result<Cell, String> {
+/// The firm shapes that do not vary.
+fn others(random: &mut Random) -> Result<(), String> {
+    head(&[
+        "other firm plans",
+        "pieces",
+        "tabs",
+        "proved, ms",
+        "second, ms",
+    ]);
+    for shape in firm().iter().filter(|shape| !shape.varies()) {
+        let orders = shape.orders.iter();
+        let cells = orders.map(|order| measure(random, shape, SIZES[2], *order));
+        let cells: Vec<Cell> = cells.collect::<Result<_, _>>()?;
+        row(&[
+            shape.title(),
+            whole(cells[0].pieces),
+            whole(cells[0].tabs),
+            numbers(cells.iter().map(|cell| cell.times[0] / 1e6)),
+            numbers(cells.iter().map(|cell| cell.times[1] / 1e6)),
+        ]);
+    }
+    Ok(())
+}
+
+fn measure(random: &mut Random, shape: &Shape, size: usize, order: Order) -> Result<Cell, String> {
     let count = if shape.varies() { PLANS } else { 1 };
+    let plans = (0..count).map(|_| shape.plan(random, size, order));
+    let plans: Vec<Plan> = plans.collect();
+    for plan in &plans {
+        let wrong = |why| format!("{}, {}: {why}", shape.name, order.name());
+        agree(plan, 0).map_err(wrong)?;
+    }
+    Ok(Cell {
+        pieces: plans[0].vertices as usize,
+        tabs: plans[0].ends.len() / 2,
+        times: medians(&plans, SAMPLES),
+    })
+}
+
+/// The median nanoseconds of each writer over some plans, sampled so often in turn.
+fn medians(plans: &[Plan], samples: usize) -> [f64; 2] {
     let mut times = [Vec::new(), Vec::new()];
-    let (mut pieces, mut tabs) = (0, 0);
-    for _ in 0..count {
-        let plan = shape.plan(random, size);
-        agree(&plan, shape)?;
-        (pieces, tabs) = (plan.vertices as usize, plan.ends.len() / 2);
-        let mut rows = vec![0; 3 * tabs];
-        for _ in 0..SAMPLES {
+    for plan in plans {
+        let mut rows = vec![0; 3 * (plan.ends.len() / 2)];
+        for _ in 0..samples {
             for (write, times) in WRITERS.iter().zip(&mut times) {
                 times.push(time(TIME, || {
-                    let plan = black_box(&plan);
+                    let plan = black_box(plan);
                     black_box(write(plan.vertices, &plan.ends, &mut rows));
                 }));
             }
         }
     }
-    let times = times.map(|times| median(&times));
-    Ok(Cell {
-        pieces,
-        tabs,
-        times,
-    })
+    times.map(|times| median(&times))
 }
 
-/// Both writers give the same verdict, of the kind that the shape has, and it passes both checks.
-fn agree(plan: &Plan, shape: &Shape) -> Result<(), String> {
+/// Both writers give the same verdict, of this kind, and it passes both checks.
+fn agree(plan: &Plan, kind: u16) -> Result<(), String> {
     let rows = vec![0; plan.ends.len() / 2 * 3];
     let expected = writer::verdict(plan.vertices, &plan.ends, &mut rows.clone());
-    let wrong = |why| format!("{}, {}: {why}, for {plan:?}", shape.name, shape.order);
-    if expected[0] != !shape.firm as u16 {
+    let wrong = |why| format!("{why}, for {plan:?}");
+    if expected[0] != kind {
         return Err(wrong(format!("{expected:?}")));
     }
     let plan = plan.clone();

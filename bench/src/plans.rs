@@ -15,13 +15,17 @@ type Tabs = Vec<[u16; 2]>;
 
 /// A random plan, most of 2 to 8 pieces, with space that may be too short or longer than needed.
 pub fn random_trial(random: &mut Random) -> Trial {
-    let mut tabs = match random.below(16) {
+    let mut tabs = match random.below(20) {
         0 => scattered(random, 7, 14),
         1 => scattered(random, 3, 14),
         2 | 3 => ring(random),
         4 | 5 => parallel(random),
         6 | 7 => glued(random),
         8 => parted(random),
+        9 => crumbled(random),
+        10 => doubled(random),
+        11 => strands(random),
+        12 => necklace(random),
         _ => grown(random),
     };
     while random.once_in(3) {
@@ -108,6 +112,67 @@ fn parted(random: &mut Random) -> Tabs {
     for _ in 0..1 + random.below(2) {
         let first = pieces(&tabs);
         tabs.extend(small(random).iter().map(|tab| tab.map(|v| first + v)));
+    }
+    tabs
+}
+
+/// Many bodies of one to three pieces.
+fn crumbled(random: &mut Random) -> Tabs {
+    let mut tabs = Vec::new();
+    let mut first = 0;
+    for _ in 0..2 + random.below(6) {
+        let last = first + random.below(3) as u16;
+        for v in first..last {
+            tabs.extend([[v, v + 1]].repeat(1 + random.below(3)));
+        }
+        first = last + 1;
+    }
+    tabs
+}
+
+/// A path whose neighbours are joined by two tabs, seldom by one or three.
+fn doubled(random: &mut Random) -> Tabs {
+    let mut tabs = Vec::new();
+    for v in 1..2 + random.below(11) as u16 {
+        let count = [2, 2, 2, 2, 2, 3, 3, 1][random.below(8)];
+        tabs.extend([[v - 1, v]].repeat(count));
+    }
+    tabs
+}
+
+/// Two to four paths between two pieces: any two tabs of one path part the plan.
+fn strands(random: &mut Random) -> Tabs {
+    let mut tabs = Vec::new();
+    let mut next = 2;
+    for _ in 0..2 + random.below(3) {
+        let mut at = 0;
+        for _ in 0..random.below(6) {
+            tabs.push([at, next]);
+            at = next;
+            next += 1;
+        }
+        tabs.push([at, 1]);
+    }
+    tabs
+}
+
+/// Two to four bodies in a row or in a ring, each joined to the next by one tab or two.
+fn necklace(random: &mut Random) -> Tabs {
+    let mut tabs = small(random);
+    let mut begins = vec![0, pieces(&tabs)];
+    for _ in 0..1 + random.below(3) {
+        let first = pieces(&tabs);
+        tabs.extend(small(random).iter().map(|tab| tab.map(|v| first + v)));
+        begins.push(pieces(&tabs));
+    }
+    let bodies: Vec<[u16; 2]> = begins.windows(2).map(|pair| [pair[0], pair[1]]).collect();
+    let closed = random.once_in(2);
+    for (i, &body) in bodies.iter().enumerate().skip(!closed as usize) {
+        let before = bodies[(i + bodies.len() - 1) % bodies.len()];
+        for _ in 0..1 + random.below(2) {
+            let inside = |[from, to]: [u16; 2]| from + random.below((to - from) as usize) as u16;
+            tabs.push([before, body].map(inside));
+        }
     }
     tabs
 }

@@ -10,6 +10,9 @@ pub struct Answer {
     pub place: u16,
 }
 
+/// A check: from the vertices, the ends of the edges, the kind and the list of a verdict to the answer.
+pub type Check = fn(u16, &[u16], u16, &[u16]) -> Answer;
+
 type Outcome = Result<(), Answer>;
 
 fn refuse(number: u16, place: usize) -> Outcome {

@@ -75,8 +75,10 @@ fn measure() -> Result<Vec<Use>, String> {
         stack.verdicts(&mut random, &case)?;
     }
     for shape in shapes() {
-        let plan = shape.plan(&mut random, TABS);
-        stack.plans(&mut random, &plan)?;
+        for &order in shape.orders {
+            let plan = shape.plan(&mut random, TABS, order);
+            stack.plans(&mut random, &plan)?;
+        }
     }
     Ok(stack.uses)
 }

@@ -13,7 +13,7 @@ use Rattle.connectivity.specs.Lists.{range, keep}
 use Rattle.connectivity.specs.Graph.{Vertex, Edge, isEdge, edges}
 use Rattle.connectivity.specs.Plan.{Plan, plan, graph, Limits}
 use Rattle.connectivity.specs.Admission.{Answer, answer, passed, EndsFit, Admitted, andThen, edgeNumber, endsAnswer, admission}
-use Rattle.connectivity.proofs.Lists.{and-both, T-true, T-false, true-T, range-is}
+use Rattle.connectivity.proofs.Lists.{and-both, T-true, T-false, true-T, range-is, length-range}
 use Rattle.connectivity.proofs.Search.{is-edge}
 
 -- two answers, one after the other, are success where both are
@@ -149,11 +149,6 @@ keep-all : (f : ℕ → Bool) (l : List ℕ) → ((x : ℕ) → In x l → T (f 
 unfolding keep
 keep-all f [] h = refl
 keep-all f (x ∷ l) h = rw (T-true (f x) (h x (first refl))) (ap (λ (m : List ℕ). x ∷ m) (keep-all f l (λ y i. h y (later i))))
-
-length-range : (i k : ℕ) → length (range i k) ≡ k
-unfolding range
-length-range i zero = refl
-length-range i (suc k) = ap suc (length-range (suc i) k)
 
 pub edge-size : (p : Plan) {e : ℕ} → Edge (graph p) e → e < length (p .ends) / 2
 unfolding graph

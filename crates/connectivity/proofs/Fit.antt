@@ -17,7 +17,7 @@ use Rattle.connectivity.specs.Walk.{Leg, Walk, Between, inner, allInner,
 use Rattle.connectivity.specs.Link.{isBare, sameLink}
 use Rattle.connectivity.specs.Mader.{MaderPath}
 use Rattle.connectivity.specs.Judge.{leadsBetween, allBetween, pathsFit, earFits, linksFit, stepNumber, closingNumber}
-use Rattle.connectivity.proofs.Lists.{T-dec, mem-in, in-mem, not-mem, distinct-is, Decides, decides, decides-eq, decides-not, decides-to, decides-and, decides-or, decides-all}
+use Rattle.connectivity.proofs.Lists.{T-dec, mem-in, in-mem, not-mem, distinct-is, Decides, decides, decides-eq, decides-le, decides-not, decides-to, decides-and, decides-or, decides-all}
 use Rattle.connectivity.proofs.Reach.{reach-map}
 use Rattle.connectivity.proofs.Search.{vertices-are, unreached-not, unreached-or}
 use Rattle.connectivity.proofs.Degree.{walk-to}
@@ -173,7 +173,7 @@ unfolding closingNumber
 closing g done = (λ p. d .holds (z .0 p), λ q. z .1 (d .test q))
   where
     d : Decides (leb 3 (length done) && all (isBranch g (allEdges done)) (vertices g)) ((3 ≤ length done) × ((v : ℕ) → Vertex g v → Branch g (allEdges done) v))
-    d = decides-and (decides (leb 3 (length done)) (leb→le 3 (length done), le→leb 3 (length done)))
+    d = decides-and (decides-le 3 (length done))
         (decides-to (decides-all (is-branch g (allEdges done)) (vertices g)) (λ f v h. f v (vertices-are g v .1 h)) (λ f v i. f v (vertices-are g v .0 i)))
 
     z : (closingNumber g done ≡ 0) ↔ T (leb 3 (length done) && all (isBranch g (allEdges done)) (vertices g))

@@ -17,7 +17,7 @@ use Rattle.connectivity.specs.Cut.{EdgeSet, Cut, disconnects}
 use Rattle.connectivity.specs.Mader.{Builds}
 use Rattle.connectivity.specs.Admission.{Answer, answer, passed, andThen, Admitted, admission}
 use Rattle.connectivity.specs.Judge.{ascending, judgeWeak, judgeGraph, judge}
-use Rattle.connectivity.proofs.Lists.{Decides, decides, decides-and}
+use Rattle.connectivity.proofs.Lists.{Decides, decides, decides-le, decides-and}
 use Rattle.connectivity.proofs.Search.{is-edge}
 use Rattle.connectivity.proofs.Disconnects.{disconnects-is}
 use Rattle.connectivity.proofs.Admission.{both-passed, passed-then, failed-then, passed-when, Told, cond-both, admission-number}
@@ -44,7 +44,7 @@ rises-rest {g} {low} {e} {list} r = go (r .set .ascending)
     go (cons h o) = record { set = record { ascending = o; members = λ d i. r .set .members d (later i) }; from = h }
 
 edge-above : (g : Graph) (low e : ℕ) → Decides (isEdge g e && leb low e) (Edge g e × (low ≤ e))
-edge-above g low e = decides-and (decides (isEdge g e) (is-edge g e)) (decides (leb low e) (leb→le low e, le→leb low e))
+edge-above g low e = decides-and (decides (isEdge g e) (is-edge g e)) (decides-le low e)
 
 ascending-is : (g : Graph) (k low : ℕ) (list : List ℕ) → (ascending g k low list ≡ passed) ↔ Rises g low list
 unfolding ascending

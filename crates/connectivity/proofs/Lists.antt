@@ -1,12 +1,12 @@
 -- The tests on lists and the facts that they decide, both ways.
-use mathlib.Core.Path.{_≡_, refl, sym, subst}
+use mathlib.Core.Path.{_≡_, refl, sym, ap, _∙_, subst}
 use mathlib.Core.Logic.{_⊎_, inl, inr, _↔_}
 use mathlib.Core.Bool.{Bool, true, false, not, cond, _&&_, _||_}
-use mathlib.Core.List.{List, [], _∷_, List·Memᴰ as In, List·Memᴰ·head as first, List·Memᴰ·tail as later, List·Memᴰ·not-nil as not-in}
+use mathlib.Core.List.{List, [], _∷_, map, List·Memᴰ as In, List·Memᴰ·head as first, List·Memᴰ·tail as later, List·Memᴰ·not-nil as not-in}
 use Prim.Native.Nat.{ℕ, zero, suc, _+_, _≤_, _<_}
 use native.Mathlib.Omega.{arith}
 use native.Mathlib.Decide.{ℕ-discrete}
-use lib.Dec.{T, eqb, eqb→eq, eqb-refl, T-not, not-T}
+use lib.Dec.{T, eqb, eqb→eq, eqb-refl, leb, leb→le, le→leb, T-not, not-T}
 use lib.ListN.{length, getD, set}
 use lib.Seq.{getD-set-same, getD-set-other}
 use borrow.Author.Tests.{eq-eqb, ne-eqb}
@@ -153,6 +153,18 @@ range-is x i k = (to i k, λ p. from i k (p .0) (p .1))
     from i zero h l = absurd (omega arith)
     from i (suc k) h l = elim (ℕ-discrete x i) [ yes p ↦ first p | no n ↦ later (from (suc i) k (omega arith) (omega arith)) ]
 
+pub length-range : (i k : ℕ) → length (range i k) ≡ k
+unfolding range
+length-range i zero = refl
+length-range i (suc k) = ap suc (length-range (suc i) k)
+
+-- a table that a function of the place tells
+pub map-range : (f : ℕ → ℕ) (i k j : ℕ) → j < k → getD (map f (range i k)) j 0 ≡ f (i + j)
+unfolding range
+map-range f i zero j l = absurd (omega arith)
+map-range f i (suc k) zero l = let p : i ≡ i + 0 = omega arith in ap f p
+map-range f i (suc k) (suc j) l = let p : suc i + j ≡ i + suc j = omega arith in map-range f (suc i) k j (omega arith) ∙ ap f p
+
 -- an empty list has no member, and any other has one
 pub empty-none : {x : ℕ} (l : List ℕ) → T (empty l) → In x l → ⊥
 unfolding empty
@@ -179,6 +191,9 @@ decides b e = record { holds = e .0; test = e .1 }
 
 pub decides-eq : (m n : ℕ) → Decides (eqb m n) (m ≡ n)
 decides-eq m n = record { holds = eqb→eq m n; test = eq-T }
+
+pub decides-le : (m n : ℕ) → Decides (leb m n) (m ≤ n)
+decides-le m n = decides (leb m n) (leb→le m n, le→leb m n)
 
 module _ {a : Bool} {P : Type 0} (p : Decides a P) where
   pub decides-not : Decides (not a) (P → ⊥)

@@ -3,7 +3,7 @@ use mathlib.Core.Path.{_≡_, refl, sym, ap, subst, _∙_}
 use mathlib.Core.Bool.{Bool, true, false, cond}
 use mathlib.Core.List.{List, [], _∷_, _++_}
 use mathlib.Core.Option.{Option, none, some}
-use Prim.Native.Nat.{ℕ, suc, _+_, _-_, _≤_, _<_}
+use Prim.Native.Nat.{ℕ, zero, suc, _+_, _-_, _≤_, _<_}
 use native.Mathlib.Omega.{arith}
 use borrow.Author.Tests.{lt-ltb, le-ltb}
 use Rattle.connectivity.specs.Lists.{range}
@@ -24,6 +24,14 @@ from-cons e m h =
 from-over : (m : ℕ) → from m m ≡ []
 unfolding range
 from-over m = let p : m - m ≡ 0 = omega arith in ap (range m) p
+
+-- what stays from one number to the next stays over many
+pub steps : {A : Type 0} (f : ℕ → A) (a b : ℕ) → a ≤ b → ((k : ℕ) → a ≤ k → k < b → f k ≡ f (k + 1)) → f a ≡ f b
+steps f a b h q = go (b - a) a (omega arith) q
+  where
+    go : (more a : ℕ) → a + more ≡ b → ((k : ℕ) → a ≤ k → k < b → f k ≡ f (k + 1)) → f a ≡ f b
+    go zero a p q = let e : a ≡ b = omega arith in ap f e
+    go (suc more) a p q = q a (omega arith) (omega arith) ∙ go more (a + 1) (omega arith) (λ k l. q k (omega arith))
 
 pub none-some : {c : List ℕ} → _≡_ {A = Option (List ℕ)} none (some c) → ⊥
 none-some p = subst IsNone p tt

@@ -1,2 +1,4 @@
 pub mod Lowest
+pub mod Alike
+pub mod Tries
 pub mod Verdict

@@ -1,13 +1,14 @@
-// The lowest cut of at most two edges. Labels tell which sets need not be tried; a search tries the others.
-use removal::Split;
+// The lowest cut of at most two edges of a connected plan. Labels tell which sets need not be tried; a search tries the others.
+use crate::alike;
+use crate::tries::is_cut;
 ghost use mathlib.Core.Path.{_≡_};
-ghost use mathlib.Core.Bool.{false};
-ghost use mathlib.Core.List.{[], _∷_};
 ghost use Prim.Native.Nat.{_≤_, _<_};
-ghost use Rattle.connectivity.specs.Plan.{plan, graph, limits};
-ghost use Rattle.connectivity.specs.Cut.{disconnects, lowestCut};
-ghost use Rattle.connectivity.specs.Admission.{Admitted};
+ghost use lib.ListN.{length};
+ghost use Rattle.connectivity.specs.Plan.{plan, graph};
+ghost use Rattle.connectivity.specs.Cut.{lowestCut};
 ghost use Rattle.cuts.specs.Lowest.{Shown, ShownBoth, oneTold, twoTold, firstOne, firstWith, firstTwo, Told, Whole};
+ghost use Rattle.cuts.specs.Alike.{Chaining};
+ghost use Rattle.cuts.specs.Tries.{Ready, Restored};
 
 // A cut of at most two edges: how many, and which; unused places are 0. Three for none.
 pub struct Lowest {
@@ -22,12 +23,37 @@ pub(crate) struct Pair {
     pub second: u16,
 }
 
-// The fewest edges, two at most, that disconnect a connected plan whose edges have labels, and of such sets the lowest.
-pub(crate) fn small_cut(vertices: u16, ends: &[u16], labels: &[u64], edges: u16) -> Lowest
-    requires { ⌜ Whole vertices (now ends) (now labels) edges ⌝ }
+// The fewest edges, two at most, that disconnect a connected plan whose edges have labels, and of such sets the lowest. Edges with like
+// labels are put on chains only where no edge disconnects alone.
+pub(crate) fn small_cut(
+    vertices: u16,
+    ends: &[u16],
+    incident: &[u16],
+    begins: &[u16],
+    labels: &[u64],
+    edges: u16,
+    dead: &mut [u8],
+    first: &mut [u16],
+    order: &mut [u16],
+    cursor: &mut [u16],
+    next: &mut [u16],
+    heads: &mut [u16],
+) -> Lowest
+    requires { ⌜ Whole vertices (now ends) (now labels) edges × Ready (plan vertices (now ends)) (now incident) (now begins) (now dead) (now first) (now order) (now cursor) × (edges ≤ length (now next)) × (0 < length (now heads)) ⌝ }
     ensures { λ r. ⌜ Told r (lowestCut (graph (plan vertices (now (ends .entry))))) ⌝ }
 {
-    let e = lowest_one(vertices, ends, labels, edges);
+    let e = lowest_one(
+        vertices,
+        ends,
+        incident,
+        begins,
+        labels,
+        edges,
+        dead,
+        first,
+        order,
+        cursor,
+    );
     if e < edges {
         return Lowest {
             count: 1,
@@ -35,7 +61,27 @@ pub(crate) fn small_cut(vertices: u16, ends: &[u16], labels: &[u64], edges: u16)
             second: 0,
         };
     }
-    let pair = lowest_two(vertices, ends, labels, edges);
+    chains::chain(edges, labels, next, heads);
+    let pair = lowest_two(
+        vertices,
+        ends,
+        incident,
+        begins,
+        labels,
+        next,
+        edges,
+        dead,
+        first,
+        order,
+        cursor,
+    );
+    told_pair(pair, edges)
+}
+
+// A pair whose second is `edges` stands for none.
+fn told_pair(pair: Pair, edges: u16) -> Lowest
+    ensures { λ r. ⌜ Told r (twoTold edges (pair .first) (pair .second)) ⌝ }
+{
     let second = pair.second;
     if second < edges {
         return Lowest {
@@ -51,52 +97,83 @@ pub(crate) fn small_cut(vertices: u16, ends: &[u16], labels: &[u64], edges: u16)
     }
 }
 
-// The lowest edge that disconnects, or `edges` for none.
-fn lowest_one(vertices: u16, ends: &[u16], labels: &[u64], edges: u16) -> u16
-    requires { ⌜ Shown vertices (now ends) (now labels) edges ⌝ }
-    ensures { λ r. ⌜ (r ≤ edges) × (firstOne (graph (plan vertices (now (ends .entry)))) edges ≡ oneTold edges r) ⌝ }
+// The lowest edge that disconnects, or `edges` for none. One whose label is not 0 need not be tried.
+fn lowest_one(
+    vertices: u16,
+    ends: &[u16],
+    incident: &[u16],
+    begins: &[u16],
+    labels: &[u64],
+    edges: u16,
+    dead: &mut [u8],
+    first: &mut [u16],
+    order: &mut [u16],
+    cursor: &mut [u16],
+) -> u16
+    requires { ⌜ Shown vertices (now ends) (now labels) edges × Ready (plan vertices (now ends)) (now incident) (now begins) (now dead) (now first) (now order) (now cursor) ⌝ }
+    ensures { λ r. ⌜ (r ≤ edges) × (firstOne (graph (plan vertices (now (ends .entry)))) edges ≡ oneTold edges r) × Restored (now (dead .entry)) (now (first .entry)) (now (order .entry)) (now (cursor .entry)) (now (dead .exit)) (now (first .exit)) (now (order .exit)) (now (cursor .exit)) ⌝ }
 {
-    let mut e: u16 = 0;
+    let mut e = alike::zero_from(labels, edges, 0);
     while e < edges {
-        if one_cuts(vertices, ends, labels[e as usize], e) {
+        if is_cut(
+            vertices,
+            ends,
+            incident,
+            begins,
+            e,
+            e,
+            dead,
+            first,
+            order,
+            cursor,
+        ) {
             return e;
         }
-        e += 1;
+        e = alike::zero_from(labels, edges, e + 1);
     }
     edges
 }
 
-// The lowest edge above `e` that disconnects together with it, or `edges` for none.
-fn lowest_with(vertices: u16, ends: &[u16], labels: &[u64], edges: u16, e: u16) -> u16
-    requires { ⌜ ShownBoth vertices (now ends) (now labels) edges × (e < edges) ⌝ }
-    ensures { λ r. ⌜ (r ≤ edges) × (firstWith (graph (plan vertices (now (ends .entry)))) edges e ≡ twoTold edges e r) ⌝ }
+// The lowest pair that disconnects, or twice `edges` for none. An edge that no other has the label of need not be tried.
+fn lowest_two(
+    vertices: u16,
+    ends: &[u16],
+    incident: &[u16],
+    begins: &[u16],
+    labels: &[u64],
+    next: &[u16],
+    edges: u16,
+    dead: &mut [u8],
+    first: &mut [u16],
+    order: &mut [u16],
+    cursor: &mut [u16],
+) -> Pair
+    requires { ⌜ ShownBoth vertices (now ends) (now labels) edges × Chaining edges (now labels) (now next) × Ready (plan vertices (now ends)) (now incident) (now begins) (now dead) (now first) (now order) (now cursor) ⌝ }
+    ensures { λ r. ⌜ firstTwo (graph (plan vertices (now (ends .entry)))) edges ≡ twoTold edges (r .first) (r .second) ⌝ }
 {
-    let label = labels[e as usize];
-    let mut d = e + 1;
-    while d < edges {
-        if two_cut(vertices, ends, label, labels[d as usize], e, d) {
-            return d;
-        }
-        d += 1;
-    }
-    edges
-}
-
-// The lowest pair that disconnects, or twice `edges` for none.
-fn lowest_two(vertices: u16, ends: &[u16], labels: &[u64], edges: u16) -> Pair
-    requires { ⌜ ShownBoth vertices (now ends) (now labels) edges ⌝ }
-    ensures { λ r. ⌜ (r .second ≤ edges) × (firstTwo (graph (plan vertices (now (ends .entry)))) edges ≡ twoTold edges (r .first) (r .second)) ⌝ }
-{
-    let mut e: u16 = 0;
+    let mut e = alike::paired_from(labels, next, edges, 0);
     while e < edges {
-        let d = lowest_with(vertices, ends, labels, edges, e);
+        let d = lowest_with(
+            vertices,
+            ends,
+            incident,
+            begins,
+            labels,
+            next,
+            edges,
+            e,
+            dead,
+            first,
+            order,
+            cursor,
+        );
         if d < edges {
             return Pair {
                 first: e,
                 second: d,
             };
         }
-        e += 1;
+        e = alike::paired_from(labels, next, edges, e + 1);
     }
     Pair {
         first: edges,
@@ -104,39 +181,41 @@ fn lowest_two(vertices: u16, ends: &[u16], labels: &[u64], edges: u16) -> Pair
     }
 }
 
-// The edge `e` disconnects. Its label shows that, or a search is asked.
-fn one_cuts(vertices: u16, ends: &[u16], label: u64, e: u16) -> bool
-    requires { ⌜ Admitted limits (plan vertices (now ends)) × ((label ≡ 0 → ⊥) → disconnects (graph (plan vertices (now ends))) (e ∷ []) ≡ false) ⌝ }
-    ensures { λ r. ⌜ r ≡ disconnects (graph (plan vertices (now (ends .entry)))) (e ∷ []) ⌝ }
+// The lowest edge above `e` that disconnects together with it, or `edges` for none. Those with another label need not be tried.
+fn lowest_with(
+    vertices: u16,
+    ends: &[u16],
+    incident: &[u16],
+    begins: &[u16],
+    labels: &[u64],
+    next: &[u16],
+    edges: u16,
+    e: u16,
+    dead: &mut [u8],
+    first: &mut [u16],
+    order: &mut [u16],
+    cursor: &mut [u16],
+) -> u16
+    requires { ⌜ ShownBoth vertices (now ends) (now labels) edges × Chaining edges (now labels) (now next) × Ready (plan vertices (now ends)) (now incident) (now begins) (now dead) (now first) (now order) (now cursor) × (e < edges) ⌝ }
+    ensures { λ r. ⌜ (firstWith (graph (plan vertices (now (ends .entry)))) edges e ≡ twoTold edges e r) × Restored (now (dead .entry)) (now (first .entry)) (now (order .entry)) (now (cursor .entry)) (now (dead .exit)) (now (first .exit)) (now (order .exit)) (now (cursor .exit)) ⌝ }
 {
-    if label != 0 {
-        return false;
+    let mut d = alike::next_like(labels, next, edges, e);
+    while d < edges {
+        if is_cut(
+            vertices,
+            ends,
+            incident,
+            begins,
+            e,
+            d,
+            dead,
+            first,
+            order,
+            cursor,
+        ) {
+            return d;
+        }
+        d = alike::next_like(labels, next, edges, d);
     }
-    let cut = [e];
-    is_cut(vertices, ends, &cut)
-}
-
-// The edges `e` and `d` disconnect.
-fn two_cut(vertices: u16, ends: &[u16], label: u64, other: u64, e: u16, d: u16) -> bool
-    requires { ⌜ Admitted limits (plan vertices (now ends)) × ((label ≡ other → ⊥) → disconnects (graph (plan vertices (now ends))) (e ∷ (d ∷ [])) ≡ false) ⌝ }
-    ensures { λ r. ⌜ r ≡ disconnects (graph (plan vertices (now (ends .entry)))) (e ∷ (d ∷ [])) ⌝ }
-{
-    if label != other {
-        return false;
-    }
-    let cut = [e, d];
-    is_cut(vertices, ends, &cut)
-}
-
-// The edges of `cut` disconnect: a search is asked.
-fn is_cut(vertices: u16, ends: &[u16], cut: &[u16]) -> bool
-    requires { ⌜ Admitted limits (plan vertices (now ends)) ⌝ }
-    ensures { λ r. ⌜ r ≡ disconnects (graph (plan vertices (now (ends .entry)))) (now (cut .entry)) ⌝ }
-{
-    let split = removal::split_by(vertices, ends, cut);
-    match split {
-        Split::Disconnected => true,
-        Split::Connected => false,
-        Split::Refused(_) => false, // never: the plan is admitted
-    }
+    edges
 }

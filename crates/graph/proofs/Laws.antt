@@ -1,8 +1,10 @@
 -- The judgement of a table of ends, from one edge to the next, and what is handed back of a plan by the constructor's tests.
 use mathlib.Core.Path.{_≡_, refl, _∙_}
+use mathlib.Core.Bool.{Bool, true, false, cond, _&&_}
 use mathlib.Core.List.{List, [], _∷_}
 use Prim.Native.Nat.{ℕ, suc, _+_, _*_, _/_, _%_, _≤_, _<_}
 use native.Mathlib.Omega.{arith}
+use lib.Dec.{eqb, ltb}
 use lib.ListN.{length, getD, drop}
 use lib.Seq.{drop-cons}
 use borrow.Author.Tests.{lt-ltb, le-ltb, eq-eqb, ne-eqb}
@@ -10,6 +12,16 @@ use Rattle.connectivity.specs.Plan.{Plan, Limits}
 use Rattle.connectivity.specs.Admission.{answer, passed, served, refusal, andThen, edgeNumber, endsAnswer, admission}
 use Rattle.connectivity.proofs.Admission.{passed-then, failed-then}
 use Rattle.graph.specs.Admission.{constructed}
+
+-- an edge's number is 5 at most
+pub number-most : (n a b : ℕ) → edgeNumber n a b ≤ 5
+unfolding edgeNumber
+number-most n a b = go (ltb a n && ltb b n) (eqb a b)
+  where
+    go : (s t : Bool) → cond s (cond t 5 0) 4 ≤ 5
+    go true true = omega arith
+    go true false = omega arith
+    go false t = omega arith
 
 drop-two : (ends : List ℕ) (e : ℕ) → 2 * e + 1 < length ends
     → drop (2 * e) ends ≡ getD ends (2 * e) 0 ∷ (getD ends (2 * e + 1) 0 ∷ drop (2 * (e + 1)) ends)

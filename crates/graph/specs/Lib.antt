@@ -1,2 +1,3 @@
 pub mod Admission
 pub mod Tells
+pub mod Marks

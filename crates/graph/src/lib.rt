@@ -3,7 +3,7 @@ ghost use mathlib.Core.Path.{_≡_};
 ghost use Prim.Native.Nat.{_/_, _≤_};
 ghost use lib.ListN.{length};
 ghost use Rattle.connectivity.specs.Plan.{plan, limits};
-ghost use Rattle.connectivity.specs.Admission.{edgeNumber, endsAnswer};
+ghost use Rattle.connectivity.specs.Admission.{edgeNumber, endsAnswer, passed};
 ghost use Rattle.graph.specs.Admission.{toldBy, handed, constructed};
 
 // An answer to every question asked of these crates (01): a number and a place; 0 and 0 is success.
@@ -66,8 +66,37 @@ fn refused(number: u16, place: u16) -> Admission
     })
 }
 
-// The first edge with an end that is not below `vertices` (4) or with two equal ends (5), 4 before 5.
+// 0 for ends that all fit; else the first edge that does not is looked for.
 fn judge_ends(vertices: u16, ends: &[u16]) -> Answer
+    requires { ⌜ length (now ends) / 2 ≤ limits .edges ⌝ }
+    ensures { λ r. ⌜ r ≡ toldBy (endsAnswer vertices 0 (now (ends .entry))) ⌝ }
+{
+    if misfits(vertices, ends) == 0 {
+        return Answer {
+            number: 0,
+            place: 0,
+        };
+    }
+    first_misfit(vertices, ends)
+}
+
+// The numbers of all edges, 4, 5 or 0 each, added up. The loop has no way out, so that several edges are judged at once.
+fn misfits(vertices: u16, ends: &[u16]) -> u16
+    requires { ⌜ length (now ends) / 2 ≤ limits .edges ⌝ }
+    ensures { λ r. ⌜ (r ≡ 0 → endsAnswer vertices 0 (now (ends .entry)) ≡ passed) ⌝ }
+{
+    let edges = ends.len() / 2;
+    let mut sum: u16 = 0;
+    let mut e = 0;
+    while e < edges {
+        sum += judge_edge(vertices, ends[2 * e], ends[2 * e + 1]);
+        e += 1;
+    }
+    sum
+}
+
+// The first edge with an end that is not below `vertices` (4) or with two equal ends (5), 4 before 5.
+fn first_misfit(vertices: u16, ends: &[u16]) -> Answer
     requires { ⌜ length (now ends) / 2 ≤ limits .edges ⌝ }
     ensures { λ r. ⌜ r ≡ toldBy (endsAnswer vertices 0 (now (ends .entry))) ⌝ }
 {

@@ -1,127 +1,26 @@
--- Labels that cancel around every vertex cancel over every cut: an edge that disconnects alone has label 0, and two that disconnect
--- only together have the same label.
+-- Labels that cancel around every vertex cancel over every cut, in a graph of any number of bodies: an edge whose loss alone parts what was
+-- joined has label 0, and two that do so only together have the same label.
 use mathlib.Core.Path.{_≡_, refl, sym, ap, ap₂, _∙_, subst}
 use mathlib.Core.Logic.{_⊎_, inl, inr}
 use mathlib.Core.Bool.{Bool, true, false, not, cond, _||_}
-use mathlib.Core.List.{List, [], _∷_, List·Memᴰ as In, List·Memᴰ·head as first, List·Memᴰ·tail as later, List·Memᴰ·not-nil as not-in, List·Memᴰ·cases-cons as in-cons, List·Memᴰ·eq-of-singleton as eq-of-singleton}
-use Prim.Native.Nat.{ℕ, zero, suc, _/_, _%_, _<_}
-use native.Mathlib.Omega.{arith}
-use lib.Arith.{bin-ind}
-use lib.Bits.{bitXor, xor-self, xor-zero-r, xor-comm, xor-shr, xor-mod}
+use mathlib.Core.List.{List, [], _∷_, List·Memᴰ as In, List·Memᴰ·head as first, List·Memᴰ·not-nil as not-in, List·Memᴰ·cases-cons as in-cons, List·Memᴰ·eq-of-singleton as eq-of-singleton}
+use Prim.Native.Nat.{ℕ}
+use lib.Bits.{bitXor, xor-self, xor-zero-r}
 use lib.Dec.{T, eqb, eqb→eq, T-not, not-T}
-use borrow.Author.Tests.{eqb-true, eqb-false, eq-eqb, ne-eqb}
 use Rattle.connectivity.specs.Lists.{Distinct, no-member, one, keep, mem}
-use Rattle.connectivity.specs.Plan.{plan, graph, Limits}
+use Rattle.connectivity.specs.Plan.{Plan, graph, Limits}
 use Rattle.connectivity.specs.Graph.{Graph, Vertex, Edge, Joins, vertices, edges}
-use Rattle.connectivity.specs.Reach.{Reach, here, over, Without, Connected, Disconnects}
+use Rattle.connectivity.specs.Reach.{Reach, here, over, Without, Connected}
 use Rattle.connectivity.specs.Cut.{unreached, disconnects}
-use Rattle.labels.specs.Label.{around, Balanced}
+use Rattle.labels.specs.Label.{around, Balanced, Keeps}
 use Rattle.connectivity.specs.Admission.{Admitted}
+use Rattle.labels.proofs.Xor.{xor-equal, xors, when, xors-same, xors-zero, xors-both, xors-swap, xors-at, xors-part}
 use Rattle.connectivity.proofs.Lists.{T-dec, T-true, T-false, true-T, false-T, eq-T, mem-in, in-mem, in-dec, not-mem, keep-is}
 use Rattle.connectivity.proofs.Reach.{joins-sym, joins-vertex, reach-sym, reach-trans, reach-map, closed-reach}
 use Rattle.connectivity.proofs.Search.{vertices-are, edges-are, unreached-not, unreached-or}
 use Rattle.connectivity.proofs.Order.{ordered-keep, ordered-vertices, ordered-edges}
 use Rattle.connectivity.proofs.Distinct.{ordered-distinct}
 use Rattle.connectivity.proofs.Disconnects.{disconnects-is, connected-is, connected-less}
-
--- Xor.
-
-bit-assoc : (a b c : ℕ) → a < 2 → b < 2 → c < 2 → bitXor (bitXor a b) c ≡ bitXor a (bitXor b c)
-bit-assoc zero b c p q r = refl
-bit-assoc (suc zero) zero c p q r = refl
-bit-assoc (suc zero) (suc zero) zero p q r = refl
-bit-assoc (suc zero) (suc zero) (suc zero) p q r = refl
-bit-assoc (suc zero) (suc zero) (suc (suc c)) p q r = absurd (omega arith)
-bit-assoc (suc zero) (suc (suc b)) c p q r = absurd (omega arith)
-bit-assoc (suc (suc a)) b c p q r = absurd (omega arith)
-
--- two numbers are equal where their halves and their last digits are
-by-digits : (a b : ℕ) → a / 2 ≡ b / 2 → a % 2 ≡ b % 2 → a ≡ b
-by-digits a b p q = omega arith
-
-pub xor-assoc : (a b c : ℕ) → bitXor (bitXor a b) c ≡ bitXor a (bitXor b c)
-xor-assoc = bin-ind (λ (n : ℕ). (b c : ℕ) → bitXor (bitXor n b) c ≡ bitXor n (bitXor b c)) (λ b c. refl)
-    (λ n h b c. by-digits (bitXor (bitXor n b) c) (bitXor n (bitXor b c))
-    (xor-shr (bitXor n b) c 1 ∙ ap (λ (x : ℕ). bitXor x (c / 2)) (xor-shr n b 1) ∙ h (b / 2) (c / 2)
-    ∙ sym (xor-shr n (bitXor b c) 1 ∙ ap (bitXor (n / 2)) (xor-shr b c 1)))
-    (xor-mod (bitXor n b) c 1 ∙ ap (λ (x : ℕ). bitXor x (c % 2)) (xor-mod n b 1)
-    ∙ bit-assoc (n % 2) (b % 2) (c % 2) (omega arith) (omega arith) (omega arith)
-    ∙ sym (xor-mod n (bitXor b c) 1 ∙ ap (bitXor (n % 2)) (xor-mod b c 1))))
-
--- what stands twice cancels
-pub xor-cancel : (a b : ℕ) → bitXor a (bitXor a b) ≡ b
-xor-cancel a b = sym (xor-assoc a a b) ∙ ap (λ (x : ℕ). bitXor x b) (xor-self a)
-
-pub xor-equal : (a b : ℕ) → bitXor a b ≡ 0 → a ≡ b
-xor-equal a b p = sym (xor-zero-r a) ∙ ap (bitXor a) (sym p) ∙ xor-cancel a b
-
--- the middle two of four changed round
-pub xor-middle : (a b c d : ℕ) → bitXor (bitXor a b) (bitXor c d) ≡ bitXor (bitXor a c) (bitXor b d)
-xor-middle a b c d = xor-assoc a b (bitXor c d) ∙ ap (bitXor a) inner ∙ sym (xor-assoc a c (bitXor b d))
-  where
-    inner : bitXor b (bitXor c d) ≡ bitXor c (bitXor b d)
-    inner = sym (xor-assoc b c d) ∙ ap (λ (x : ℕ). bitXor x d) (xor-comm b c) ∙ xor-assoc c b d
-
--- Xor over a list.
-
-unfoldable pub xors : (ℕ → ℕ) → List ℕ → ℕ
-xors f [] = 0
-xors f (x ∷ l) = bitXor (f x) (xors f l)
-
--- a number that counts where a test holds
-abbrev pub when : Bool → ℕ → ℕ
-when t n = cond t n 0
-
-pub xors-same : {f h : ℕ → ℕ} (l : List ℕ) → ((x : ℕ) → In x l → f x ≡ h x) → xors f l ≡ xors h l
-unfolding xors
-xors-same [] p = refl
-xors-same (x ∷ l) p = ap₂ bitXor (p x (first refl)) (xors-same l (λ y i. p y (later i)))
-
-pub xors-zero : (l : List ℕ) → xors (λ x. 0) l ≡ 0
-unfolding xors
-xors-zero [] = refl
-xors-zero (x ∷ l) = xors-zero l
-
-pub xors-both : (f h : ℕ → ℕ) (l : List ℕ) → xors (λ x. bitXor (f x) (h x)) l ≡ bitXor (xors f l) (xors h l)
-unfolding xors
-xors-both f h [] = refl
-xors-both f h (x ∷ l) = ap (bitXor (bitXor (f x) (h x))) (xors-both f h l) ∙ xor-middle (f x) (h x) (xors f l) (xors h l)
-
--- over two lists, in either order
-pub xors-swap : (f : ℕ → ℕ → ℕ) (k l : List ℕ) → xors (λ x. xors (f x) l) k ≡ xors (λ y. xors (λ x. f x y) k) l
-unfolding xors
-xors-swap f [] l = sym (xors-zero l)
-xors-swap f (x ∷ k) l = ap (bitXor (xors (f x) l)) (xors-swap f k l) ∙ sym (xors-both (f x) (λ y. xors (λ x. f x y) k) l)
-
--- a number that counts at one member only
-pub xors-at : (a n : ℕ) {l : List ℕ} → Distinct l → xors (λ x. when (eqb a x) n) l ≡ when (mem a l) n
-unfolding xors mem
-xors-at a n no-member = refl
-xors-at a n (one {x = x} {l = l} m d) = go (eqb a x) refl (xors-at a n d)
-  where
-    go : (t : Bool) → eqb a x ≡ t → xors (λ x. when (eqb a x) n) l ≡ when (mem a l) n
-        → bitXor (when t n) (xors (λ x. when (eqb a x) n) l) ≡ when (t || mem a l) n
-    go true q h = ap (bitXor n) (h ∙ ap (λ (t : Bool). when t n) (T-false (mem a l) (λ t. m (subst (λ (y : ℕ). In y l) (eqb-true a x q) (mem-in a l t))))) ∙ xor-zero-r n
-    go false q h = h
-
--- where only members of a part count, xor over the part
-pub xors-part : (f : ℕ → ℕ) {l part : List ℕ} → Distinct l → Distinct part → ((x : ℕ) → In x part → In x l)
-    → ((x : ℕ) → In x l → (In x part → ⊥) → f x ≡ 0) → xors f l ≡ xors f part
-xors-part f {l} {part} d e sub rest = xors-same l to-part ∙ xors-swap (λ x c. when (eqb c x) (f c)) l part ∙ xors-same part from-part
-  where
-    turned : (x c : ℕ) (t : Bool) → eqb x c ≡ t → when (eqb c x) (f c) ≡ when t (f x)
-    turned x c true q = let p = eqb-true x c q in ap (λ (t : Bool). when t (f c)) (eq-eqb c x (sym p)) ∙ ap f (sym p)
-    turned x c false q = ap (λ (t : Bool). when t (f c)) (ne-eqb c x (λ p. eqb-false x c q (sym p)))
-
-    counts : (x : ℕ) → In x l → (t : Bool) → mem x part ≡ t → f x ≡ when t (f x)
-    counts x i true q = refl
-    counts x i false q = rest x i (λ j. false-T q (in-mem j))
-
-    to-part : (x : ℕ) → In x l → f x ≡ xors (λ c. when (eqb c x) (f c)) part
-    to-part x i = counts x i (mem x part) refl ∙ sym (xors-at x (f x) e) ∙ sym (xors-same part (λ c j. turned x c (eqb x c) refl))
-
-    from-part : (c : ℕ) → In c part → xors (λ x. when (eqb c x) (f c)) l ≡ f c
-    from-part c i = xors-at c (f c) d ∙ ap (λ (t : Bool). when t (f c)) (T-true (mem c l) (in-mem (sub c i)))
 
 -- Edges with one end on each side.
 
@@ -157,7 +56,7 @@ when-unlike true false n = xor-zero-r n
 when-unlike false b n = refl
 
 module _ (g : Graph) (side : ℕ → Bool) where
-  abbrev inside : List ℕ
+  abbrev pub inside : List ℕ
   inside = keep side (vertices g)
 
   mem-inside : {v : ℕ} → Vertex g v → mem v inside ≡ side v
@@ -179,19 +78,42 @@ module _ (g : Graph) (side : ℕ → Bool) where
       at : {v : ℕ} → Vertex g v → xors (λ x. when (eqb v x) n) inside ≡ when (side v) n
       at {v} k = xors-at v n (ordered-distinct (ordered-keep side (ordered-vertices g))) ∙ ap (λ (t : Bool). when t n) (mem-inside k)
 
-  -- labels that cancel around every vertex cancel over the edges between any two sides
-  pub crossing-cancels : (label : ℕ → ℕ) → Balanced g label → NoLoops g → xors (λ e. when (crossing g side e) (label e)) (edges g) ≡ 0
-  crossing-cancels label b loops =
-      sym (xors-same (edges g) (λ e i. ends-inside loops (label e) (edges-are g e .0 i)))
-      ∙ sym (xors-swap (λ v e. when (eqb (g .left e) v || eqb (g .right e) v) (label e)) inside (edges g))
-      ∙ xors-same inside (λ v i. sym (around-xors g label v (edges g)) ∙ b v (vertices-are g v .0 (keep-is side v (vertices g) .0 i .0)))
-      ∙ xors-zero inside
+  module _ (label : ℕ → ℕ) (loops : NoLoops g) where
+    -- what is around the vertices of one side is over the edges between the sides
+    pub inside-crossing : xors (λ v. around g label v (edges g)) inside ≡ xors (λ e. when (crossing g side e) (label e)) (edges g)
+    inside-crossing =
+        xors-same inside (λ v i. around-xors g label v (edges g))
+        ∙ xors-swap (λ v e. when (eqb (g .left e) v || eqb (g .right e) v) (label e)) inside (edges g)
+        ∙ xors-same (edges g) (λ e i. ends-inside loops (label e) (edges-are g e .0 i))
+
+    -- so labels that cancel around every vertex cancel over the edges between any two sides
+    pub crossing-cancels : Balanced g label → xors (λ e. when (crossing g side e) (label e)) (edges g) ≡ 0
+    crossing-cancels b =
+        sym inside-crossing
+        ∙ xors-same inside (λ v i. b v (vertices-are g v .0 (keep-is side v (vertices g) .0 i .0)))
+        ∙ xors-zero inside
+
+    -- and what is around the vertices of a side that no edge leaves cancels
+    pub inside-cancels : ((e : ℕ) → Edge g e → crossing g side e ≡ false) → xors (λ v. around g label v (edges g)) inside ≡ 0
+    inside-cancels f =
+        inside-crossing
+        ∙ xors-same (edges g) (λ e i. ap (λ (t : Bool). when t (label e)) (f e (edges-are g e .0 i)))
+        ∙ xors-zero (edges g)
 
 like : (a b : Bool) → (T a → T b) → (T b → T a) → unlike a b ≡ false
 like true true f h = refl
 like true false f h = absurd (f tt)
 like false true f h = absurd (h tt)
 like false false f h = refl
+
+-- an edge whose ends are on the same side
+pub not-crossing : (g : Graph) (side : ℕ → Bool) (e : ℕ) → (T (side (g .left e)) → T (side (g .right e))) → (T (side (g .right e)) → T (side (g .left e)))
+    → crossing g side e ≡ false
+unfolding crossing
+not-crossing g side e = like (side (g .left e)) (side (g .right e))
+
+pub left-right : {g : Graph} {e : ℕ} → Edge g e → Joins g e (g .left e) (g .right e)
+left-right h = record { edge = h; ends = inl (refl, refl) }
 
 unlike-not : (a b : Bool) → (T (unlike a b) → ⊥) → a ≡ b
 unlike-not true true n = refl
@@ -216,8 +138,8 @@ but-or e {d} cut i = elim (T-dec (eqb e d)) [
 pub record LeastCut (g : Graph) (cut : List ℕ) : Type 0 where
   pub distinct : Distinct cut
   pub members : (e : ℕ) → In e cut → Edge g e
-  pub parts : Disconnects g cut
-  pub needed : (e : ℕ) → In e cut → Connected g (but e cut)
+  pub parts : Keeps g cut → ⊥
+  pub needed : (e : ℕ) → In e cut → Keeps g (but e cut)
 
 -- Its sides: what u reaches without its edges, and what is beyond.
 
@@ -239,10 +161,7 @@ module _ (g : Graph) (cut : List ℕ) (u : ℕ) where
   ]
 
   only-cut : (e : ℕ) → Edge g e → Without cut e → crossing g beyond e ≡ false
-  unfolding crossing
-  only-cut e h w = like (beyond (g .left e)) (beyond (g .right e))
-      (stays e (g .left e) (g .right e) w (record { edge = h; ends = inl (refl, refl) }))
-      (stays e (g .right e) (g .left e) w (record { edge = h; ends = inr (refl, refl) }))
+  only-cut e h w = not-crossing g beyond e (stays e (g .left e) (g .right e) w (left-right h)) (stays e (g .right e) (g .left e) w (joins-sym (left-right h)))
 
   -- an edge with both ends on the same side stays there too
   also-stays : (e : ℕ) → (T (crossing g beyond e) → ⊥) → (d x y : ℕ) → Without (but e cut) d → Joins g d x y → T (beyond x) → T (beyond y)
@@ -259,54 +178,96 @@ module _ (g : Graph) (cut : List ℕ) (u : ℕ) where
       go (inl p) = subst T (ap beyond (sym (p .0)) ∙ same ∙ ap beyond (p .1)) t
       go (inr p) = subst T (ap beyond (sym (p .1)) ∙ sym same ∙ ap beyond (p .0)) t
 
-  -- so an edge that is needed has one end on each side
-  needed-crosses : Vertex g u → Disconnects g cut → (e : ℕ) → Connected g (but e cut) → T (crossing g beyond e)
-  needed-crosses h dis e c = elim (T-dec (crossing g beyond e)) [
-    | yes t ↦ t
-    | no n ↦ absurd (dis (λ v w hv hw. reach-trans (reach-sym (spoke n v hv)) (spoke n w hw)))
+  -- where the edges of the cut part u from a vertex that it was joined to, an edge that is needed has one end on each side
+  needed-crosses : {v : ℕ} → T (beyond v) → Reach g (Without []) v u → (e : ℕ) → Keeps g (but e cut) → T (crossing g beyond e)
+  needed-crosses {v} t r e k = elim (T-dec (crossing g beyond e)) [
+    | yes c ↦ c
+    | no n ↦ absurd (beyond-not (closed-reach (λ x. T (beyond x)) (also-stays e n) (k v u r) t) here)
   ]
+
+module _ {g : Graph} {cut : List ℕ} (c : LeastCut g cut) {e : ℕ} (i : In e cut) where
+  whole : Joins g e (g .left e) (g .right e)
+  whole = left-right (c .members e i)
+
+  -- the ends of an edge are parted: else the others would do without it
+  apart : Reach g (Without cut) (g .left e) (g .right e) → ⊥
+  apart r = c .parts (λ x y w. closed-reach (Reach g (Without cut) x) step (c .needed e i x y w) here)
     where
-      spoke : (T (crossing g beyond e) → ⊥) → (v : ℕ) → Vertex g v → Reach g (Without cut) u v
-      spoke n v k = elim (unreached-or g live u k) [
-        | inl i ↦ absurd (beyond-not (closed-reach (λ x. T (beyond x)) (also-stays e n) (c v u k h) (in-mem i)) here)
-        | inr r ↦ reach-map (λ d t. not-mem d cut .0 t) r
+      step : {x : ℕ} (d u v : ℕ) → Without (but e cut) d → Joins g d u v → Reach g (Without cut) x u → Reach g (Without cut) x v
+      step d u v w j q = reach-trans q (elim (in-dec d cut) [
+        | no m ↦ over d m j here
+        | yes k ↦ elim (but-or e cut k) [
+          | inr m ↦ absurd (w m)
+          | inl p ↦ elim (subst (λ (z : ℕ). Joins g z u v) p j .ends) [
+            | inl h ↦ rw (sym (h .0), sym (h .1)) r
+            | inr h ↦ rw (sym (h .0), sym (h .1)) (reach-sym r)
+          ]
+        ]
+      ])
+
+  -- so every edge has one end on each side
+  all-cross : (d : ℕ) → In d cut → T (crossing g (beyond g cut (g .left e)) d)
+  all-cross d j = needed-crosses g cut (g .left e) far (over e (λ k. absurd (not-in k)) (joins-sym whole) here) d (c .needed d j)
+    where
+      far : T (beyond g cut (g .left e) (g .right e))
+      far = elim (unreached-or g (live g cut (g .left e)) (g .left e) (c .members e i .right)) [
+        | inl k ↦ in-mem k
+        | inr r ↦ absurd (apart (reach-map (λ d t. not-mem d cut .0 t) r))
       ]
+
+-- What the loss of some edges keeps.
+
+keeps-less : {g : Graph} {cut less : List ℕ} → Keeps g cut → ((e : ℕ) → In e less → In e cut) → Keeps g less
+keeps-less k f x y r = reach-map (λ e w i. w (f e i)) (k x y r)
+
+-- of a connected graph: connectedness
+keeps-connected : {g : Graph} {cut : List ℕ} → Connected g [] → Keeps g cut → Connected g cut
+keeps-connected c k u v hu hv = k u v (c u v hu hv)
+
+connected-keeps : {g : Graph} {cut : List ℕ} → Connected g cut → Keeps g cut
+connected-keeps c x y here = here
+connected-keeps c x y (over {v = v} e l j r) = reach-trans (c x v (joins-vertex j) (joins-vertex (joins-sym j))) (connected-keeps c v y r)
 
 module _ (g : Graph) (label : ℕ → ℕ) (b : Balanced g label) (loops : NoLoops g) where
   -- the labels of a cut of which every edge is needed cancel
-  pub cut-cancels : (u : ℕ) → Vertex g u → {cut : List ℕ} → LeastCut g cut → xors label cut ≡ 0
-  cut-cancels u h {cut} c =
-      sym (xors-same cut (λ e i. counts e (T-true (crossing g side e) (needed-crosses g cut u h (c .parts) e (c .needed e i)))))
+  pub cut-cancels : (cut : List ℕ) → LeastCut g cut → xors label cut ≡ 0
+  unfolding xors
+  cut-cancels [] c = refl
+  cut-cancels (d ∷ others) c =
+      sym (xors-same cut (λ e i. counts e (T-true (crossing g side e) (all-cross c (first refl) e i))))
       ∙ sym (xors-part (λ e. when (crossing g side e) (label e)) (ordered-distinct (ordered-edges g)) (c .distinct)
       (λ e i. edges-are g e .1 (c .members e i))
-      (λ e i n. counts e (only-cut g cut u e (edges-are g e .0 i) n)))
-      ∙ crossing-cancels g side label b loops
+      (λ e i n. counts e (only-cut g cut (g .left d) e (edges-are g e .0 i) n)))
+      ∙ crossing-cancels g side label loops b
     where
+      cut : List ℕ
+      cut = d ∷ others
+
       side : ℕ → Bool
-      side = beyond g cut u
+      side = beyond g cut (g .left d)
 
       counts : (e : ℕ) {t : Bool} → crossing g side e ≡ t → when (crossing g side e) (label e) ≡ when t (label e)
       counts e p = ap (λ (t : Bool). when t (label e)) p
 
-  pub label-one : (e : ℕ) → Connected g [] → Edge g e → Disconnects g (e ∷ []) → label e ≡ 0
+  pub label-one : (e : ℕ) → Edge g e → (Keeps g (e ∷ []) → ⊥) → label e ≡ 0
   unfolding xors
-  label-one e c h dis = sym (xor-zero-r (label e)) ∙ cut-cancels (g .left e) (h .left) (record {
+  label-one e h parts = sym (xor-zero-r (label e)) ∙ cut-cancels (e ∷ []) (record {
     distinct = one (λ i. absurd (not-in i)) no-member;
     members = λ d i. subst (Edge g) (sym (eq-of-singleton i)) h;
-    parts = dis;
-    needed = λ x i. connected-less c (λ y _ j. let q = but-is x (e ∷ []) j in absurd (q .1 (eq-of-singleton (q .0) ∙ sym (eq-of-singleton i))));
+    parts = parts;
+    needed = λ x i. keeps-less {cut = []} (λ u v r. r) (λ y j. let q = but-is x (e ∷ []) j in absurd (q .1 (eq-of-singleton (q .0) ∙ sym (eq-of-singleton i))));
   })
 
-  pub label-two : (e d : ℕ) → Connected g (e ∷ []) → Connected g (d ∷ []) → Edge g e → Edge g d → (e ≡ d → ⊥) → Disconnects g (e ∷ d ∷ [])
+  pub label-two : (e d : ℕ) → Edge g e → Edge g d → (e ≡ d → ⊥) → Keeps g (e ∷ []) → Keeps g (d ∷ []) → (Keeps g (e ∷ d ∷ []) → ⊥)
       → label e ≡ label d
   unfolding xors
-  label-two e d ce cd he hd ne dis = xor-equal (label e) (label d) (ap (bitXor (label e)) (sym (xor-zero-r (label d))) ∙ cut-cancels (g .left e) (he .left) (record {
+  label-two e d he hd ne ke kd parts = xor-equal (label e) (label d) (ap (bitXor (label e)) (sym (xor-zero-r (label d))) ∙ cut-cancels (e ∷ d ∷ []) (record {
     distinct = one (λ i. ne (eq-of-singleton i)) (one (λ i. absurd (not-in i)) no-member);
     members = λ x i. elim (in-cons i) [ inl p ↦ subst (Edge g) (sym p) he | inr j ↦ subst (Edge g) (sym (eq-of-singleton j)) hd ];
-    parts = dis;
+    parts = parts;
     needed = λ x i. elim (in-cons i) [
-      | inl p ↦ connected-less cd (λ y _ j. without-first p (but-is x (e ∷ d ∷ []) j))
-      | inr k ↦ connected-less ce (λ y _ j. without-second (eq-of-singleton k) (but-is x (e ∷ d ∷ []) j))
+      | inl p ↦ keeps-less kd (λ y j. without-first p (but-is x (e ∷ d ∷ []) j))
+      | inr k ↦ keeps-less ke (λ y j. without-second (eq-of-singleton k) (but-is x (e ∷ d ∷ []) j))
     ];
   }))
     where
@@ -316,16 +277,20 @@ module _ (g : Graph) (label : ℕ → ℕ) (b : Balanced g label) (loops : NoLoo
       without-second : {x y : ℕ} → x ≡ d → In y (e ∷ d ∷ []) × (y ≡ x → ⊥) → In y (e ∷ [])
       without-second p q = elim (in-cons (q .0)) [ inl r ↦ first r | inr j ↦ absurd (q .1 (eq-of-singleton j ∙ sym p)) ]
 
-  -- so a label other than 0, and two different labels, tell that a search is not needed
+  -- so a label other than 0, and two different labels, tell of a connected graph that a search is not needed
   pub skip-one : (e : ℕ) → disconnects g [] ≡ false → In e (edges g) → (label e ≡ 0 → ⊥) → disconnects g (e ∷ []) ≡ false
   skip-one e p i n = T-false (disconnects g (e ∷ []))
-      (λ t. n (label-one e (connected-is g [] (false-T p)) (edges-are g e .0 i) (disconnects-is g (e ∷ []) .0 t)))
+      (λ t. n (label-one e (edges-are g e .0 i) (λ k. disconnects-is g (e ∷ []) .0 t (keeps-connected (connected-is g [] (false-T p)) k))))
 
   pub skip-two : (e d : ℕ) → disconnects g (e ∷ []) ≡ false → disconnects g (d ∷ []) ≡ false → In e (edges g) → In d (edges g) → (e ≡ d → ⊥)
       → (label e ≡ label d → ⊥) → disconnects g (e ∷ d ∷ []) ≡ false
-  skip-two e d p q i j ne n = T-false (disconnects g (e ∷ d ∷ []))
-      (λ t. n (label-two e d (connected-is g (e ∷ []) (false-T p)) (connected-is g (d ∷ []) (false-T q)) (edges-are g e .0 i) (edges-are g d .0 j) ne (disconnects-is g (e ∷ d ∷ []) .0 t)))
+  skip-two e d p q i j ne n =
+      let ce = connected-is g (e ∷ []) (false-T p) in
+      let cd = connected-is g (d ∷ []) (false-T q) in
+      let all : Connected g [] = connected-less ce (λ x _ k. absurd (not-in k)) in
+      T-false (disconnects g (e ∷ d ∷ []))
+      (λ t. n (label-two e d (edges-are g e .0 i) (edges-are g d .0 j) ne (connected-keeps ce) (connected-keeps cd) (λ k. disconnects-is g (e ∷ d ∷ []) .0 t (keeps-connected all k))))
 
-pub no-loops : {most : Limits} {n : ℕ} {ends : List ℕ} → Admitted most (plan n ends) → NoLoops (graph (plan n ends))
+pub no-loops : {most : Limits} {p : Plan} → Admitted most p → NoLoops (graph p)
 unfolding graph
 no-loops a e h = a .fit e (h .below) .different

@@ -1,31 +1,95 @@
--- The vertices are settled from the last one found to the second: those that are settled keep the sum 0, and then the first one has it too.
-use mathlib.Core.Path.{_≡_, sym, ap, _∙_}
+-- The vertices are settled from the last place of the order to the first. Along a spanning forest those that are settled keep the sum 0, and
+-- a root has it as soon as all behind it have: so in the end every vertex has it.
+use mathlib.Core.Path.{_≡_, refl, sym, ap, _∙_, subst}
 use mathlib.Core.Logic.{_⊎_, inl, inr}
 use mathlib.Core.Bool.{Bool, true, cond, _||_}
-use mathlib.Core.List.{List}
+use mathlib.Core.List.{List, List·Memᴰ as In, List·Memᴰ·not-nil as not-in, List·Memᴰ·head as in-first, List·Memᴰ·eq-of-singleton as eq-of-singleton}
 use Prim.Native.Nat.{ℕ, _+_, _-_, _*_, _/_, _≤_, _<_}
 use native.Mathlib.Omega.{arith}
 use native.Mathlib.Decide.{ℕ-discrete, decLt}
-use lib.Bits.{bitXor, xor-self}
-use lib.Dec.{eqb}
+use lib.Bits.{bitXor, xor-self, xor-zero-r}
+use lib.Dec.{T, eqb, eqb→eq}
 use lib.ListN.{length, getD}
-use Rattle.connectivity.specs.Plan.{plan, graph, limits}
-use Rattle.connectivity.specs.Graph.{Joins}
-use Rattle.labels.specs.Label.{Balanced}
+use Rattle.connectivity.specs.Lists.{no-member, one, range, any, keep}
+use Rattle.connectivity.specs.Plan.{Plan, graph, Limits}
+use Rattle.connectivity.specs.Graph.{Graph, Vertex, Joins, vertices, edges}
 use Rattle.connectivity.specs.Admission.{Admitted}
-use Rattle.connectivity.proofs.Lists.{T-true, or-left, or-right, eq-T}
-use Rattle.search.proofs.Leads.{joins-edge}
-use Rattle.labels.specs.Labels.{xorAt, Spanning, Summed, Ready, Toggled}
-use Rattle.labels.proofs.Xor.{all-one}
-use Rattle.labels.proofs.Sums.{ready, at-ends, away, summed-toggled}
+use Rattle.connectivity.proofs.Lists.{T-true, or-left, or-right, eq-T, any-is, keep-is, range-is}
+use Rattle.connectivity.proofs.Reach.{joins-sym}
+use Rattle.connectivity.proofs.Search.{vertices-are}
+use Rattle.connectivity.proofs.Order.{ordered-keep, ordered-vertices}
+use Rattle.connectivity.proofs.Distinct.{ordered-distinct}
+use Rattle.connectivity.proofs.Admission.{edge-size, admitted-vertex}
+use Rattle.incidence.specs.Parts.{Cleared}
+use Rattle.incidence.proofs.Loops.{kept-trans}
+use Rattle.depth.specs.Depth.{rootMark}
+use Rattle.depth.specs.Forest.{Forest}
+use Rattle.labels.specs.Answered.{ForestOf}
+use Rattle.graph.specs.Marks.{read}
+use Rattle.graph.proofs.Joined.{vertex-below}
+use Rattle.labels.specs.Label.{around, Balanced}
+use Rattle.labels.specs.Labels.{xorAt, Summed, Toggled, FirstEdge, Settled, by, passed, Scattered, Settling}
+use Rattle.labels.proofs.Xor.{xors, xors-part}
+use Rattle.labels.proofs.CutLabels.{NoLoops, inside, not-crossing, left-right, inside-cancels, no-loops}
+use Rattle.labels.proofs.Sums.{at-ends, away, scattered-start, scattered-toggled}
 
--- the ends a and b of an edge that joins u and v
+-- A root.
+
+module _ {g : Graph} {n : ℕ} {mark at : ℕ → ℕ} (t : Forest g n mark at) (all : (v : ℕ) → Vertex g v → v < n) (some : (v : ℕ) → v < n → Vertex g v)
+    (k : ℕ) (l : k < n) (root : mark (at k) ≡ rootMark) where
+  -- what stands from place k on
+  abbrev behind : ℕ → Bool
+  behind v = any (λ j. eqb (at j) v) (range k (n - k))
+
+  stands : {v : ℕ} → T (behind v) → (j : ℕ) × (k ≤ j) × (j < n) × (at j ≡ v)
+  stands {v} b =
+      let o = any-is (λ j. eqb (at j) v) (range k (n - k)) .0 b in
+      let r = range-is (o .0) k (n - k) .0 (o .1) in
+      (o .0, r .0, omega (arith, r .1), eqb→eq (at (o .0)) v (o .2))
+
+  there : (j : ℕ) {v : ℕ} → k ≤ j → j < n → at j ≡ v → T (behind v)
+  there j {v} a b q = any-is (λ j. eqb (at j) v) (range k (n - k)) .1 (j, range-is j k (n - k) .1 (a, omega arith), eq-T q)
+
+  -- no edge leaves it
+  stays : (e u v : ℕ) → Joins g e u v → Vertex g v → T (behind u) → T (behind v)
+  stays e u v x h b =
+      let s = stands b in
+      let o = t .listed v (all v h) in
+      elim (decLt (o .0) k) [
+        | yes i ↦ absurd (t .border k l root e (o .0) (s .0) i (s .1) (s .2) (rw (o .2, s .3) (joins-sym x)))
+        | no i ↦ there (o .0) (omega (arith, i)) (o .1) (o .2)
+      ]
+
+  -- so where all others behind it have the sum 0, the root has it too
+  pub root-zero : (label : ℕ → ℕ) → NoLoops g → ((j : ℕ) → k < j → j < n → around g label (at j) (edges g) ≡ 0) → around g label (at k) (edges g) ≡ 0
+  unfolding xors
+  root-zero label loops done =
+      sym (xor-zero-r (sum (at k)))
+      ∙ sym (xors-part sum (ordered-distinct (ordered-keep behind (ordered-vertices g))) (one (λ i. absurd (not-in i)) no-member)
+      (λ v i. subst (λ (w : ℕ). In w (inside g behind)) (sym (eq-of-singleton i)) own)
+      (λ v i ne. let s = stands (keep-is behind v (vertices g) .0 i .1) in
+      elim (ℕ-discrete k (s .0)) [
+        | yes q ↦ absurd (ne (in-first (sym (s .3) ∙ ap at (sym q))))
+        | no q ↦ ap sum (sym (s .3)) ∙ done (s .0) (omega (arith, q, s .1)) (s .2)
+      ]))
+      ∙ inside-cancels g behind label loops (λ e h. not-crossing g behind e
+      (stays e (g .left e) (g .right e) (left-right h) (h .right))
+      (stays e (g .right e) (g .left e) (joins-sym (left-right h)) (h .left)))
+    where
+      sum : ℕ → ℕ
+      sum v = around g label v (edges g)
+
+      own : In (at k) (inside g behind)
+      own = keep-is behind (at k) (vertices g) .1 (vertices-are g (at k) .1 (some (at k) (t .valid k l)), there k (omega arith) l refl)
+
+-- A vertex that is no root: the ends a and b of its first edge.
+
 abbrev Ends : ℕ → ℕ → ℕ → ℕ → Type 0
 Ends a b u v = ((a ≡ u) × (b ≡ v)) ⊎ ((a ≡ v) × (b ≡ u))
 
-joined : (n : ℕ) (ends : List ℕ) {e u v : ℕ} → Joins (graph (plan n ends)) e u v → Ends (getD ends (2 * e) 0) (getD ends (2 * e + 1) 0) u v
+joined : (p : Plan) {e u v : ℕ} → Joins (graph p) e u v → Ends (getD (p .ends) (2 * e) 0) (getD (p .ends) (2 * e + 1) 0) u v
 unfolding graph
-joined n ends j = j .ends
+joined p j = j .ends
 
 hit : {a b u v : ℕ} → Ends a b u v → (eqb a v || eqb b v) ≡ true
 hit {a} {b} {u} {v} (inl p) = T-true (eqb a v || eqb b v) (or-right (eqb a v) (eqb b v) (eq-T (p .1)))
@@ -40,87 +104,96 @@ no-right : {a b u v w : ℕ} → Ends a b u v → (u ≡ w → ⊥) → (v ≡ w
 no-right (inl p) f h q = h (sym (p .1) ∙ q)
 no-right (inr p) f h q = f (sym (p .1) ∙ q)
 
--- the vertices at the places from k on are settled
-pub record Settling (n : ℕ) (ends first order labels sums : List ℕ) (k : ℕ) : Type 0 where
-  pub below : k ≤ n
-  pub some : 0 < k
-  pub summed : Summed n ends labels sums
-  pub done : (j : ℕ) → k ≤ j → j < n → getD sums (getD order j 0) 0 ≡ 0
+-- All places.
 
-module _ {n : ℕ} {ends first order : List ℕ} (a : Admitted limits (plan n ends)) (t : Spanning n ends first order) where
-  pub settling-start : {labels sums : List ℕ} → Summed n ends labels sums → Settling n ends first order labels sums n
-  settling-start s = record { below = omega arith; some = omega (arith, a .two); summed = s; done = λ j l h. absurd (omega arith) }
+pub settling-start : {p : Plan} {labels sums : List ℕ} (first order : List ℕ) → Summed p labels sums → Settling p first order labels sums labels sums (p .vertices)
+settling-start first order s = record { low = omega arith; scattered = scattered-start s; done = λ t j l h. absurd (omega arith) }
 
-  module _ {labels sums : List ℕ} {k : ℕ} (s : Settling n ends first order labels sums k) where
-    module _ (more : 1 < k) where
-      abbrev v : ℕ
-      v = getD order (k - 1) 0
+-- what was done before counts too
+pub settling-after : {p : Plan} {first order l₀ s₀ l₁ s₁ l₂ s₂ labels sums : List ℕ} {k : ℕ} → Cleared (length (p .ends) / 2) l₀ l₁ → Cleared (p .vertices) s₀ s₁ → Scattered p l₁ s₁ l₂ s₂
+    → Settling p first order l₂ s₂ labels sums k → Settling p first order l₀ s₀ labels sums k
+settling-after cl cs x y = record {
+  low = y .low;
+  scattered = record {
+    summed = y .scattered .summed;
+    labels-kept = kept-trans (cl .kept) (kept-trans (x .labels-kept) (y .scattered .labels-kept));
+    sums-kept = kept-trans (cs .kept) (kept-trans (x .sums-kept) (y .scattered .sums-kept));
+  };
+  done = y .done;
+}
 
-      abbrev e : ℕ
-      e = getD first v 0 - 1
+module _ {most : Limits} {p : Plan} {first order labels₀ sums₀ labels sums : List ℕ} (a : Admitted most p) where
+  module _ {k : ℕ} (small : length (p .ends) / 2 < rootMark) (more : k < p .vertices) (s : Settling p first order labels₀ sums₀ labels sums (k + 1)) where
+    abbrev at : ℕ → ℕ
+    at j = getD order j 0
 
-      up : (j : ℕ) × (j < k - 1) × Joins (graph (plan n ends)) e (getD order j 0) v
-      up = t .tree (k - 1) (omega arith) (omega (arith, s .below))
+    -- by its first edge
 
-      edge : e < length ends / 2
-      edge = joins-edge n ends e (getD order (up .0) 0) v (up .2)
-
-      pub settling-ready : Ready ends e labels sums
-      settling-ready = ready a edge (s .summed)
-
-      pub settling-vertex : v < n
-      settling-vertex = t .valid (k - 1) (omega (arith, s .below))
-
-      pub settling-mark : 0 < getD first v 0
-      settling-mark = t .marked (k - 1) (omega (arith, s .below))
-
+    module _ {e : ℕ} (f : FirstEdge (p .vertices) (length (p .ends) / 2) first (at k) e) where
       abbrev changed : List ℕ
-      changed = xorAt (xorAt sums (getD ends (2 * e) 0) (getD sums v 0)) (getD ends (2 * e + 1) 0) (getD sums v 0)
+      changed = xorAt (xorAt sums (getD (p .ends) (2 * e) 0) (getD sums (at k) 0)) (getD (p .ends) (2 * e + 1) 0) (getD sums (at k) 0)
 
-      -- v is settled
-      here : getD changed v 0 ≡ 0
-      here =
-          at-ends a edge (s .summed) (getD sums v 0) v
-          ∙ ap (λ (t : Bool). bitXor (cond t (getD sums v 0) 0) (getD sums v 0)) (hit (joined n ends (up .2)))
-          ∙ xor-self (getD sums v 0)
+      up : ForestOf p first order → (j : ℕ) × (j < k) × Joins (graph p) e (at j) (at k)
+      up t = elim (t .tree k more) [
+        | inl q ↦ absurd (omega (arith, q, f .mark, f .edge))
+        | inr o ↦ let q : getD first (at k) 0 - 1 ≡ e = omega (arith, f .mark) in (o .0, o .1, rw q at (o .2))
+      ]
+
+      -- the vertex is settled
+      here : ForestOf p first order → getD changed (at k) 0 ≡ 0
+      here t =
+          at-ends a (f .edge) (s .scattered .summed) (getD sums (at k) 0) (at k)
+          ∙ ap (λ (t : Bool). bitXor (cond t (getD sums (at k) 0) 0) (getD sums (at k) 0)) (hit (joined p (up t .2)))
+          ∙ xor-self (getD sums (at k) 0)
 
       -- those behind it stay
-      there : (j : ℕ) → k ≤ j → j < n → getD changed (getD order j 0) 0 ≡ 0
-      there j l h =
-          let o = joined n ends (up .2) in
-          let p : getD order (up .0) 0 ≡ getD order j 0 → ⊥ = t .once (up .0) j (omega (arith, up .1)) h in
-          let q : v ≡ getD order j 0 → ⊥ = t .once (k - 1) j (omega arith) h in
-          away a edge (s .summed) (getD sums v 0) (getD order j 0) (no-left o p q) (no-right o p q) ∙ s .done j l h
+      those : ForestOf p first order → (j : ℕ) → k < j → j < p .vertices → getD changed (at j) 0 ≡ 0
+      those t j l h =
+          let u = up t in
+          let o = joined p (u .2) in
+          let d : at (u .0) ≡ at j → ⊥ = t .once (u .0) j (omega (arith, u .1)) h in
+          let q : at k ≡ at j → ⊥ = t .once k j l h in
+          away a (f .edge) (s .scattered .summed) (getD sums (at k) 0) (at j) (no-left o d q) (no-right o d q) ∙ s .done t j (omega arith) h
 
-      pub settling-step : {labels′ sums′ : List ℕ} → Toggled ends e (getD sums v 0) labels sums labels′ sums′ → Settling n ends first order labels′ sums′ (k - 1)
-      settling-step d = record {
-        below = omega (arith, s .below);
-        some = omega arith;
-        summed = summed-toggled a edge (s .summed) d;
-        done = λ j l h. ap (λ (x : List ℕ). getD x (getD order j 0) 0) (d .sums-now) ∙ elim (ℕ-discrete (k - 1) j) [
-          | yes p ↦ ap (λ (i : ℕ). getD changed (getD order i 0) 0) (sym p) ∙ here
-          | no ne ↦ there j (omega (arith, ne)) h
+      by-edge : {labels′ sums′ : List ℕ} → Toggled (p .ends) e (getD sums (at k) 0) labels sums labels′ sums′ → Settling p first order labels₀ sums₀ labels′ sums′ k
+      by-edge d = record {
+        low = omega arith;
+        scattered = scattered-toggled a (f .edge) (s .scattered) d;
+        done = λ t j l h. ap (λ (x : List ℕ). getD x (at j) 0) (d .sums-now) ∙ elim (ℕ-discrete k j) [
+          | yes q ↦ ap (λ (i : ℕ). getD changed (at i) 0) (sym q) ∙ here t
+          | no ne ↦ those t j (omega (arith, ne)) h
         ];
       }
 
-    -- At the end.
+    -- as a root
 
-    module _ (l : k ≤ 1) where
-      other : (w : ℕ) → (w ≡ getD order 0 0 → ⊥) → getD sums w 0 ≡ 0
-      other w ne = elim (decLt w n) [
-        | yes b ↦ let o = t .listed w b in elim (ℕ-discrete (o .0) 0) [
-          | yes z ↦ absurd (ne (sym (o .2) ∙ ap (λ (i : ℕ). getD order i 0) z))
-          | no p ↦ ap (λ (x : ℕ). getD sums x 0) (sym (o .2)) ∙ s .done (o .0) (omega (arith, p)) (o .1)
-        ]
-        | no b ↦ s .summed .rest w (omega (arith, b))
-      ]
+    root : ((e : ℕ) → FirstEdge (p .vertices) (length (p .ends) / 2) first (at k) e → ⊥) → (t : ForestOf p first order) → getD first (at k) 0 ≡ rootMark
+    root none t = elim (t .tree k more) [
+      | inl q ↦ q
+      | inr o ↦ absurd (none (getD first (at k) 0 - 1) (record {
+        vertex = t .valid k more;
+        edge = edge-size p (o .2 .edge);
+        mark = let m = t .marked k more in omega (arith, m);
+      }))
+    ]
 
-      -- all sums xor to 0, and all but the first one's are 0
-      root : getD sums (getD order 0 0) 0 ≡ 0
-      root = sym (all-one sums (getD order 0 0) other) ∙ s .summed .total
+    as-root : ((e : ℕ) → FirstEdge (p .vertices) (length (p .ends) / 2) first (at k) e → ⊥) → Settling p first order labels₀ sums₀ labels sums k
+    as-root none = record {
+      low = omega arith;
+      scattered = s .scattered;
+      done = λ t j l h. elim (ℕ-discrete k j) [
+        | yes q ↦ ap (λ (i : ℕ). getD sums (at i) 0) (sym q) ∙ s .scattered .summed .sum (at k) (t .valid k more)
+            ∙ root-zero t (vertex-below (p .vertices) (p .ends)) (λ v b. admitted-vertex a v b) k more (root none t) (read labels) (no-loops a)
+            (λ i b c. sym (s .scattered .summed .sum (at i) (t .valid i c)) ∙ s .done t i (omega arith) c)
+        | no ne ↦ s .done t j (omega (arith, ne)) h
+      ];
+    }
 
-      zero-at : (w : ℕ) → getD sums w 0 ≡ 0
-      zero-at w = elim (ℕ-discrete w (getD order 0 0)) [ yes p ↦ ap (λ (x : ℕ). getD sums x 0) p ∙ root | no ne ↦ other w ne ]
+    pub settling-step : {labels′ sums′ : List ℕ} → Settled p first (at k) labels sums labels′ sums′ → Settling p first order labels₀ sums₀ labels′ sums′ k
+    settling-step (by e f d) = by-edge f d
+    settling-step (passed none l s) = rw (l, s) (as-root none)
 
-      pub settled : Balanced (graph (plan n ends)) (λ e. getD labels e 0)
-      settled w h = sym (s .summed .sum w) ∙ zero-at w
+  pub settled : Settling p first order labels₀ sums₀ labels sums 0 → ForestOf p first order → Balanced (graph p) (read labels)
+  settled s t v h =
+      let o = t .listed v (vertex-below (p .vertices) (p .ends) v h) in
+      sym (s .scattered .summed .sum v (vertex-below (p .vertices) (p .ends) v h)) ∙ ap (λ (x : ℕ). getD sums x 0) (sym (o .2)) ∙ s .done t (o .0) (omega arith) (o .1)

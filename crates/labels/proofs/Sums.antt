@@ -6,23 +6,23 @@ use Prim.Native.Nat.{ℕ, _+_, _*_, _/_, _≤_, _<_}
 use native.Mathlib.Omega.{arith}
 use lib.Bits.{bitXor, xor-comm}
 use lib.Dec.{eqb}
-use lib.ListN.{length, getD, set, replicate, length-set, length-replicate}
+use lib.ListN.{length, getD, length-set}
 use lib.Seq.{getD-set-same, getD-set-other}
-use borrow.Author.Count.{below-more}
 use borrow.Author.Tests.{eqb-true, eqb-false}
 use Rattle.connectivity.specs.Lists.{Distinct, no-member, one}
-use Rattle.connectivity.specs.Plan.{plan, graph, limits}
+use Rattle.connectivity.specs.Plan.{Plan, graph, Limits}
 use Rattle.connectivity.specs.Graph.{Graph, edges}
-use Rattle.labels.specs.Label.{around}
 use Rattle.connectivity.specs.Admission.{Admitted}
-use Rattle.labels.proofs.CutLabels.{xor-cancel}
 use Rattle.connectivity.proofs.Order.{ordered-edges}
 use Rattle.connectivity.proofs.Distinct.{ordered-distinct}
 use Rattle.connectivity.proofs.Search.{edges-are}
-use Rattle.connectivity.proofs.Admission.{admitted-edge}
-use Rattle.search.proofs.From0.{zeros}
-use Rattle.labels.specs.Labels.{Kept, xorAt, xorAll, Summed, Ready, Toggled}
-use Rattle.labels.proofs.Xor.{xor-swap, xor-first, all-xor, all-zero}
+use Rattle.connectivity.proofs.Admission.{admitted-edge, edge-size}
+use Rattle.incidence.specs.Parts.{Cleared}
+use Rattle.incidence.proofs.Loops.{kept-same, kept-set}
+use Rattle.graph.specs.Marks.{read}
+use Rattle.labels.specs.Label.{around}
+use Rattle.labels.specs.Labels.{xorAt, Summed, Ready, Toggled, Scattered}
+use Rattle.labels.proofs.Xor.{xor-swap, xor-first}
 
 -- Around one vertex.
 
@@ -39,10 +39,10 @@ module _ (g : Graph) (labels : List ℕ) (d x v : ℕ) where
   hit e = eqb (g .left e) v || eqb (g .right e) v
 
   abbrev old : List ℕ → ℕ
-  old l = around g (λ e. getD labels e 0) v l
+  old l = around g (read labels) v l
 
   abbrev new : List ℕ → ℕ
-  new l = around g (λ e. getD (xorAt labels d x) e 0) v l
+  new l = around g (read (xorAt labels d x)) v l
 
   around-same : (l : List ℕ) → (In d l → ⊥) → new l ≡ old l
   unfolding around
@@ -92,31 +92,21 @@ not-both true false x s n = refl
 not-both false true x s n = refl
 not-both false false x s n = refl
 
-ends-of : (n : ℕ) (ends labels : List ℕ) (e x v : ℕ) → hit (graph (plan n ends)) labels e x v e ≡ (eqb (getD ends (2 * e) 0) v || eqb (getD ends (2 * e + 1) 0) v)
+ends-of : (p : Plan) (labels : List ℕ) (e x v : ℕ) → hit (graph p) labels e x v e ≡ (eqb (getD (p .ends) (2 * e) 0) v || eqb (getD (p .ends) (2 * e + 1) 0) v)
 unfolding graph
-ends-of n ends labels e x v = refl
-
--- an edge stands among the edges
-in-edges : {n e : ℕ} {ends : List ℕ} → Admitted limits (plan n ends) → e < length ends / 2 → In e (edges (graph (plan n ends)))
-in-edges {n} {e} {ends} a h = edges-are (graph (plan n ends)) e .1 (admitted-edge a e h)
-
-edge-below : (n e : ℕ) (ends : List ℕ) → In e (edges (graph (plan n ends))) → e < length ends / 2
-unfolding graph
-edge-below n e ends i = edges-are (graph (plan n ends)) e .0 i .below
+ends-of p labels e x v = refl
 
 -- labels and sums that are all 0
-pub summed-start : {n : ℕ} {ends labels : List ℕ} → Admitted limits (plan n ends) → length ends / 2 ≤ length labels → ((e : ℕ) → e < length ends / 2 → getD labels e 0 ≡ 0)
-    → Summed n ends labels (replicate (limits .vertices) 0)
-summed-start {n} {ends} {labels} a room z = record {
-  labels-room = room;
-  sums-room = omega (arith, a .vertices, length-replicate {A = ℕ} (limits .vertices) 0);
-  sum = λ v. zeros (limits .vertices) v ∙ sym (around-zero (graph (plan n ends)) (λ e. getD labels e 0) v (edges (graph (plan n ends))) (λ e i. z e (edge-below n e ends i)));
-  rest = λ v l. zeros (limits .vertices) v;
-  total = all-zero (replicate (limits .vertices) 0) (zeros (limits .vertices));
+pub summed-start : {p : Plan} {labels₀ labels sums₀ sums : List ℕ} → length (p .ends) / 2 ≤ length labels₀ → p .vertices ≤ length sums₀
+    → Cleared (length (p .ends) / 2) labels₀ labels → Cleared (p .vertices) sums₀ sums → Summed p labels sums
+summed-start {p} {labels = labels} l s cl cs = record {
+  labels-room = omega (arith, cl .kept .long);
+  sums-room = omega (arith, cs .kept .long);
+  sum = λ v h. cs .zero v h ∙ sym (around-zero (graph p) (read labels) v (edges (graph p)) (λ e i. cl .zero e (edge-size p (edges-are (graph p) e .0 i))));
 }
 
-module _ {n e : ℕ} {ends labels sums : List ℕ} (a : Admitted limits (plan n ends)) (h : e < length ends / 2) (s : Summed n ends labels sums) where
-  pub ready : Ready ends e labels sums
+module _ {most : Limits} {p : Plan} {e : ℕ} {labels sums : List ℕ} (a : Admitted most p) (h : e < length (p .ends) / 2) (s : Summed p labels sums) where
+  pub ready : Ready (p .ends) e labels sums
   ready = record {
     edge = h;
     label = omega (arith, s .labels-room);
@@ -125,10 +115,10 @@ module _ {n e : ℕ} {ends labels sums : List ℕ} (a : Admitted limits (plan n 
   }
 
   abbrev l : ℕ
-  l = getD ends (2 * e) 0
+  l = getD (p .ends) (2 * e) 0
 
   abbrev r : ℕ
-  r = getD ends (2 * e + 1) 0
+  r = getD (p .ends) (2 * e + 1) 0
 
   -- the sums of the two ends change by x
   pub at-ends : (x v : ℕ) → getD (xorAt (xorAt sums l x) r x) v 0 ≡ bitXor (cond (eqb l v || eqb r v) x 0) (getD sums v 0)
@@ -140,39 +130,23 @@ module _ {n e : ℕ} {ends labels sums : List ℕ} (a : Admitted limits (plan n 
   pub away : (x v : ℕ) → (l ≡ v → ⊥) → (r ≡ v → ⊥) → getD (xorAt (xorAt sums l x) r x) v 0 ≡ getD sums v 0
   away x v p q = getD-set-other (xorAt sums l x) r v _ 0 (λ y. q (sym y)) ∙ getD-set-other sums l v _ 0 (λ y. p (sym y))
 
-  summed : (x : ℕ) → Summed n ends (xorAt labels e x) (xorAt (xorAt sums l x) r x)
-  summed x =
-      let long : length (xorAt sums l x) ≡ length sums = length-set sums l (bitXor (getD sums l 0) x) in
-      record {
-        labels-room = omega (arith, s .labels-room, length-set labels e (bitXor (getD labels e 0) x));
-        sums-room = omega (arith, s .sums-room, long, length-set (xorAt sums l x) r (bitXor (getD (xorAt sums l x) r 0) x));
-        sum = λ v. at-ends x v ∙ ap₂ bitXor (ap (λ (t : Bool). cond t x 0) (sym (ends-of n ends labels e x v))) (s .sum v)
-            ∙ sym (around-xor (graph (plan n ends)) labels e x v (ready .label) (ordered-distinct (ordered-edges (graph (plan n ends)))) (in-edges a h));
-        rest = λ v b. away x v (λ q. omega (arith, a .fit e h .left, q)) (λ q. omega (arith, a .fit e h .right, q)) ∙ s .rest v b;
-        total = all-xor (xorAt sums l x) r x (omega (arith, ready .right, long)) ∙ ap (bitXor x) (all-xor sums l x (ready .left)) ∙ xor-cancel x (xorAll sums) ∙ s .total;
-      }
+  summed : (x : ℕ) → Summed p (xorAt labels e x) (xorAt (xorAt sums l x) r x)
+  summed x = record {
+    labels-room = omega (arith, s .labels-room, length-set labels e (bitXor (getD labels e 0) x));
+    sums-room = omega (arith, s .sums-room, length-set sums l (bitXor (getD sums l 0) x), length-set (xorAt sums l x) r (bitXor (getD (xorAt sums l x) r 0) x));
+    sum = λ v b. at-ends x v ∙ ap₂ bitXor (ap (λ (t : Bool). cond t x 0) (sym (ends-of p labels e x v))) (s .sum v b)
+        ∙ sym (around-xor (graph p) labels e x v (ready .label) (ordered-distinct (ordered-edges (graph p))) (edges-are (graph p) e .1 (admitted-edge a e h)));
+  }
 
-  pub summed-toggled : {x : ℕ} {labels′ sums′ : List ℕ} → Toggled ends e x labels sums labels′ sums′ → Summed n ends labels′ sums′
-  summed-toggled {x} t = rw (t .labels-now, t .sums-now) (summed x)
+-- While numbers are xored into labels, the sums stay right, and so does what lies behind.
 
--- one more label is 0
-pub cleared-step : (labels : List ℕ) (e : ℕ) → e < length labels → ((k : ℕ) → k < e → getD labels k 0 ≡ 0) → (k : ℕ) → k < e + 1 → getD (set labels e 0) k 0 ≡ 0
-cleared-step labels e h z =
-    below-more (λ (k : ℕ). getD (set labels e 0) k 0 ≡ 0) e (λ k l. getD-set-other labels e k 0 0 (λ q. omega (arith, q)) ∙ z k l) (getD-set-same labels e 0 0 h)
+pub scattered-start : {p : Plan} {labels sums : List ℕ} → Summed p labels sums → Scattered p labels sums labels sums
+scattered-start {p} {labels} {sums} s = record { summed = s; labels-kept = kept-same (length (p .ends) / 2) labels; sums-kept = kept-same (p .vertices) sums }
 
--- what stays of a list whose first numbers change
-pub kept-all : (m : ℕ) (l : List ℕ) → Kept m l l
-kept-all m l = record { long = refl; rest = λ k h. refl }
-
-pub kept-then : {m : ℕ} {before now after : List ℕ} → Kept m before now → Kept m now after → Kept m before after
-kept-then p q = record { long = q .long ∙ p .long; rest = λ k h. q .rest k h ∙ p .rest k h }
-
-pub kept-set : {m e : ℕ} (l : List ℕ) (x : ℕ) → e < m → Kept m l (set l e x)
-kept-set {m} {e} l x h = record { long = length-set l e x; rest = λ k b. getD-set-other l e k x 0 (λ q. omega (arith, q)) }
-
-module _ {ends : List ℕ} {e x : ℕ} {labels sums labels′ sums′ : List ℕ} (t : Toggled ends e x labels sums labels′ sums′) where
-  pub kept-toggled : {m : ℕ} → e < m → Kept m labels labels′
-  kept-toggled {m} h = rw (t .labels-now) (kept-set {m = m} labels (bitXor (getD labels e 0) x) h)
-
-  pub sums-long : length sums′ ≡ length sums
-  sums-long = ap length (t .sums-now) ∙ length-set (xorAt sums (getD ends (2 * e) 0) x) (getD ends (2 * e + 1) 0) _ ∙ length-set sums (getD ends (2 * e) 0) _
+pub scattered-toggled : {most : Limits} {p : Plan} {e x : ℕ} {labels₀ sums₀ labels sums labels′ sums′ : List ℕ} → Admitted most p → e < length (p .ends) / 2
+    → Scattered p labels₀ sums₀ labels sums → Toggled (p .ends) e x labels sums labels′ sums′ → Scattered p labels₀ sums₀ labels′ sums′
+scattered-toggled {x = x} a h s t = rw (t .labels-now, t .sums-now) record {
+  summed = summed a h (s .summed) x;
+  labels-kept = kept-set _ _ h (s .labels-kept);
+  sums-kept = kept-set _ _ (a .fit _ h .right) (kept-set _ _ (a .fit _ h .left) (s .sums-kept));
+}

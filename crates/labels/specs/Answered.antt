@@ -1,41 +1,121 @@
--- What is said of a plan and the space lent for its labels, and what this space then holds.
+-- What is answered to a plan and the space lent for its labels, and what this space then holds.
 use mathlib.Core.Path.{_≡_}
-use mathlib.Core.Bool.{Bool, cond}
+use mathlib.Core.Bool.{Bool, cond, _&&_}
 use mathlib.Core.List.{List, [], _∷_}
-use Prim.Native.Nat.{ℕ, _/_, _≤_}
+use Prim.Native.Nat.{ℕ, _*_, _/_, _<_}
 use lib.Dec.{eqb, leb}
-use lib.ListN.{length, getD}
+use lib.ListN.{length, getD, replicate}
 use Rattle.connectivity.specs.Plan.{Plan, graph, Limits}
+use Rattle.connectivity.specs.Graph.{edges}
 use Rattle.connectivity.specs.Cut.{disconnects}
-use Rattle.connectivity.specs.Admission.{Handed, served, refusal}
-use Rattle.graph.specs.Admission.{answerOf, lent}
-use Rattle.labels.specs.Label.{Balanced}
+use Rattle.connectivity.specs.Admission.{passed, Handed, served, refusal}
+use Rattle.graph.specs.declared.Answer.{Answer}
+use Rattle.graph.specs.Admission.{toldBy, answerOf, lent}
+use Rattle.graph.specs.Marks.{read}
+use Rattle.incidence.specs.Tables.{incidentTable, beginsTable, Front}
+use Rattle.incidence.specs.Parts.{Kept}
+use Rattle.depth.specs.Forest.{Forest}
 use Rattle.labels.specs.declared.Labelling.{Labelling}
-use Rattle.labels.specs.declared.Labelling.the-variants.{Refused, Disconnected, Labelled}
+use Rattle.labels.specs.declared.Labelling.the-variants.{Refused, Disconnected, Connected}
+use Rattle.labels.specs.Label.{around, Balanced}
 
--- 01's number, place and values for each case; the value is 1 where the graph is connected (01: one body), and labelled, else 0
+-- marks and an order that are a spanning forest of the plan's graph
+abbrev pub ForestOf : Plan → List ℕ → List ℕ → Type 0
+ForestOf p first order = Forest (graph p) (p .vertices) (read first) (read order)
+
+-- Labels along a forest that is lent.
+
+-- there is a mark, a place in the order and a sum for each vertex, and a label for each edge
+abbrev pub fits : Plan → List ℕ → List ℕ → List ℕ → List ℕ → Bool
+fits p first order labels sums =
+    leb (p .vertices) (length first) && (leb (p .vertices) (length order) && (leb (length (p .ends) / 2) (length labels) && leb (p .vertices) (length sums)))
+
+-- the whole answer of `balance`
+pub record Labelled (most : Limits) (p : Plan) (first order labels₀ sums₀ labels sums : List ℕ) (r : Answer) : Type 0 where
+  -- 01: the plan's own refusals, then 6 where a lent table is too short, else 0
+  pub answer : r ≡ toldBy (lent most p (fits p first order labels₀ sums₀))
+  -- served: the sum of each vertex is that of the labels around it
+  pub sum : r .number ≡ 0 → (v : ℕ) → v < p .vertices → getD sums v 0 ≡ around (graph p) (read labels) v (edges (graph p))
+  -- and it is 0 if the marks and the order are a spanning forest
+  pub balanced : r .number ≡ 0 → ForestOf p first order → Balanced (graph p) (read labels)
+  -- what lies behind the edges' and the vertices' places stays
+  pub labels-kept : Kept (length (p .ends) / 2) labels₀ labels
+  pub sums-kept : Kept (p .vertices) sums₀ sums
+  -- refused: all of it stays
+  pub unchanged : (r .number ≡ 0 → ⊥) → (labels ≡ labels₀) × (sums ≡ sums₀)
+
+-- Labels of a plan alone.
+
+-- the tables that are lent for that
+pub record Tables : Type 0 where
+  pub incident : List ℕ
+  pub begins : List ℕ
+  pub dead : List ℕ
+  pub first : List ℕ
+  pub order : List ℕ
+  pub cursor : List ℕ
+  pub labels : List ℕ
+  pub sums : List ℕ
+
+-- these, one after the other
+abbrev pub tables : List ℕ → List ℕ → List ℕ → List ℕ → List ℕ → List ℕ → List ℕ → List ℕ → Tables
+tables incident begins dead first order cursor labels sums = record {
+  incident = incident;
+  begins = begins;
+  dead = dead;
+  first = first;
+  order = order;
+  cursor = cursor;
+  labels = labels;
+  sums = sums;
+}
+
+-- 01's number, place and values for each case; the value is 1 where the graph is connected (01: one body), else 0
 abbrev pub handed : Labelling → Handed
 handed (Refused a) = refusal (answerOf a)
 handed Disconnected = served (0 ∷ [])
-handed Labelled = served (1 ∷ [])
+handed Connected = served (1 ∷ [])
 
--- there is a place for the label of each edge
-abbrev pub enough : Plan → List ℕ → Bool
-enough p labels = leb (length (p .ends) / 2) (length labels)
+-- there are two places in `incident` and one in `dead` for each edge, and one in `begins` and `cursor` for each vertex; and room for labels
+-- along a forest
+abbrev pub enough : Plan → Tables → Bool
+enough p t =
+    leb (2 * (length (p .ends) / 2)) (length (t .incident))
+    && (leb (p .vertices) (length (t .begins))
+    && (leb (length (p .ends) / 2) (length (t .dead)) && (leb (p .vertices) (length (t .cursor)) && fits p (t .first) (t .order) (t .labels) (t .sums))))
 
--- 01: the plan's own refusals, then 6 where the lent space is too short; else 1 where the graph is connected, and 0 where it is not
-unfoldable pub labelling : Limits → Plan → List ℕ → Handed
-labelling most p labels =
-    let a = lent most p (enough p labels) in
+-- 01: the plan's own refusals, then 6 where a lent table is too short; else 1 where the graph is connected, and 0 where it is not
+unfoldable pub labelling : Limits → Plan → Tables → Handed
+labelling most p t =
+    let a = lent most p (enough p t) in
     let found = served (cond (disconnects (graph p) []) 0 1 ∷ []) in
     cond (eqb (a .number) 0) found (refusal a)
 
--- the whole answer
-pub record Answered (most : Limits) (p : Plan) (before after : List ℕ) (r : Labelling) : Type 0 where
+-- the tables by vertex stand at the fronts, and no edge is marked
+pub record Laid (p : Plan) (incident₀ begins₀ dead₀ incident begins dead : List ℕ) : Type 0 where
+  pub incident-front : Front (incidentTable (graph p)) incident₀ incident
+  pub begins-front : Front (beginsTable (graph p)) begins₀ begins
+  pub dead-front : Front (replicate (length (p .ends) / 2) 0) dead₀ dead
+
+-- marks and order are a spanning forest, and no cursor is left; what lies behind the vertices' places stays
+pub record Spanned (p : Plan) (first₀ order₀ cursor₀ first order cursor : List ℕ) : Type 0 where
+  pub forest : ForestOf p first order
+  pub first-kept : Kept (p .vertices) first₀ first
+  pub order-kept : Kept (p .vertices) order₀ order
+  pub cursor-front : Front (replicate (p .vertices) 0) cursor₀ cursor
+
+-- around every vertex the labels of its edges xor to 0; what lies behind the edges' and the vertices' places stays
+pub record Cancelled (p : Plan) (labels₀ sums₀ labels sums : List ℕ) : Type 0 where
+  pub balanced : Balanced (graph p) (read labels)
+  pub labels-kept : Kept (length (p .ends) / 2) labels₀ labels
+  pub sums-front : Front (replicate (p .vertices) 0) sums₀ sums
+
+-- the whole answer of `label`
+pub record Answered (most : Limits) (p : Plan) (before after : Tables) (r : Labelling) : Type 0 where
   pub answer : handed r ≡ labelling most p before
-  -- labelled: around every vertex the labels of its edges xor to 0
-  pub balanced : handed r ≡ served (1 ∷ []) → Balanced (graph p) (λ e. getD after e 0)
-  -- what lies behind the edges' places stays
-  pub behind : (k : ℕ) → length (p .ends) / 2 ≤ k → getD after k 0 ≡ getD before k 0
-  -- refused or not connected: all of it stays
-  pub unchanged : (handed r ≡ served (1 ∷ []) → ⊥) → after ≡ before
+  -- served, connected or not
+  pub laid : (handed r) .reply ≡ passed → Laid p (before .incident) (before .begins) (before .dead) (after .incident) (after .begins) (after .dead)
+  pub spanned : (handed r) .reply ≡ passed → Spanned p (before .first) (before .order) (before .cursor) (after .first) (after .order) (after .cursor)
+  pub cancelled : (handed r) .reply ≡ passed → Cancelled p (before .labels) (before .sums) (after .labels) (after .sums)
+  -- refused: all of it stays
+  pub unchanged : ((handed r) .reply ≡ passed → ⊥) → after ≡ before

@@ -1,4 +1,4 @@
--- Labels of edges that cancel around every vertex.
+-- Labels of edges that cancel around every vertex, and what the loss of some edges keeps.
 use mathlib.Core.Path.{_≡_}
 use mathlib.Core.Bool.{cond, _||_}
 use mathlib.Core.List.{List, [], _∷_}
@@ -6,6 +6,7 @@ use Prim.Native.Nat.{ℕ}
 use lib.Bits.{bitXor}
 use lib.Dec.{eqb}
 use Rattle.connectivity.specs.Graph.{Graph, Vertex, edges}
+use Rattle.connectivity.specs.Reach.{Reach, Without}
 
 -- the labels of those of some edges that end at v, xored
 unfoldable pub around : Graph → (ℕ → ℕ) → ℕ → List ℕ → ℕ
@@ -17,3 +18,7 @@ around g label v (e ∷ l) =
 -- around every vertex they xor to 0
 abbrev pub Balanced : Graph → (ℕ → ℕ) → Type 0
 Balanced g label = (v : ℕ) → Vertex g v → around g label v (edges g) ≡ 0
+
+-- the loss of the edges of `cut` parts nothing that was joined
+abbrev pub Keeps : Graph → List ℕ → Type 0
+Keeps g cut = (x y : ℕ) → Reach g (Without []) x y → Reach g (Without cut) x y

@@ -1,49 +1,41 @@
--- How labels are made: the tree along which this goes, and the sums of the labels on the way.
+-- How labels are made: the sums of the labels on the way, and the steps that change both.
 use mathlib.Core.Path.{_≡_}
-use mathlib.Core.Bool.{Bool, false}
-use mathlib.Core.List.{List, [], _∷_}
-use Prim.Native.Nat.{ℕ, _+_, _-_, _*_, _/_, _≤_, _<_}
+use mathlib.Core.List.{List}
+use Prim.Native.Nat.{ℕ, _+_, _*_, _/_, _≤_, _<_}
 use lib.Bits.{bitXor}
 use lib.ListN.{length, getD, set}
-use Rattle.connectivity.specs.Plan.{plan, graph}
-use Rattle.connectivity.specs.Graph.{Joins, edges}
+use Rattle.connectivity.specs.Plan.{Plan, graph}
+use Rattle.connectivity.specs.Graph.{edges}
+use Rattle.graph.specs.Marks.{read}
+use Rattle.incidence.specs.Parts.{Kept}
 use Rattle.labels.specs.Label.{around}
-use Rattle.connectivity.specs.Cut.{disconnects}
+use Rattle.labels.specs.Answered.{ForestOf}
 
--- a list keeps its length, and its numbers from place m on
-pub record Kept (m : ℕ) (before after : List ℕ) : Type 0 where
-  pub long : length after ≡ length before
-  pub rest : (k : ℕ) → m ≤ k → getD after k 0 ≡ getD before k 0
+-- `is_tight`: tables of these lengths have a mark, a place in the order and a sum for each of n vertices, and a label for each of m edges
+pub record Room (n m first order labels sums : ℕ) : Type 0 where
+  pub marks : n ≤ first
+  pub places : n ≤ order
+  pub edges : m ≤ labels
+  pub vertices : n ≤ sums
 
--- the first n places of the order have every vertex once, and each but the first is joined to an earlier one by its first edge
-pub record Spanning (n : ℕ) (ends first order : List ℕ) : Type 0 where
-  pub valid : (k : ℕ) → k < n → getD order k 0 < n
-  pub listed : (v : ℕ) → v < n → (k : ℕ) × (k < n) × (getD order k 0 ≡ v)
-  pub once : (j k : ℕ) → j < k → k < n → getD order j 0 ≡ getD order k 0 → ⊥
-  pub marked : (k : ℕ) → k < n → 0 < getD first (getD order k 0) 0
-  pub tree : (k : ℕ) → 0 < k → k < n → (j : ℕ) × (j < k) × Joins (graph (plan n ends)) (getD first (getD order k 0) 0 - 1) (getD order j 0) (getD order k 0)
-
--- what the search says: whether the graph is not connected; if it is, a tree that spans it
-pub record Searched (n : ℕ) (ends first order : List ℕ) (t : Bool) : Type 0 where
-  pub answer : t ≡ disconnects (graph (plan n ends)) []
-  pub tree : t ≡ false → Spanning n ends first order
+-- `is_short`: tables of these lengths have two places for each edge in `incident`, one in `dead`, and one for each vertex in `begins` and
+-- `cursor`; and that room
+pub record Ample (n m incident begins dead first order cursor labels sums : ℕ) : Type 0 where
+  pub groups : 2 * m ≤ incident
+  pub beginnings : n ≤ begins
+  pub edge-marks : m ≤ dead
+  pub cursors : n ≤ cursor
+  pub room : Room n m first order labels sums
 
 -- x xored into place i
 abbrev pub xorAt : List ℕ → ℕ → ℕ → List ℕ
 xorAt l i x = set l i (bitXor (getD l i 0) x)
 
--- all of a list, xored
-unfoldable pub xorAll : List ℕ → ℕ
-xorAll [] = 0
-xorAll (x ∷ l) = bitXor x (xorAll l)
-
--- the sums are those of the labels around each vertex, and they xor to 0
-pub record Summed (n : ℕ) (ends labels sums : List ℕ) : Type 0 where
-  pub labels-room : length ends / 2 ≤ length labels
-  pub sums-room : n ≤ length sums
-  pub sum : (v : ℕ) → getD sums v 0 ≡ around (graph (plan n ends)) (λ e. getD labels e 0) v (edges (graph (plan n ends)))
-  pub rest : (v : ℕ) → n ≤ v → getD sums v 0 ≡ 0
-  pub total : xorAll sums ≡ 0
+-- there is a label for each edge, and a sum for each vertex: that of the labels around it
+pub record Summed (p : Plan) (labels sums : List ℕ) : Type 0 where
+  pub labels-room : length (p .ends) / 2 ≤ length labels
+  pub sums-room : p .vertices ≤ length sums
+  pub sum : (v : ℕ) → v < p .vertices → getD sums v 0 ≡ around (graph p) (read labels) v (edges (graph p))
 
 -- e has a place among the labels, and its ends among the sums
 pub record Ready (ends : List ℕ) (e : ℕ) (labels sums : List ℕ) : Type 0 where
@@ -52,7 +44,40 @@ pub record Ready (ends : List ℕ) (e : ℕ) (labels sums : List ℕ) : Type 0 w
   pub left : getD ends (2 * e) 0 < length sums
   pub right : getD ends (2 * e + 1) 0 < length sums
 
--- x has been xored into the label of e and into the sums of its ends
+-- `toggle`: x has been xored into the label of e and into the sums of its ends
 pub record Toggled (ends : List ℕ) (e x : ℕ) (labels₀ sums₀ labels sums : List ℕ) : Type 0 where
   pub labels-now : labels ≡ xorAt labels₀ e x
   pub sums-now : sums ≡ xorAt (xorAt sums₀ (getD ends (2 * e) 0) x) (getD ends (2 * e + 1) 0) x
+
+-- v is one of n vertices, and its mark names e, one of m edges
+pub record FirstEdge (n m : ℕ) (first : List ℕ) (v e : ℕ) : Type 0 where
+  pub vertex : v < n
+  pub edge : e < m
+  pub mark : getD first v 0 ≡ e + 1
+
+-- stands for no edge
+abbrev pub noEdge : ℕ
+noEdge = 65535
+
+-- `first_edge`: one less than the mark of v, or `noEdge`
+pub record Named (n : ℕ) (first : List ℕ) (v r : ℕ) : Type 0 where
+  pub found : r < noEdge → (v < n) × (getD first v 0 ≡ r + 1)
+  pub only : (e : ℕ) → v < n → getD first v 0 ≡ e + 1 → r ≡ e
+
+-- `settle_one`: the sum of v has been xored into the label of its first edge, if it has one
+module _ (p : Plan) (first : List ℕ) (v : ℕ) (labels₀ sums₀ labels sums : List ℕ) where
+  pub data Settled : Type 0 where
+    by : (e : ℕ) → FirstEdge (p .vertices) (length (p .ends) / 2) first v e → Toggled (p .ends) e (getD sums₀ v 0) labels₀ sums₀ labels sums → Settled
+    passed : ((e : ℕ) → FirstEdge (p .vertices) (length (p .ends) / 2) first v e → ⊥) → labels ≡ labels₀ → sums ≡ sums₀ → Settled
+
+-- `scatter`: the sums are those of the labels, and what lies behind the edges' and the vertices' places has stayed
+pub record Scattered (p : Plan) (labels₀ sums₀ labels sums : List ℕ) : Type 0 where
+  pub summed : Summed p labels sums
+  pub labels-kept : Kept (length (p .ends) / 2) labels₀ labels
+  pub sums-kept : Kept (p .vertices) sums₀ sums
+
+-- `settle`: so they stay, and along a spanning forest the vertices at the places from k on have the sum 0
+pub record Settling (p : Plan) (first order labels₀ sums₀ labels sums : List ℕ) (k : ℕ) : Type 0 where
+  pub low : k ≤ p .vertices
+  pub scattered : Scattered p labels₀ sums₀ labels sums
+  pub done : ForestOf p first order → (j : ℕ) → k ≤ j → j < p .vertices → getD sums (getD order j 0) 0 ≡ 0

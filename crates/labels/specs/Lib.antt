@@ -1,3 +1,4 @@
 pub mod Label
-pub mod Labels
 pub mod Answered
+pub mod Labels
+pub mod Planting

@@ -1,96 +1,219 @@
-// Labels of edges that cancel around every vertex: the label of an edge that disconnects alone is 0, and those of two that disconnect
-// only together are equal.
+// Labels of edges that cancel around every vertex: the label of an edge whose loss alone parts what was joined is 0, and those of two that
+// do so only together are equal.
+use graph::Admission;
 use graph::Answer;
 use graph::Graph;
-use search::Explored;
 ghost use mathlib.Core.Path.{_≡_};
-ghost use Prim.Native.Nat.{ℕ, _/_, _-_, _<_, _≤_};
+ghost use mathlib.Core.Bool.{not, cond};
+ghost use mathlib.Core.List.{[], _∷_};
+ghost use Prim.Native.Nat.{_/_, _<_, _≤_};
 ghost use lib.Dec.{ltb};
-ghost use lib.ListN.{length, getD};
-ghost use Rattle.connectivity.specs.Plan.{plan, graph, limits};
-ghost use Rattle.connectivity.specs.Admission.{Admitted};
-ghost use Rattle.labels.specs.Label.{Balanced};
-ghost use Rattle.labels.specs.Answered.{Answered};
-ghost use Rattle.labels.specs.Labels.{Kept, Searched, Spanning, Summed, Ready, Toggled};
+ghost use lib.ListN.{length};
+ghost use Rattle.connectivity.specs.Plan.{plan, limits};
+ghost use Rattle.connectivity.specs.Admission.{answer, passed, served, Admitted};
+ghost use Rattle.graph.specs.Admission.{toldBy, lent};
+ghost use Rattle.graph.specs.Tells.{Tells};
+ghost use Rattle.incidence.specs.Parts.{Cleared};
+ghost use Rattle.labels.specs.Answered.{Labelled, tables, handed, Answered};
+ghost use Rattle.labels.specs.Labels.{Ample, Room, Summed, Ready, Toggled, Named, Settled, Scattered, Settling};
 
-// What is said of a plan: refused; not connected; or connected, and its edges have labels.
+mod forest; // forest.rt: a spanning forest, by searches
+
+// What is said of a plan: refused; or whether it is connected, and its edges have labels.
 pub enum Labelling {
     Refused(Answer),
     Disconnected,
-    Labelled,
+    Connected,
 }
 
-// The plan's own 1 to 5; 6 unless `labels` has a place for each edge; then whether the graph is connected, by a search from vertex 0. If
-// it is, each edge gets a label, such that around every vertex they xor to 0.
-pub fn label(vertices: u16, ends: &[u16], labels: &mut [u64]) -> Labelling
-    ensures { λ r. ⌜ Answered limits (plan vertices (now (ends .entry))) (now (labels .entry)) (now (labels .exit)) r ⌝ }
+// The plan's own 1 to 5; 6 where a lent table is too short: `incident` wants two places for each edge, `dead` and `labels` one, the others one
+// for each vertex. Else, in any number of bodies: fills the tables by vertex; finds a spanning forest (`first`: one more than the edge by which
+// a vertex was found, 65535 for a root; `order`: the vertices as they were found); and gives each edge a label, such that around every vertex
+// they xor to 0. The marks in `dead`, the cursors and the sums are then 0.
+pub fn label(
+    vertices: u16,
+    ends: &[u16],
+    incident: &mut [u16],
+    begins: &mut [u16],
+    dead: &mut [u8],
+    first: &mut [u16],
+    order: &mut [u16],
+    cursor: &mut [u16],
+    labels: &mut [u64],
+    sums: &mut [u64],
+) -> Labelling
+    ensures { λ r. ⌜ Answered limits (plan vertices (now (ends .entry))) (tables (now (incident .entry)) (now (begins .entry)) (now (dead .entry)) (now (first .entry)) (now (order .entry)) (now (cursor .entry)) (now (labels .entry)) (now (sums .entry))) (tables (now (incident .exit)) (now (begins .exit)) (now (dead .exit)) (now (first .exit)) (now (order .exit)) (now (cursor .exit)) (now (labels .exit)) (now (sums .exit))) r ⌝ }
 {
-    let mut roles = [0u8; Graph::MAX_VERTICES];
-    roles[0] = 1;
-    let dead = [0u8; Graph::MAX_EDGES];
-    let mut first = [0u16; Graph::MAX_VERTICES];
-    let mut order = [0u16; Graph::MAX_VERTICES];
-    let found = search::explore(vertices, ends, &roles, &dead, &mut first, &mut order);
-    match found {
-        Explored::Refused(answer) => Labelling::Refused(answer),
-        Explored::Met(_) => Labelling::Disconnected, // never: no vertex is a goal
-        Explored::Seen(count) => label_seen(vertices, ends, &first, &order, count, labels),
+    let short = is_short(
+        vertices as usize,
+        ends.len() / 2,
+        incident.len(),
+        begins.len(),
+        dead.len(),
+        first.len(),
+        order.len(),
+        cursor.len(),
+        labels.len(),
+        sums.len(),
+    );
+    let answer = refusal(vertices, ends, short);
+    let number = answer.number;
+    if number != 0 {
+        return Labelling::Refused(answer);
     }
+    let count = forest::plant(vertices, ends, incident, begins, dead, first, order, cursor);
+    distribute(vertices, ends, first, order, labels, sums);
+    told(vertices, count)
 }
 
-// The same of an admitted plan, of whose vertices that search has seen `count`.
-fn label_seen(
+// A graph is connected where a search from vertex 0 has seen every vertex.
+fn told(vertices: u16, count: u16) -> Labelling
+    ensures { λ r. ⌜ handed r ≡ served (cond (ltb count vertices) 0 1 ∷ []) ⌝ }
+{
+    if count < vertices {
+        return Labelling::Disconnected;
+    }
+    Labelling::Connected
+}
+
+// Labels along a spanning forest that is lent. The plan's own 1 to 5; 6 unless `first`, `order` and `sums` have a place for each vertex and
+// `labels` one for each edge. Else each edge gets a label, and each vertex in `sums` the xor of those around it: 0, if `first` and `order`
+// are a spanning forest. Where they are none, the labels are of no use.
+pub fn balance(
     vertices: u16,
     ends: &[u16],
     first: &[u16],
     order: &[u16],
-    count: u16,
     labels: &mut [u64],
-) -> Labelling
-    requires { ⌜ Admitted limits (plan vertices (now ends)) × Searched vertices (now ends) (now first) (now order) (ltb count vertices) × (vertices ≤ length (now first)) × (vertices ≤ length (now order)) ⌝ }
-    ensures { λ r. ⌜ Answered limits (plan vertices (now (ends .entry))) (now (labels .entry)) (now (labels .exit)) r ⌝ }
+    sums: &mut [u64],
+) -> Answer
+    ensures { λ r. ⌜ Labelled limits (plan vertices (now (ends .entry))) (now (first .entry)) (now (order .entry)) (now (labels .entry)) (now (sums .entry)) (now (labels .exit)) (now (sums .exit)) r ⌝ }
 {
-    if labels.len() < ends.len() / 2 {
-        return Labelling::Refused(Answer {
+    let short = is_tight(
+        vertices as usize,
+        ends.len() / 2,
+        first.len(),
+        order.len(),
+        labels.len(),
+        sums.len(),
+    );
+    let answer = refusal(vertices, ends, short);
+    let number = answer.number;
+    if number == 0 {
+        distribute(vertices, ends, first, order, labels, sums);
+    }
+    answer
+}
+
+// The plan's own refusal; else 6 where the lent space is too short, and 0 where it is not.
+fn refusal(vertices: u16, ends: &[u16], short: bool) -> Answer
+    ensures { λ r. ⌜ r ≡ toldBy (lent limits (plan vertices (now (ends .entry))) (not short)) ⌝ }
+{
+    let made = Graph::new(vertices, ends);
+    match made {
+        Admission::Refused(answer) => answer,
+        Admission::Admitted(_) => space(short),
+    }
+}
+
+fn space(short: bool) -> Answer
+    ensures { λ r. ⌜ r ≡ toldBy (cond short (answer 6 0) passed) ⌝ }
+{
+    if short {
+        return Answer {
             number: 6,
             place: 0,
-        });
+        };
     }
-    if count < vertices {
-        return Labelling::Disconnected;
+    Answer {
+        number: 0,
+        place: 0,
     }
-    balance(vertices, ends, first, order, labels);
-    Labelling::Labelled
 }
 
-// Labels the edges of a connected graph: any numbers at first; then, from the last vertex found to the second, the label of its first
-// edge is changed such that the labels around it xor to 0.
-fn balance(vertices: u16, ends: &[u16], first: &[u16], order: &[u16], labels: &mut [u64])
-    requires { ⌜ Admitted limits (plan vertices (now ends)) × Spanning vertices (now ends) (now first) (now order) × (vertices ≤ length (now first)) × (vertices ≤ length (now order)) × (length (now ends) / 2 ≤ length (now labels)) ⌝ }
-    ensures { λ _. ⌜ Balanced (graph (plan vertices (now (ends .entry)))) (λ (e : ℕ). getD (now (labels .exit)) e 0) × Kept (length (now (ends .entry)) / 2) (now (labels .entry)) (now (labels .exit)) ⌝ }
+// Whether one of the tables of `label`, of which these are the lengths, is too short for n vertices and m edges; and the same of `balance`.
+fn is_short(
+    n: usize,
+    m: usize,
+    incident: usize,
+    begins: usize,
+    dead: usize,
+    first: usize,
+    order: usize,
+    cursor: usize,
+    labels: usize,
+    sums: usize,
+) -> bool
+    ensures { λ r. ⌜ Tells (not r) (Ample n m incident begins dead first order cursor labels sums) ⌝ }
 {
-    let mut sums = [0u64; Graph::MAX_VERTICES];
+    if incident / 2 < m {
+        return true;
+    }
+    if begins < n {
+        return true;
+    }
+    if dead < m {
+        return true;
+    }
+    if cursor < n {
+        return true;
+    }
+    is_tight(n, m, first, order, labels, sums)
+}
+
+fn is_tight(n: usize, m: usize, first: usize, order: usize, labels: usize, sums: usize) -> bool
+    ensures { λ r. ⌜ Tells (not r) (Room n m first order labels sums) ⌝ }
+{
+    if first < n {
+        return true;
+    }
+    if order < n {
+        return true;
+    }
+    if labels < m {
+        return true;
+    }
+    if sums < n {
+        return true;
+    }
+    false
+}
+
+// Labels the edges of an admitted plan: any numbers at first; then, from the last place of the order to the first, the label of a vertex's
+// first edge is changed such that the labels around the vertex xor to 0.
+fn distribute(
+    vertices: u16,
+    ends: &[u16],
+    first: &[u16],
+    order: &[u16],
+    labels: &mut [u64],
+    sums: &mut [u64],
+)
+    requires { ⌜ Admitted limits (plan vertices (now ends)) × Room vertices (length (now ends) / 2) (length (now first)) (length (now order)) (length (now labels)) (length (now sums)) ⌝ }
+    ensures { λ _. ⌜ Settling (plan vertices (now (ends .entry))) (now (first .entry)) (now (order .entry)) (now (labels .entry)) (now (sums .entry)) (now (labels .exit)) (now (sums .exit)) 0 ⌝ }
+{
     clear(ends.len() / 2, labels);
-    scatter(vertices, ends, labels, &mut sums);
-    settle(vertices, ends, first, order, labels, &mut sums);
+    clear(vertices as usize, sums);
+    scatter(vertices, ends, labels, sums);
+    settle(vertices, ends, first, order, labels, sums);
 }
 
-// The first labels become 0.
-fn clear(edges: usize, labels: &mut [u64])
-    requires { ⌜ edges ≤ length (now labels) ⌝ }
-    ensures { λ _. ⌜ ((e : ℕ) → e < edges → getD (now (labels .exit)) e 0 ≡ 0) × Kept edges (now (labels .entry)) (now (labels .exit)) ⌝ }
+// The first `count` numbers become 0.
+fn clear(count: usize, table: &mut [u64])
+    requires { ⌜ count ≤ length (now table) ⌝ }
+    ensures { λ _. ⌜ Cleared count (now (table .entry)) (now (table .exit)) ⌝ }
 {
-    let mut e = 0;
-    while e < edges {
-        labels[e] = 0;
-        e += 1;
+    let mut k = 0;
+    while k < count {
+        table[k] = 0;
+        k += 1;
     }
 }
 
 // Xors a number into the label of each edge.
 fn scatter(vertices: u16, ends: &[u16], labels: &mut [u64], sums: &mut [u64])
-    requires { ⌜ Admitted limits (plan vertices (now ends)) × Summed vertices (now ends) (now labels) (now sums) ⌝ }
-    ensures { λ _. ⌜ Summed vertices (now (ends .entry)) (now (labels .exit)) (now (sums .exit)) × Kept (length (now (ends .entry)) / 2) (now (labels .entry)) (now (labels .exit)) ⌝ }
+    requires { ⌜ Admitted limits (plan vertices (now ends)) × Summed (plan vertices (now ends)) (now labels) (now sums) ⌝ }
+    ensures { λ _. ⌜ Scattered (plan vertices (now (ends .entry))) (now (labels .entry)) (now (sums .entry)) (now (labels .exit)) (now (sums .exit)) ⌝ }
 {
     let edges = ends.len() / 2;
     let mut e = 0;
@@ -100,7 +223,8 @@ fn scatter(vertices: u16, ends: &[u16], labels: &mut [u64], sums: &mut [u64])
     }
 }
 
-// Makes the sum of every vertex 0, from the last in the order to the second; the first one's is then 0 too.
+// From the last place of the order to the first, xors the sum of each vertex into the label of its first edge: so the sum becomes 0, and
+// where a tree of a forest ends, that of its root is 0 already.
 fn settle(
     vertices: u16,
     ends: &[u16],
@@ -109,25 +233,49 @@ fn settle(
     labels: &mut [u64],
     sums: &mut [u64],
 )
-    requires { ⌜ Admitted limits (plan vertices (now ends)) × Spanning vertices (now ends) (now first) (now order) × (vertices ≤ length (now first)) × (vertices ≤ length (now order)) × Summed vertices (now ends) (now labels) (now sums) ⌝ }
-    ensures { λ _. ⌜ Balanced (graph (plan vertices (now (ends .entry)))) (λ (e : ℕ). getD (now (labels .exit)) e 0) × Kept (length (now (ends .entry)) / 2) (now (labels .entry)) (now (labels .exit)) ⌝ }
+    requires { ⌜ Admitted limits (plan vertices (now ends)) × (vertices ≤ length (now first)) × (vertices ≤ length (now order)) × Summed (plan vertices (now ends)) (now labels) (now sums) ⌝ }
+    ensures { λ _. ⌜ Settling (plan vertices (now (ends .entry))) (now (first .entry)) (now (order .entry)) (now (labels .entry)) (now (sums .entry)) (now (labels .exit)) (now (sums .exit)) 0 ⌝ }
 {
     let mut k = vertices as usize;
-    while 1 < k {
+    while 0 < k {
         k -= 1;
-        settle_one(ends, order[k], first, labels, sums);
+        settle_one(vertices, ends, order[k], first, labels, sums);
     }
 }
 
-// Xors the sum of v into the label of its first edge.
-fn settle_one(ends: &[u16], v: u16, first: &[u16], labels: &mut [u64], sums: &mut [u64])
-    requires { ⌜ (v < length (now first)) × (v < length (now sums)) × (0 < getD (now first) v 0) × Ready (now ends) (getD (now first) v 0 - 1) (now labels) (now sums) ⌝ }
-    ensures { λ _. ⌜ Toggled (now (ends .entry)) (getD (now (first .entry)) v 0 - 1) (getD (now (sums .entry)) v 0) (now (labels .entry)) (now (sums .entry)) (now (labels .exit)) (now (sums .exit)) ⌝ }
+// Xors the sum of v into the label of its first edge; v has none if it is a root or no vertex.
+fn settle_one(
+    vertices: u16,
+    ends: &[u16],
+    v: u16,
+    first: &[u16],
+    labels: &mut [u64],
+    sums: &mut [u64],
+)
+    requires { ⌜ Admitted limits (plan vertices (now ends)) × (vertices ≤ length (now first)) × Summed (plan vertices (now ends)) (now labels) (now sums) ⌝ }
+    ensures { λ _. ⌜ Settled (plan vertices (now (ends .entry))) (now (first .entry)) v (now (labels .entry)) (now (sums .entry)) (now (labels .exit)) (now (sums .exit)) ⌝ }
 {
+    let e = first_edge(vertices, v, first) as usize;
+    if e < ends.len() / 2 {
+        let x = sums[v as usize];
+        toggle(ends, e, x, labels, sums);
+    }
+}
+
+// The edge by which v was found: one less than its mark; 65535 where there is none. A root's mark gives a number above every edge.
+fn first_edge(vertices: u16, v: u16, first: &[u16]) -> u16
+    requires { ⌜ vertices ≤ length (now first) ⌝ }
+    ensures { λ r. ⌜ Named vertices (now (first .entry)) v r ⌝ }
+{
+    if v >= vertices {
+        return 65535;
+    }
     let at = v as usize;
-    let e = (first[at] - 1) as usize;
-    let x = sums[at];
-    toggle(ends, e, x, labels, sums);
+    let mark = first[at];
+    if mark == 0 {
+        return 65535;
+    }
+    mark - 1
 }
 
 // Xors x into the label of e and into the sums of its ends.

@@ -5,8 +5,10 @@ use mathlib.Core.Logic.{_⊎_, inl, inr}
 use mathlib.Core.Option.{Option, none, some}
 use Prim.Native.Nat.{ℕ, _*_, _/_, _≤_, _<_}
 use native.Mathlib.Omega.{arith}
+use native.Mathlib.Decide.{ℕ-discrete}
 use lib.ListN.{length, take, drop}
 use denote.Enum.Declared.{tagOf}
+use borrow.Author.Tests.{ne-eqb}
 use lib.Seq.{take-at, drop-at}
 use Rattle.connectivity.specs.Plan.{plan, graph, limits}
 use Rattle.connectivity.specs.Cut.{lowestCut}
@@ -18,14 +20,14 @@ use Rattle.connectivity.proofs.LowestCut.{three-edge-connected}
 use Rattle.connectivity.proofs.Verdict.{verdict-short, verdict-refused, reaches}
 use Rattle.connectivity.proofs.Judge.{firm-passes}
 use Rattle.graph.specs.Admission.{toldBy}
-use Rattle.search.proofs.Handed.{back-served}
+use Rattle.graph.proofs.Handed.{back-served}
 use Rattle.graph.specs.declared.Answer.{Answer}
 use Rattle.cuts.specs.declared.lowest.Lowest.{Lowest}
 use Rattle.cuts.specs.declared.Lightest.{Lightest}
 use Rattle.cuts.specs.declared.Lightest.the-variants as light
 use Rattle.cuts.proofs.Lightest as lightest
 use Rattle.cuts.specs.Verdict.{handed, lowestHanded}
-use Rattle.cuts.proofs.Handing.{toldOf, handed-told, told-back}
+use Rattle.cuts.proofs.Handing.{toldOf, handed-same, handed-told, told-back}
 use Rattle.record.specs.Step.{Sturdy}
 use Rattle.record.specs.Record.{Recorded}
 use Rattle.record.specs.Answered.{Answered}
@@ -128,8 +130,35 @@ module _ (n : ℕ) (ends lent : List ℕ) where
             front = ap (take (3 * (length ends / 2))) (c .written) ∙ take-at (c .list) (drop (length (c .list)) lent) (3 * (length ends / 2)) (c .long)
 
       -- an admitted plan is not refused; where there is a cut, it is the answer
-      pub answers-cut : (l : Lightest) → handed l ≡ lowestHanded limits (plan n ends)
+      answers-admitted : (l : Lightest) → handed l ≡ lowestHanded limits (plan n ends)
           → (tagOf lightest.the-type l ≡ 0) ⊎ (tagOf lightest.the-type l ≡ 2) → Answered limits (plan n ends) lent lent l
-      answers-cut (light.Refused x) p k = absurd (refused-cut (lowestCut (graph (plan n ends))) (found _ p))
-      answers-cut (light.Cut c) p k = answers-weak c p refl
-      answers-cut light.NoCut p k = absurd (elim k [ inl q ↦ omega (arith, q) | inr q ↦ omega (arith, q) ])
+      answers-admitted (light.Refused x) p k = absurd (refused-cut (lowestCut (graph (plan n ends))) (found _ p))
+      answers-admitted (light.Cut c) p k = answers-weak c p refl
+      answers-admitted light.NoCut p k = absurd (elim k [ inl q ↦ omega (arith, q) | inr q ↦ omega (arith, q) ])
+
+  -- what is said of the lowest cut tells whether the plan is admitted
+  abbrev own : Lightest
+  own = light.Refused (toldBy (admission limits (plan n ends)))
+
+  refused-own : (l : Lightest) → handed l ≡ handed own → l ≡ own
+  refused-own l p = handed-same l own p
+
+  admitted-or : (l : Lightest) → handed l ≡ lowestHanded limits (plan n ends) → Admitted limits (plan n ends) ⊎ ((Admitted limits (plan n ends) → ⊥) × (l ≡ own))
+  unfolding lowestHanded
+  admitted-or l p = elim (ℕ-discrete ((admission limits (plan n ends)) .number) 0) [
+    | yes z ↦ inl (admission-number limits (plan n ends) .0 z)
+    | no h ↦ inr (λ a. h (admission-number limits (plan n ends) .1 a), refused-own l (p ∙ rw (ne-eqb ((admission limits (plan n ends)) .number) 0 h)))
+  ]
+
+  module _ (h : 3 * (length ends / 2) ≤ length lent) where
+    -- the plan's refusal or its cut
+    pub answers-cut : (l : Lightest) → handed l ≡ lowestHanded limits (plan n ends)
+        → (tagOf lightest.the-type l ≡ 0) ⊎ (tagOf lightest.the-type l ≡ 2) → Answered limits (plan n ends) lent lent l
+    answers-cut l p k = elim (admitted-or l p) [ inl a ↦ answers-admitted a h l p k | inr o ↦ answers-refused (o .0) refl (o .1) ]
+
+    -- where there is no cut
+    pub uncut-admitted : {l : Lightest} → handed l ≡ lowestHanded limits (plan n ends) → l ≡ light.NoCut → Admitted limits (plan n ends)
+    uncut-admitted {l} p q = elim (admitted-or l p) [ inl a ↦ a | inr o ↦ absurd (not-own (sym (o .1) ∙ q)) ]
+      where
+        not-own : own ≡ light.NoCut → ⊥
+        not-own p = let z : _≡_ {A = ℕ} 0 1 = cc in omega arith

@@ -16,7 +16,7 @@ use Rattle.connectivity.specs.Walk.{hits, degree}
 use Rattle.connectivity.specs.Admission.{EndsFit}
 use Rattle.connectivity.proofs.Lists.{raised}
 use Rattle.connectivity.proofs.Degree.{hits-most}
-use Rattle.search.proofs.From0.{zeros}
+use Rattle.graph.proofs.Tally.{zeros}
 use Rattle.record.specs.Step.{Marks, Sums, toward}
 use Rattle.record.specs.Record.{Tables, Adding, Added, Edging, Rowing}
 use Rattle.record.proofs.NeighbourSum.{sum-most}

@@ -15,8 +15,8 @@ use Rattle.connectivity.specs.Admission.{Admitted}
 use Rattle.connectivity.proofs.Admission.{admitted-edge}
 use Rattle.connectivity.proofs.Reach.{joins-sym}
 use Rattle.connectivity.proofs.Theta.{Door, one-door, two-doors}
-use Rattle.search.specs.Search.{Marked}
-use Rattle.search.proofs.Leads.{joins-below, joins-edge}
+use Rattle.graph.specs.Marks.{read, Marked}
+use Rattle.graph.proofs.Joined.{joins-below, joins-edge}
 use Rattle.graph.specs.Tells.{Tells}
 use Rattle.record.specs.Opening.{IsDoor, DoorFits, DoorsFit, NextDoor, Rooted, farEnd}
 use Rattle.record.proofs.Paths.{far-end}
@@ -124,7 +124,7 @@ joins-ends n ends e u v j = j .ends
 pub record Leads (n : ℕ) (ends marks : List ℕ) (x e : ℕ) : Type 0 where
   pub joins : Joins (graph (plan n ends)) e x (farEnd ends e x)
   pub below : farEnd ends e x < n
-  pub seen : Marked marks (farEnd ends e x)
+  pub seen : Marked (read marks) (farEnd ends e x)
   pub off : farEnd ends e x ≡ x → ⊥
 
 pub door-leads : {n e : ℕ} {ends : List ℕ} (marks : List ℕ) (x : ℕ) → Admitted limits (plan n ends) → e < length ends / 2 → IsDoor ends marks x e → Leads n ends marks x e
@@ -134,11 +134,11 @@ door-leads {n} {e} {ends} marks x a l d =
     ⊎-elim (λ h. to (getD ends (2 * e + 1) 0) (subst (λ (u : ℕ). Joins (graph (plan n ends)) e u (getD ends (2 * e + 1) 0)) (h .0) j) (h .1) (λ p. k .different (h .0 ∙ sym p)))
     (λ h. to (getD ends (2 * e) 0) (subst (λ (u : ℕ). Joins (graph (plan n ends)) e u (getD ends (2 * e) 0)) (h .0) (joins-sym j)) (h .1) (λ p. k .different (p ∙ sym (h .0)))) d
   where
-    to : (k : ℕ) → Joins (graph (plan n ends)) e x k → Marked marks k → (k ≡ x → ⊥) → Leads n ends marks x e
+    to : (k : ℕ) → Joins (graph (plan n ends)) e x k → Marked (read marks) k → (k ≡ x → ⊥) → Leads n ends marks x e
     to k j m o = let p : k ≡ farEnd ends e x = sym (far-end n ends e x k j) in record {
       joins = subst (λ (u : ℕ). Joins (graph (plan n ends)) e x u) p j;
       below = subst (λ (u : ℕ). u < n) p (joins-below n ends e x k j);
-      seen = subst (Marked marks) p m;
+      seen = subst (Marked (read marks)) p m;
       off = subst (λ (u : ℕ). u ≡ x → ⊥) p o;
     }
 
@@ -153,7 +153,7 @@ module _ {n r x edges : ℕ} {ends marks : List ℕ} (t : ThreeEdgeConnected (gr
   tested : (e : ℕ) → Door g (Edge g) x r 0 e → IsDoor ends marks x e × (0 < e) × (e < edges)
   tested e d =
       let m = s .whole (d .to) (joins-below n ends e x (d .to) (d .joins)) (d .reached) in (
-        ⊎-elim (λ h. inl (h .0, subst (Marked marks) (sym (h .1)) m)) (λ h. inr (h .1, subst (Marked marks) (sym (h .0)) m)) (joins-ends n ends e x (d .to) (d .joins)),
+        ⊎-elim (λ h. inl (h .0, subst (Marked (read marks)) (sym (h .1)) m)) (λ h. inr (h .1, subst (Marked (read marks)) (sym (h .0)) m)) (joins-ends n ends e x (d .to) (d .joins)),
         omega (arith, d .other),
         omega (arith, p, joins-edge n ends e x (d .to) (d .joins)),
       )

@@ -13,15 +13,16 @@ use Rattle.connectivity.proofs.Through.{Through, stay, leave}
 use Rattle.connectivity.specs.Walk.{Leg, Walk, froms, inner, edgesOf}
 use Rattle.connectivity.specs.Admission.{Answer, Admitted}
 use Rattle.connectivity.proofs.Reach.{joins-sym, joins-vertex}
-use Rattle.search.specs.Search.{startMark, Live, Pass, Start, Goal, Marked, Reached, Tree, Found, Whole, Stopped}
+use Rattle.graph.specs.Marks.{read, Live, Marked}
+use Rattle.search.specs.Search.{startMark, Pass, Start, Goal, Reached, Tree, Found, Whole, Stopped}
 use Rattle.search.specs.declared.Explored.{Explored}
 use Rattle.search.specs.declared.Explored.the-variants.{Refused, Seen, Met}
 use Rattle.search.proofs.Explored as explored
 use Rattle.search.proofs.Climb as climbs
 use Rattle.search.proofs.Climb.{Climb, top, up}
 use Rattle.search.proofs.Outcomes.{enough-room, Cases}
-use Rattle.search.proofs.Leads.{vertex-below, joins-edge}
-use Rattle.search.proofs.Tally.{tally-le}
+use Rattle.graph.proofs.Joined.{vertex-below, joins-edge}
+use Rattle.graph.proofs.Tally.{tally-le}
 use Rattle.record.specs.Step as paths
 use Rattle.record.specs.Step.{Path, Climbing}
 use Rattle.record.specs.Opening.{Toward}
@@ -83,10 +84,10 @@ through-edges f h (leave {u} {v} e l p j r) = leave e (f e u v j l) (h e u v j p
 
 -- what the roles say
 module _ {n : ℕ} {degrees marks roles : List ℕ} (r : Filled (EarRole degrees marks) n roles) (v : ℕ) (l : v < n) where
-  start-of : Marked marks v → Start roles v
+  start-of : Marked (read marks) v → Start roles v
   start-of m = elim (r .at v l) [ ear.start h q ↦ q | ear.new h d q ↦ absurd (h m) | ear.goal h d q ↦ absurd (h m) ]
 
-  of-start : Start roles v → Marked marks v
+  of-start : Start roles v → Marked (read marks) v
   of-start s = elim (r .at v l) [ ear.start h q ↦ h | ear.new h d q ↦ absurd (omega (arith, s, q)) | ear.goal h d q ↦ absurd (omega (arith, s, q)) ]
 
   pass-of : Crosses degrees marks v → Pass roles v
@@ -96,7 +97,7 @@ module _ {n : ℕ} {degrees marks roles : List ℕ} (r : Filled (EarRole degrees
     | ear.goal h d q ↦ absurd (elim x [ inl m ↦ h m | inr z ↦ omega (arith, z, d) ])
   ]
 
-  of-zero : getD roles v 0 ≡ 0 → (Marked marks v → ⊥) × (getD degrees v 0 ≡ 0)
+  of-zero : getD roles v 0 ≡ 0 → (Marked (read marks) v → ⊥) × (getD degrees v 0 ≡ 0)
   of-zero s = elim (r .at v l) [ ear.start h q ↦ absurd (omega (arith, s, q)) | ear.new h d q ↦ (h, d) | ear.goal h d q ↦ absurd (omega (arith, s, q)) ]
 
   goal-of : Outside degrees marks v → Goal roles v
@@ -108,7 +109,7 @@ module _ {n : ℕ} {degrees marks roles : List ℕ} (r : Filled (EarRole degrees
 module _ {n : ℕ} {ends degrees marks roles : List ℕ} (a : Admitted limits (plan n ends)) (dead : List ℕ) (r : Filled (EarRole degrees marks) n roles)
     {first₀ order₀ first order : List ℕ} {count : ℕ} (f : Found (graph (plan n ends)) (Live dead) (Pass roles) (Start roles) n first₀ order₀ first order count) where
   pub count-most : count ≤ n
-  count-most = omega (arith, f .counted, tally-le first n)
+  count-most = omega (arith, f .counted, tally-le (read first) n)
 
   pub exited : Stopped (Goal roles) order count → Exited n ends degrees marks dead first (getD order (count - 1) 0)
   exited s =
@@ -164,12 +165,12 @@ module _ {n : ℕ} {ends marks : List ℕ} where
   path-apart a (paths.up m j p) h (later i) = path-apart a p h i
 
 -- the way up from the vertex that was found, to the first marked vertex on it
-pub unmarked : {g : Graph} {found : List ℕ} {v w u : ℕ} {legs : List Leg} (marks : List ℕ) → Path g found v legs w → (Marked marks v → ⊥)
-    → ((x : ℕ) → In x (inner legs) → Marked marks x → ⊥) → In u (froms legs) → getD marks u 0 ≡ 0
+pub unmarked : {g : Graph} {found : List ℕ} {v w u : ℕ} {legs : List Leg} (marks : List ℕ) → Path g found v legs w → (Marked (read marks) v → ⊥)
+    → ((x : ℕ) → In x (inner legs) → Marked (read marks) x → ⊥) → In u (froms legs) → getD marks u 0 ≡ 0
 unmarked marks paths.there h f i = absurd (not-in i)
 unmarked {u = u} marks (paths.up m j p) h f i = elim (ℕ-discrete (getD marks u 0) 0) [
   | yes q ↦ q
-  | no d ↦ absurd (elim (in-cons i) [ inl q ↦ h (subst (Marked marks) q d) | inr k ↦ f u k d ])
+  | no d ↦ absurd (elim (in-cons i) [ inl q ↦ h (subst (Marked (read marks)) q d) | inr k ↦ f u k d ])
 ]
 
 module _ {n room : ℕ} {ends degrees marks dead first : List ℕ} {t : ℕ} (e : Exiting n ends degrees marks dead room) (x : Exited n ends degrees marks dead first t)

@@ -11,7 +11,7 @@ use lib.ListN.{length, getD, set, length-set}
 use lib.Seq.{getD-set-same, getD-set-other}
 use borrow.Author.Count.{below-more}
 use borrow.Author.Tests.{eqb-true, eqb-false, ltb-true, ltb-false}
-use Rattle.search.specs.Search.{Marked}
+use Rattle.graph.specs.Marks.{read, Marked}
 use Rattle.record.specs.Growth.{Filled}
 use Rattle.graph.specs.Tells.{Tells}
 
@@ -39,16 +39,16 @@ filling-end f l = record { at = λ i h. f .filled .at i (omega arith) }
 
 -- one mark more
 module _ (marks : List ℕ) {i : ℕ} (l : i < length marks) where
-  pub mark-same : Marked (set marks i 1) i
+  pub mark-same : Marked (read (set marks i 1)) i
   mark-same q = omega (arith, q, getD-set-same marks i 1 0 l)
 
-  pub mark-stays : (v : ℕ) → Marked marks v → Marked (set marks i 1) v
+  pub mark-stays : (v : ℕ) → Marked (read marks) v → Marked (read (set marks i 1)) v
   mark-stays v m = elim (ℕ-discrete v i) [
-    | yes p ↦ subst (Marked (set marks i 1)) (sym p) mark-same
+    | yes p ↦ subst (Marked (read (set marks i 1))) (sym p) mark-same
     | no d ↦ λ q. m (sym (getD-set-other marks i v 1 0 d) ∙ q)
   ]
 
-  pub mark-cases : (v : ℕ) → Marked (set marks i 1) v → (v ≡ i) ⊎ Marked marks v
+  pub mark-cases : (v : ℕ) → Marked (read (set marks i 1)) v → (v ≡ i) ⊎ Marked (read marks) v
   mark-cases v m = elim (ℕ-discrete v i) [ yes p ↦ inl p | no d ↦ inr (λ q. m (getD-set-other marks i v 1 0 d ∙ q)) ]
 
 -- a test of two numbers, and a fact that goes with it

@@ -23,8 +23,9 @@ use Rattle.connectivity.proofs.Admission.{admitted-edges}
 use Rattle.connectivity.proofs.Once.{walk-once}
 use Rattle.connectivity.proofs.Grow.{branch-exit, next-edge, path-from-branch}
 use Rattle.connectivity.proofs.MaderPaths.{steps-built}
-use Rattle.search.specs.Search.{startMark, Live, Marked, FromStart}
-use Rattle.search.proofs.Leads.{vertex-below, joins-edge}
+use Rattle.graph.specs.Marks.{read, Live, Marked}
+use Rattle.search.specs.Search.{startMark, FromStart}
+use Rattle.graph.proofs.Joined.{vertex-below, joins-edge}
 use Rattle.record.specs.Step.{Growing, Grown}
 use Rattle.record.specs.Opening.{withRow, farEnd}
 use Rattle.record.specs.Growth.{Outside, Crosses, Exited, Leaving, WalkedOut, OpenEnd, Opening, OpenAt, Across, Alone}
@@ -127,7 +128,7 @@ module _ {n : ℕ} {ends degrees used : List ℕ} {room : ℕ} (c : Growing n en
       dead-other : (f : ℕ) → (f ≡ e → ⊥) → getD dead f 0 ≡ getD used f 0
       dead-other f = getD-set-other used e f 1 0
 
-      edge-some : ((v : ℕ) → v < n → Outside degrees marks v → FromStart (graph (plan n ends)) (Live dead) (Crosses degrees marks) (Marked marks) n v → ⊥) → ⊥
+      edge-some : ((v : ℕ) → v < n → Outside degrees marks v → FromStart (graph (plan n ends)) (Live dead) (Crosses degrees marks) (Marked (read marks)) n v → ⊥) → ⊥
       edge-some f = branch-exit (c .three) (x .joins) from-built
           (λ t h w. let l = vertex-of t h in f t l (λ k. u-new (subst (Built (graph (plan n ends)) grown) (m .only t k) h), built-is (c .marks) t l h) (record {
             root = u;

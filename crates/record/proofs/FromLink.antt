@@ -18,8 +18,9 @@ use Rattle.connectivity.proofs.Link.{some-link}
 use Rattle.connectivity.proofs.Build.{steps-edges, walk-edges}
 use Rattle.connectivity.proofs.Once.{path-once}
 use Rattle.connectivity.proofs.Grow.{Inside, link-exit, inside-built, path-from-link}
-use Rattle.search.specs.Search.{Live, Marked, FromStart}
-use Rattle.search.proofs.Leads.{vertex-below}
+use Rattle.graph.specs.Marks.{read, Live, Marked}
+use Rattle.search.specs.Search.{FromStart}
+use Rattle.graph.proofs.Joined.{vertex-below}
 use Rattle.record.specs.Step.{Marks, Grown}
 use Rattle.record.specs.Growth.{Linking, Marking, Outside, Crosses, Exited, Leaving, WalkedOut, GrowingLink}
 use Rattle.record.proofs.Exits.{through-edges}
@@ -89,7 +90,7 @@ module _ {n : ℕ} {ends degrees used sums : List ℕ} {p room : ℕ} (c : Growi
 
   module _ {marks : List ℕ} (k : Marking (graph (plan n ends)) grown p marks) where
     -- it sees a built vertex outside
-    link-some : ((v : ℕ) → v < n → Outside degrees marks v → FromStart (graph (plan n ends)) (Live used) (Crosses degrees marks) (Marked marks) n v → ⊥) → ⊥
+    link-some : ((v : ℕ) → v < n → Outside degrees marks v → FromStart (graph (plan n ends)) (Live used) (Crosses degrees marks) (Marked (read marks)) n v → ⊥) → ⊥
     link-some f = link-exit (c .ready .growing .three) (stage (c .ready .growing .steps) (c .ready .growing .once)) p-built p-plain
         (λ s t i b o h w. let l = vertex-below n ends t h in f t l (λ m. o (k .sound t m), built-is (c .ready .growing .marks) t l b) (record {
           root = s;

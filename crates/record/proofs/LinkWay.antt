@@ -14,9 +14,9 @@ use Rattle.connectivity.proofs.Reach.{joins-sym, reach-trans, closed-reach}
 use Rattle.connectivity.proofs.Degree.{hits-left, hits-right, hits-ends, hits-from, in-degree}
 use Rattle.connectivity.proofs.Stage.{Bare, bare-edge}
 use Rattle.connectivity.proofs.Grow.{Inside}
-use Rattle.search.specs.Search.{Marked, tally}
-use Rattle.search.proofs.Leads.{joins-below}
-use Rattle.search.proofs.Tally.{tally-set, tally-le}
+use Rattle.graph.specs.Marks.{read, Marked, tally}
+use Rattle.graph.proofs.Joined.{joins-below}
+use Rattle.graph.proofs.Tally.{tally-set, tally-le}
 use Rattle.record.specs.Step.{toward}
 use Rattle.record.specs.Growth.{Linked, Marking, Open, Onward, Following, Followed, Halved, Neighbouring, Neighbour, Linking}
 use Rattle.record.proofs.NeighbourSum.{some-at, Other, other, toward-is, toward-joins}
@@ -51,12 +51,12 @@ at-table n ends e v h = elim h [ inl p ↦ hits-left (graph (plan n ends)) e v p
 
 -- how many are not set
 abbrev pub unset : List ℕ → ℕ
-unset marks = length marks - tally marks (length marks)
+unset marks = length marks - tally (read marks) (length marks)
 
 module _ (marks : List ℕ) {i : ℕ} (l : i < length marks) where
   -- fewer are left
   pub mark-less : getD marks i 0 ≡ 0 → unset (set marks i 1) < unset marks
-  mark-less z = rw (length-set marks i 1) (omega (arith, tally-set marks (length marks) i 1 l (omega arith) z (λ q. omega (arith, q)), tally-le (set marks i 1) (length marks)))
+  mark-less z = rw (length-set marks i 1) (omega (arith, tally-set marks (length marks) i 1 l (omega arith) z (λ q. omega (arith, q)), tally-le (read (set marks i 1)) (length marks)))
 
 -- One vertex of the link.
 
@@ -99,12 +99,12 @@ module _ {ends degrees used sums : List ℕ} {p : ℕ} (c : Linked ends degrees 
     to-below = joins-below (c .n) ends (o .edge) from to (o .joins)
 
     -- the way ends at a branch or at a marked vertex
-    pub onward-end : (Branch g built to ⊎ Marked marks to) → Open g built p rest marks
+    pub onward-end : (Branch g built to ⊎ Marked (read marks) to) → Open g built p rest marks
     onward-end f = record {
       start = o .so-far .start;
       sound = o .so-far .sound;
       closed = λ e u v i j m h. ⊎-elim (λ q. inl q)
-          (λ k. ⊎-elim (λ q. inl (elim f [ inl b ↦ absurd (h (subst (Branch g built) (sym q) b)) | inr y ↦ subst (Marked marks) (sym q) y ])) (λ q. inr q) (in-cons k))
+          (λ k. ⊎-elim (λ q. inl (elim f [ inl b ↦ absurd (h (subst (Branch g built) (sym q) b)) | inr y ↦ subst (Marked (read marks)) (sym q) y ])) (λ q. inr q) (in-cons k))
           (o .so-far .closed e u v i j m h);
     }
 
@@ -132,13 +132,13 @@ module _ {ends degrees used sums : List ℕ} {p : ℕ} (c : Linked ends degrees 
         };
       }
         where
-          closed : (e u v : ℕ) → In e built → Joins g e u v → Marked (set marks to 1) u → (Branch g built v → ⊥)
-              → Marked (set marks to 1) v ⊎ In v ((getD sums to 0 - from) ∷ rest)
+          closed : (e u v : ℕ) → In e built → Joins g e u v → Marked (read (set marks to 1)) u → (Branch g built v → ⊥)
+              → Marked (read (set marks to 1)) v ⊎ In v ((getD sums to 0 - from) ∷ rest)
           closed e u v i j m k = ⊎-elim
-              (λ q. ⊎-elim (λ r. inl (mark-stays marks l v (subst (Marked marks) (sym r) (o .marked)))) (λ r. inr (first r))
+              (λ q. ⊎-elim (λ r. inl (mark-stays marks l v (subst (Marked (read marks)) (sym r) (o .marked)))) (λ r. inr (first r))
               (leads (o .is-built) (o .joins) h e v i (subst (λ (x : ℕ). Joins g e x v) q j)))
               (λ y. ⊎-elim (λ r. inl (mark-stays marks l v r))
-              (λ r. ⊎-elim (λ s. inl (subst (Marked (set marks to 1)) (sym s) (mark-same marks l))) (λ s. inr (later s)) (in-cons r))
+              (λ r. ⊎-elim (λ s. inl (subst (Marked (read (set marks to 1))) (sym s) (mark-same marks l))) (λ s. inr (later s)) (in-cons r))
               (o .so-far .closed e u v i j y k))
               (mark-cases marks l u m)
 
@@ -196,7 +196,7 @@ module _ {ends degrees used sums : List ℕ} {p : ℕ} (c : Linked ends degrees 
   pub all-marked : {marks : List ℕ} → Open g built p [] marks → Marking g built p marks
   all-marked {marks} o = record {
     sound = o .sound;
-    whole = λ v r. closed-reach (Marked marks)
+    whole = λ v r. closed-reach (Marked (read marks))
         (λ e x y b j m. ⊎-elim (λ q. q) (λ q. absurd (not-in q)) (o .closed e x y (b .0) j m (bare-from (joins-sym j) b))) r (o .start);
   }
 
@@ -217,7 +217,7 @@ module _ {degrees sums before now : List ℕ} {from to last at : ℕ} (k : Going
   pub going-end : 3 ≤ getD degrees at 0 → Followed degrees sums from to before now
   going-end h c = let o = k .1 c in onward-end (c .link) o (inl (omega (arith, h, c .link .marks .degrees-are at (to-below (c .link) o))))
 
-  pub going-met : Marked now at → Followed degrees sums from to before now
+  pub going-met : Marked (read now) at → Followed degrees sums from to before now
   going-met m c = onward-end (c .link) (k .1 c) (inr m)
 
   module _ (h : getD degrees at 0 < 3) where

@@ -12,7 +12,7 @@ use borrow.Author.Tests.{eq-eqb, ne-eqb, lt-ltb, le-ltb}
 use Rattle.connectivity.specs.Plan.{plan, graph, limits}
 use Rattle.connectivity.specs.Walk.{Leg, froms}
 use Rattle.connectivity.proofs.Reach.{joins-sym}
-use Rattle.search.proofs.Leads.{joins-below}
+use Rattle.graph.proofs.Joined.{joins-below}
 use Rattle.record.specs.Step.{Path, there, up}
 use Rattle.record.specs.Opening.{farEnd, Way, MarkedOn, Toward}
 use Rattle.record.proofs.Paths.{OneUp, one-up, path-over, steps, nextUp, steps-path}

@@ -10,7 +10,7 @@ use Rattle.connectivity.specs.Plan.{plan, graph}
 use Rattle.connectivity.specs.Walk.{Leg, froms}
 use Rattle.connectivity.proofs.Lists.{in-dec}
 use Rattle.connectivity.proofs.Reach.{joins-sym}
-use Rattle.search.proofs.Leads.{joins-below}
+use Rattle.graph.proofs.Joined.{joins-below}
 use Rattle.record.specs.Step.{Path, there, up}
 use Rattle.record.specs.Opening.{Way, MarkedOn, Toward, Meets, Meeting}
 use Rattle.record.proofs.Paths.{FirstOn, first-on, Parted, part-at}

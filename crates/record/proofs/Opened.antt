@@ -19,7 +19,7 @@ use Rattle.connectivity.proofs.Legs.{final-snoc}
 use Rattle.connectivity.proofs.Once.{theta-once}
 use Rattle.connectivity.proofs.Search.{edges-are}
 use Rattle.connectivity.proofs.Theta.{theta-from}
-use Rattle.search.proofs.Leads.{joins-edge}
+use Rattle.graph.proofs.Joined.{joins-edge}
 use Rattle.record.specs.Step.{Path, there, up, Sturdy, Opened}
 use Rattle.record.specs.Opening.{farEnd, leg, Around, Up, Rooted, NextDoor, DoorsFit, Meets, Meeting, Met, Three, threeWalks, ThreeWritten}
 use Rattle.record.proofs.Doors.{doors-fit, edge-joins, Leads, door-leads, first-door, second-door}

@@ -12,7 +12,7 @@ use Rattle.connectivity.specs.Graph.{Graph, Joins}
 use Rattle.connectivity.specs.Walk.{Leg, Walk, last, then, far, froms}
 use Rattle.connectivity.proofs.Reach.{joins-sym}
 use Rattle.connectivity.proofs.Legs.{far-is}
-use Rattle.search.proofs.Leads.{joins-below, joins-edge}
+use Rattle.graph.proofs.Joined.{joins-below, joins-edge}
 use Rattle.record.specs.Step.{Path, there, up}
 use Rattle.record.specs.Opening.{farEnd, Rises, leg}
 

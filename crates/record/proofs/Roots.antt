@@ -12,13 +12,14 @@ use Rattle.connectivity.specs.Graph.{Graph}
 use Rattle.connectivity.proofs.Through.{Through, stay, leave}
 use Rattle.connectivity.specs.Walk.{Leg, froms}
 use Rattle.connectivity.specs.Admission.{Answer, Admitted}
-use Rattle.search.specs.Search.{Live, Pass, Start, Goal, Marked, Found, Whole}
+use Rattle.graph.specs.Marks.{read, Live, Marked}
+use Rattle.search.specs.Search.{Pass, Start, Goal, Found, Whole}
 use Rattle.search.specs.declared.Explored.{Explored}
 use Rattle.search.specs.declared.Explored.the-variants.{Refused, Seen, Met}
 use Rattle.search.proofs.Climb as trees
 use Rattle.search.proofs.Outcomes.{enough-room, Cases}
-use Rattle.search.proofs.Leads.{joins-edge}
-use Rattle.search.proofs.Tally.{tally-le}
+use Rattle.graph.proofs.Joined.{joins-edge}
+use Rattle.graph.proofs.Tally.{tally-le}
 use Rattle.record.specs.Step.{Path, there, up}
 use Rattle.record.specs.Opening.{Up, Rooted}
 use Rattle.record.proofs.Exits.{climb-path, climb-short}
@@ -100,7 +101,7 @@ module _ (n r x : ℕ) (ends blank dead : List ℕ) (a : Admitted limits (plan n
     });
   }
     where
-      way : (v : ℕ) → v < n → Marked marks v → (v ≡ x → ⊥) → Up g marks r x v
+      way : (v : ℕ) → v < n → Marked (read marks) v → (v ≡ x → ⊥) → Up g marks r x v
       way v l m d =
           let t = f .tree in
           let (k, c, p) = t .listed v l m in
@@ -113,7 +114,7 @@ module _ (n r x : ℕ) (ends blank dead : List ℕ) (a : Admitted limits (plan n
             once = trees.climb-once t u c;
             apart = λ i. omega (arith, path-edge n ends path i, a .edges, t .roots r root role-r);
             off = climb-off pass-off u (λ q. d (sym p ∙ q));
-            short = omega (arith, climb-short t u, c, f .counted, tally-le marks n, a .vertices);
+            short = omega (arith, climb-short t u, c, f .counted, tally-le (read marks) n, a .vertices);
           }
 
   -- the answer of the search

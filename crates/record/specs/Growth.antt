@@ -10,7 +10,8 @@ use Rattle.connectivity.specs.Graph.{Graph, Edge, Joins}
 use Rattle.connectivity.specs.Walk.{Leg, Walk, froms, inner, edgesOf, degree, Built, Branch}
 use Rattle.connectivity.specs.Admission.{Admitted}
 use Rattle.connectivity.proofs.Grow.{Inside}
-use Rattle.search.specs.Search.{startMark, Live, Marked, FromStart}
+use Rattle.graph.specs.Marks.{read, Live, Marked}
+use Rattle.search.specs.Search.{startMark, FromStart}
 use Rattle.connectivity.specs.Mader.{stepRows}
 use Rattle.record.specs.Step.{Path, Written, Marks, Sums, Growing, Ready}
 use Rattle.record.specs.Opening.{farEnd}
@@ -26,9 +27,9 @@ pub record PlainVertex (n : ℕ) (degrees : List ℕ) (r : ℕ) : Type 0 where
 
 -- roles for the search from what is marked, through what is not built, to any other that is
 pub data EarRole (degrees marks : List ℕ) (v r : ℕ) : Type 0 where
-  start : Marked marks v → r ≡ 1 → EarRole degrees marks v r
-  new : (Marked marks v → ⊥) → getD degrees v 0 ≡ 0 → r ≡ 0 → EarRole degrees marks v r
-  goal : (Marked marks v → ⊥) → 1 ≤ getD degrees v 0 → r ≡ 3 → EarRole degrees marks v r
+  start : Marked (read marks) v → r ≡ 1 → EarRole degrees marks v r
+  new : (Marked (read marks) v → ⊥) → getD degrees v 0 ≡ 0 → r ≡ 0 → EarRole degrees marks v r
+  goal : (Marked (read marks) v → ⊥) → 1 ≤ getD degrees v 0 → r ≡ 3 → EarRole degrees marks v r
 
 -- The link of p, along which its inside is marked.
 
@@ -47,21 +48,21 @@ pub record Linked (ends degrees used sums : List ℕ) (p : ℕ) : Type 0 where
 
 -- the vertices inside are marked, and no other
 pub record Marking (g : Graph) (built : List ℕ) (p : ℕ) (marks : List ℕ) : Type 0 where
-  pub sound : (v : ℕ) → Marked marks v → Inside g built p v
-  pub whole : (v : ℕ) → Inside g built p v → Marked marks v
+  pub sound : (v : ℕ) → Marked (read marks) v → Inside g built p v
+  pub whole : (v : ℕ) → Inside g built p v → Marked (read marks) v
 
 -- p and others inside are marked; a built edge from one of these leads to a branch, to another one, or to one that is ahead
 pub record Open (g : Graph) (built : List ℕ) (p : ℕ) (ahead marks : List ℕ) : Type 0 where
-  pub start : Marked marks p
-  pub sound : (v : ℕ) → Marked marks v → Inside g built p v
-  pub closed : (e u v : ℕ) → In e built → Joins g e u v → Marked marks u → (Branch g built v → ⊥) → Marked marks v ⊎ In v ahead
+  pub start : Marked (read marks) p
+  pub sound : (v : ℕ) → Marked (read marks) v → Inside g built p v
+  pub closed : (e u v : ℕ) → In e built → Joins g e u v → Marked (read marks) u → (Branch g built v → ⊥) → Marked (read marks) v ⊎ In v ahead
 
 -- the way goes on: a built edge leads from a marked vertex to one that is ahead
 pub record Onward (g : Graph) (built : List ℕ) (p from to : ℕ) (rest marks : List ℕ) : Type 0 where
   pub edge : ℕ
   pub is-built : In edge built
   pub joins : Joins g edge from to
-  pub marked : Marked marks from
+  pub marked : Marked (read marks) from
   pub so-far : Open g built p (to ∷ rest) marks
 
 -- what `mark_way` asks, and what it leaves
@@ -114,10 +115,10 @@ MarkedBy ends degrees used sums p before after =
 
 -- what the search from what is marked for a built vertex asks: it can't but see one
 abbrev pub Outside : List ℕ → List ℕ → ℕ → Type 0
-Outside degrees marks v = (Marked marks v → ⊥) × (1 ≤ getD degrees v 0)
+Outside degrees marks v = (Marked (read marks) v → ⊥) × (1 ≤ getD degrees v 0)
 
 abbrev pub Crosses : List ℕ → List ℕ → ℕ → Type 0
-Crosses degrees marks v = Marked marks v ⊎ (getD degrees v 0 ≡ 0)
+Crosses degrees marks v = Marked (read marks) v ⊎ (getD degrees v 0 ≡ 0)
 
 pub record Exiting (n : ℕ) (ends degrees marks dead : List ℕ) (room : ℕ) : Type 0 where
   pub admitted : Admitted limits (plan n ends)
@@ -125,7 +126,7 @@ pub record Exiting (n : ℕ) (ends degrees marks dead : List ℕ) (room : ℕ) :
   pub marks-room : n ≤ length marks
   pub dead-room : length ends / 2 ≤ length dead
   pub fits : n ≤ room
-  pub some : ((v : ℕ) → v < n → Outside degrees marks v → FromStart (graph (plan n ends)) (Live dead) (Crosses degrees marks) (Marked marks) n v → ⊥) → ⊥
+  pub some : ((v : ℕ) → v < n → Outside degrees marks v → FromStart (graph (plan n ends)) (Live dead) (Crosses degrees marks) (Marked (read marks)) n v → ⊥) → ⊥
 
 -- and what it leaves: a way up from such a vertex to one that is marked, over live edges, through vertices that are not built
 pub record Exited (n : ℕ) (ends degrees marks dead first : List ℕ) (t : ℕ) : Type 0 where
@@ -133,13 +134,13 @@ pub record Exited (n : ℕ) (ends degrees marks dead first : List ℕ) (t : ℕ)
   pub goal : Outside degrees marks t
   pub from : ℕ
   pub from-below : from < n
-  pub from-start : Marked marks from
+  pub from-start : Marked (read marks) from
   pub top : getD first from 0 ≡ startMark
   pub legs : List Leg
   pub path : Path (graph (plan n ends)) first t legs from
   pub walk : Walk (graph (plan n ends)) t legs from
   pub once : Distinct (froms legs)
-  pub through : (v : ℕ) → In v (inner legs) → (v < n) × (Marked marks v → ⊥) × (getD degrees v 0 ≡ 0)
+  pub through : (v : ℕ) → In v (inner legs) → (v < n) × (Marked (read marks) v → ⊥) × (getD degrees v 0 ≡ 0)
   pub live : (e : ℕ) → In e (edgesOf legs) → Live dead e
   pub short : length legs ≤ n
 
@@ -183,8 +184,8 @@ pub record Across (n : ℕ) (ends degrees used : List ℕ) (e u : ℕ) : Type 0 
 
 -- u and no other is marked
 pub record Alone (u : ℕ) (marks : List ℕ) : Type 0 where
-  pub marked : Marked marks u
-  pub only : (v : ℕ) → Marked marks v → v ≡ u
+  pub marked : Marked (read marks) u
+  pub only : (v : ℕ) → Marked (read marks) v → v ≡ u
 
 -- the state from which a Mader-path grows out of a link, and where every built vertex is a branch
 pub record GrowingLink (n : ℕ) (ends degrees used sums : List ℕ) (p room : ℕ) : Type 0 where

@@ -13,7 +13,7 @@ use Rattle.connectivity.proofs.Through.{Through}
 use Rattle.connectivity.specs.Walk.{Leg, froms}
 use Rattle.connectivity.specs.Mader.{stepRows, rows}
 use Rattle.connectivity.specs.Admission.{Admitted}
-use Rattle.search.specs.Search.{Marked}
+use Rattle.graph.specs.Marks.{read, Marked}
 use Rattle.record.specs.Step.{Path, Written, Climbing, Sturdy, Opened}
 
 -- the rows with one written after the first `count`
@@ -50,8 +50,8 @@ pub record Up (g : Graph) (first : List ℕ) (r x v : ℕ) : Type 0 where
 
 pub record Rooted (n : ℕ) (ends : List ℕ) (r x : ℕ) (first : List ℕ) : Type 0 where
   pub long : n ≤ length first
-  pub ways : (v : ℕ) → v < n → Marked first v → (v ≡ x → ⊥) → Up (graph (plan n ends)) first r x v
-  pub whole : (v : ℕ) → v < n → Through (graph (plan n ends)) (Edge (graph (plan n ends))) (λ u. u ≡ x → ⊥) r v → Marked first v
+  pub ways : (v : ℕ) → v < n → Marked (read first) v → (v ≡ x → ⊥) → Up (graph (plan n ends)) first r x v
+  pub whole : (v : ℕ) → v < n → Through (graph (plan n ends)) (Edge (graph (plan n ends))) (λ u. u ≡ x → ⊥) r v → Marked (read first) v
 
 -- what the three walks ask after the search from one end of edge 0 around the other
 pub record Searched (ends first : List ℕ) (room : ℕ) : Type 0 where
@@ -66,7 +66,7 @@ OpenedBy ends first before after r = (c : Searched ends first (length before)) �
 
 abbrev pub IsDoor : List ℕ → List ℕ → ℕ → ℕ → Type 0
 IsDoor ends first x e =
-    ((getD ends (2 * e) 0 ≡ x) × Marked first (getD ends (2 * e + 1) 0)) ⊎ ((getD ends (2 * e + 1) 0 ≡ x) × Marked first (getD ends (2 * e) 0))
+    ((getD ends (2 * e) 0 ≡ x) × Marked (read first) (getD ends (2 * e + 1) 0)) ⊎ ((getD ends (2 * e + 1) 0 ≡ x) × Marked (read first) (getD ends (2 * e) 0))
 
 pub record DoorFits (ends first : List ℕ) (e : ℕ) : Type 0 where
   pub below : e < length ends / 2
@@ -120,7 +120,7 @@ pub record Toward (ends first marks : List ℕ) (v : ℕ) : Type 0 where
   pub legs : List Leg
   pub path : Path (graph (plan n ends)) first v legs to
   pub plain : (u : ℕ) → In u (froms legs) → getD marks u 0 ≡ 0
-  pub met : Marked marks to
+  pub met : Marked (read marks) to
   pub short : length legs ≤ limits .vertices
 
 abbrev pub MetFirst : List ℕ → List ℕ → List ℕ → ℕ → ℕ → Type 0

@@ -3,11 +3,10 @@ use cuts::Lightest;
 use graph::Admission;
 use graph::Answer;
 use graph::Graph;
-ghost use mathlib.Core.Path.{_≡_};
-ghost use Prim.Native.Nat.{_/_};
+ghost use mathlib.Core.List.{List};
+ghost use Prim.Native.Nat.{ℕ, _*_, _/_, _<_};
 ghost use lib.ListN.{length};
 ghost use Rattle.connectivity.specs.Plan.{plan, limits};
-ghost use Rattle.connectivity.specs.Admission.{Admitted};
 ghost use Rattle.record.specs.Answered.{Answered};
 
 mod walk; // walk.rt: rows along first edges
@@ -20,28 +19,28 @@ mod build; // build.rt: walk after walk, until every edge is built
 pub fn write_record(vertices: u16, ends: &[u16], rows: &mut [u16]) -> Lightest
     ensures { λ r. ⌜ Answered limits (plan vertices (now (ends .entry))) (now (rows .entry)) (now (rows .exit)) r ⌝ }
 {
-    let made = Graph::new(vertices, ends);
-    match made {
-        Admission::Refused(answer) => Lightest::Refused(answer),
-        Admission::Admitted(graph) => judge_admitted(vertices, ends, graph.edges, rows),
-    }
-}
-
-// The same of an admitted plan.
-fn judge_admitted(vertices: u16, ends: &[u16], edges: u16, rows: &mut [u16]) -> Lightest
-    requires { ⌜ (edges ≡ length (now ends) / 2) × Admitted limits (plan vertices (now ends)) ⌝ }
-    ensures { λ r. ⌜ Answered limits (plan vertices (now (ends .entry))) (now (rows .entry)) (now (rows .exit)) r ⌝ }
-{
-    if rows.len() < 3 * (edges as usize) {
-        return Lightest::Refused(Answer {
-            number: 6,
-            place: 0,
-        });
+    if rows.len() / 3 < ends.len() / 2 {
+        return no_room(vertices, ends);
     }
     let found = cuts::lowest_cut(vertices, ends);
     let Lightest::NoCut = found else {
         return found;
     };
+    let edges = (ends.len() / 2) as u16;
     build::build_record(vertices, ends, edges, rows);
     Lightest::NoCut
+}
+
+// What is said where the lent list is too short: the plan's own refusal, else 6.
+fn no_room(vertices: u16, ends: &[u16]) -> Lightest
+    ensures { λ r. ⌜ ((rows : List ℕ) → length rows < 3 * (length (now (ends .entry)) / 2) → Answered limits (plan vertices (now (ends .entry))) rows rows r) ⌝ }
+{
+    let made = Graph::new(vertices, ends);
+    match made {
+        Admission::Refused(answer) => Lightest::Refused(answer),
+        Admission::Admitted(_) => Lightest::Refused(Answer {
+            number: 6,
+            place: 0,
+        }),
+    }
 }

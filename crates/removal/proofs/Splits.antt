@@ -13,7 +13,7 @@ use Rattle.connectivity.proofs.Admission.{admission-number}
 use Rattle.graph.specs.Admission.{toldBy, lent}
 use Rattle.graph.specs.declared.Answer as code
 use Rattle.graph.proofs.Lent.{RefusedBy}
-use Rattle.search.proofs.Handed.{lent-own, back-served, back-refused, refused-back, served-back}
+use Rattle.graph.proofs.Handed.{lent-own, back-served, back-refused, refused-back, served-back}
 use Rattle.removal.specs.declared.Split.{Split}
 use Rattle.removal.specs.declared.Split.the-variants.{Refused, Connected, Disconnected}
 use Rattle.removal.specs.Cut.{handed, splitAfter, splitBy, enough}

@@ -2,18 +2,18 @@
 use mathlib.Core.Path.{_≡_}
 use mathlib.Core.Bool.{Bool, false, cond, not}
 use mathlib.Core.List.{List, [], _∷_, List·Memᴰ as In}
-use Prim.Native.Nat.{ℕ, _≤_, _<_}
+use Prim.Native.Nat.{ℕ, _*_, _≤_, _<_}
 use lib.Dec.{eqb, leb, ltb}
 use lib.ListN.{length, getD}
 use Rattle.connectivity.specs.Lists.{mem}
-use Rattle.connectivity.specs.Plan.{Plan, plan, graph, limits, Limits}
+use Rattle.connectivity.specs.Plan.{Plan, graph, Limits}
 use Rattle.connectivity.specs.Cut.{cutOff, disconnects}
 use Rattle.connectivity.specs.Admission.{Answer, passed, Handed, served, refusal, Admitted, admission}
 use Rattle.removal.specs.declared.Split.{Split}
 use Rattle.removal.specs.declared.Split.the-variants.{Refused, Connected, Disconnected}
 use Rattle.graph.specs.Admission.{toldBy, answerOf, lent}
-use Rattle.search.specs.declared.Explored.{Explored}
-use Rattle.search.specs.declared.Explored.the-variants as found
+use Rattle.depth.specs.declared.Explored.{Explored}
+use Rattle.depth.specs.declared.Explored.the-variants as found
 
 -- 01's number, place and values for each case; the value is 1 where the set parts the sheet, else 0
 abbrev pub handed : Split → Handed
@@ -46,17 +46,27 @@ pub record Answered (most : Limits) (p : Plan) (cut : List ℕ) (reached₀ reac
   -- refused: all of it stays
   pub unchanged : ((handed r) .reply ≡ passed → ⊥) → reached ≡ reached₀
 
+-- the tables of a search have room for every plan, and no edge and no vertex has a mark
+pub record Ready (most : Limits) (incident begins dead first order cursor : List ℕ) : Type 0 where
+  pub incident-room : 2 * most .edges ≤ length incident
+  pub begins-room : most .vertices ≤ length begins
+  pub dead-room : most .edges ≤ length dead
+  pub first-room : most .vertices ≤ length first
+  pub order-room : most .vertices ≤ length order
+  pub cursor-room : most .vertices ≤ length cursor
+  pub live : (e : ℕ) → getD dead e 0 ≡ 0
+  pub unmarked : (v : ℕ) → getD first v 0 ≡ 0
+
 -- what a search has left of an admitted plan without the cut: `count` vertices were seen, and those that were not are cut off
-pub record Left (n : ℕ) (ends cut first : List ℕ) (count : ℕ) : Type 0 where
-  pub admitted : Admitted limits (plan n ends)
-  pub fewer : ltb count n ≡ disconnects (graph (plan n ends)) cut
-  pub unseen : (v : ℕ) → v < n → eqb (getD first v 0) 0 ≡ mem v (cutOff (graph (plan n ends)) cut)
+pub record Left (most : Limits) (p : Plan) (cut first : List ℕ) (count : ℕ) : Type 0 where
+  pub admitted : Admitted most p
+  pub fewer : ltb count (p .vertices) ≡ disconnects (graph p) cut
+  pub unseen : (v : ℕ) → v < p .vertices → eqb (getD first v 0) 0 ≡ mem v (cutOff (graph p) cut)
 
 -- `without`: the plan's own refusal, or what is left
-abbrev pub Searched : ℕ → List ℕ → List ℕ → List ℕ → Explored → Type 0
-Searched n ends cut first (found.Refused a) = (Admitted limits (plan n ends) → ⊥) × (a ≡ toldBy (admission limits (plan n ends)))
-Searched n ends cut first (found.Seen count) = Left n ends cut first count
-Searched n ends cut first (found.Met count) = ⊥
+abbrev pub Searched : Limits → Plan → List ℕ → List ℕ → Explored → Type 0
+Searched most p cut first (found.Refused a) = (Admitted most p → ⊥) × (a ≡ toldBy (admission most p))
+Searched most p cut first (found.Seen count) = Left most p cut first count
 
 -- `remove`: the marks of the edges of `cut` are set
 pub record Removed (cut dead₀ dead : List ℕ) : Type 0 where

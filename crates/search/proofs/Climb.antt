@@ -1,5 +1,4 @@
--- The seen vertices form a tree by their first edges: a climb from any of them comes to a start, and passes each vertex once. And the
--- edges that lead out of a whole search are not live, or leave a vertex that may not be passed through.
+-- The seen vertices form a tree by their first edges: a climb from any of them comes to a start, and passes each vertex once.
 use mathlib.Core.Path.{_≡_, sym}
 use mathlib.Core.Logic.{inl, inr}
 use mathlib.Core.List.{List, [], _∷_, List·Memᴰ as In, List·Memᴰ·head as first, List·Memᴰ·tail as later, List·Memᴰ·not-nil as not-in}
@@ -7,11 +6,10 @@ use Prim.Native.Nat.{ℕ, zero, suc, _-_, _≤_, _<_}
 use native.Mathlib.Omega.{arith}
 use lib.ListN.{getD}
 use Rattle.connectivity.specs.Lists.{Distinct, no-member, one}
-use Rattle.connectivity.specs.Graph.{Graph, Joins}
+use Rattle.connectivity.specs.Graph.{Graph}
 use Rattle.connectivity.specs.Walk.{Leg, Walk, last, then, froms}
 use Rattle.connectivity.proofs.Reach.{joins-sym}
-use Rattle.connectivity.proofs.Through.{through-on}
-use Rattle.search.specs.Search.{Marked, Reached, Tree, Found, Whole}
+use Rattle.search.specs.Search.{Reached, Tree}
 
 -- from place k of the order up to a start: each leg leaves a vertex over the edge by which it was first reached
 pub data Climb (g : Graph) (live pass start : ℕ → Type 0) (marks order : List ℕ) : ℕ → List Leg → ℕ → Type 0 where
@@ -52,10 +50,3 @@ module _ {g : Graph} {live pass start : ℕ → Type 0} {n : ℕ} {marks order :
   pub climb-walk : {k s : ℕ} {l : Leg} {legs : List Leg} → Climb g live pass start marks order k (l ∷ legs) s → Walk g (getD order k 0) (l ∷ legs) (getD order s 0)
   climb-walk (up r (top h)) = last _ (joins-sym (r .joins))
   climb-walk (up r (up q u)) = then _ (joins-sym (r .joins)) (climb-walk (up q u))
-
--- what a live edge leads to from a seen vertex that may be passed through has been seen
-pub no-way-out : {g : Graph} {live pass start goal : ℕ → Type 0} {n : ℕ} {first₀ order₀ marks order : List ℕ} {count : ℕ}
-    → Found g live pass start n first₀ order₀ marks order count → Whole g live pass start goal n marks order count
-    → (e u v : ℕ) → live e → pass u → Joins g e u v → u < n → v < n → Marked marks u → Marked marks v
-no-way-out f w e u v l p j lu lv h = let s = f .sound u lu h in
-    w .whole v lv (record { root = s .root; below = s .below; is-start = s .is-start; way = through-on (s .way) l p j })

@@ -13,9 +13,10 @@ use lib.Seq.{getD-set-same, getD-set-other}
 use Rattle.connectivity.specs.Graph.{Graph, Joins}
 use Rattle.connectivity.proofs.Through.{stay, through-on, closed-through}
 use Rattle.search.specs.declared.Progress.{Progress}
-use Rattle.search.specs.Search.{Start, Goal, Marked, Reached, Tree, FromStart, Found, Whole, Stopped}
+use Rattle.graph.specs.Marks.{read, Marked}
+use Rattle.search.specs.Search.{Start, Goal, Reached, Tree, FromStart, Found, Whole, Stopped}
 use Rattle.search.specs.Sweep.{Fit, State, Plain, More, Begun, Lead, Noted, kept, added, Swept}
-use Rattle.search.proofs.Tally.{tally-lt, tally-set, tally-le}
+use Rattle.graph.proofs.Tally.{tally-lt, tally-set, tally-le}
 
 -- a Joins at equal numbers
 joins-at : {g : Graph} {d e u x v y : ℕ} → d ≡ e → u ≡ x → v ≡ y → Joins g e x y → Joins g d u v
@@ -32,7 +33,7 @@ module _ {g : Graph} {live pass start : ℕ → Type 0} {n : ℕ} {first order :
   order⁺ = set order count w
 
   below : count < n
-  below = omega (arith, s .counted, tally-lt first n w lw z)
+  below = omega (arith, s .counted, tally-lt (read first) n w lw z)
 
   first-new : getD first⁺ w 0 ≡ e + 1
   first-new = getD-set-same first w (e + 1) 0 (omega (arith, s .first-room))
@@ -46,13 +47,13 @@ module _ {g : Graph} {live pass start : ℕ → Type 0} {n : ℕ} {first order :
   order-old : (k : ℕ) → k < count → getD order⁺ k 0 ≡ getD order k 0
   order-old k l = getD-set-other order count k w 0 (λ q. omega arith)
 
-  keeps : (v : ℕ) → Marked first v → getD first⁺ v 0 ≡ getD first v 0
+  keeps : (v : ℕ) → Marked (read first) v → getD first⁺ v 0 ≡ getD first v 0
   keeps v h = first-old v (λ q. h (ap (λ (x : ℕ). getD first x 0) q ∙ z))
 
-  pub mark-new : Marked first⁺ w
+  pub mark-new : Marked (read first⁺) w
   mark-new q = omega (arith, first-new, q)
 
-  pub mark-old : (v : ℕ) → Marked first v → Marked first⁺ v
+  pub mark-old : (v : ℕ) → Marked (read first) v → Marked (read first⁺) v
   mark-old v h q = h (sym (keeps v h) ∙ q)
 
   pub more-added : More n first order count first⁺ order⁺ (count + 1)
@@ -69,8 +70,8 @@ module _ {g : Graph} {live pass start : ℕ → Type 0} {n : ℕ} {first order :
   no-start : start w → ⊥
   no-start h = omega (arith, s .tree .roots w lw h)
 
-  module _ (u : ℕ) (lu : u < n) (hu : Marked first u) (pu : pass u) (le : live e) (je : Joins g e u w) where
-    listed : (v : ℕ) → v < n → Marked first⁺ v → (k : ℕ) × (k < count + 1) × (getD order⁺ k 0 ≡ v)
+  module _ (u : ℕ) (lu : u < n) (hu : Marked (read first) u) (pu : pass u) (le : live e) (je : Joins g e u w) where
+    listed : (v : ℕ) → v < n → Marked (read first⁺) v → (k : ℕ) × (k < count + 1) × (getD order⁺ k 0 ≡ v)
     listed v l h = elim (ℕ-discrete v w) [
       | yes q ↦ (count, omega arith, order-new ∙ sym q)
       | no n ↦ let o = s .tree .listed v l (λ y. h (first-old v n ∙ y)) in (o .0, omega (arith, o .1), order-old (o .0) (o .1) ∙ o .2)
@@ -115,7 +116,7 @@ module _ {g : Graph} {live pass start : ℕ → Type 0} {n : ℕ} {first order :
       counted = omega (arith, s .counted, tally-set first n w (e + 1) lw (s .first-room) z (λ q. omega arith));
       tree = record {
         valid = below-more (λ (k : ℕ). getD order⁺ k 0 < n) count (λ k l. rw (order-old k l) (s .tree .valid k l)) (rw order-new lw);
-        marked = below-more (λ (k : ℕ). Marked first⁺ (getD order⁺ k 0)) count (λ k l. rw (order-old k l) (mark-old _ (s .tree .marked k l))) (rw order-new mark-new);
+        marked = below-more (λ (k : ℕ). Marked (read first⁺) (getD order⁺ k 0)) count (λ k l. rw (order-old k l) (mark-old _ (s .tree .marked k l))) (rw order-new mark-new);
         listed = listed;
         once = λ j k jk l. below-more (λ (k : ℕ). (j : ℕ) → j < k → getD order⁺ j 0 ≡ getD order⁺ k 0 → ⊥) count
             (λ k l j jk q. s .tree .once j k jk l (sym (order-old j (omega arith)) ∙ q ∙ order-old k l))
@@ -130,7 +131,7 @@ module _ {g : Graph} {live pass start : ℕ → Type 0} {n : ℕ} {first order :
 
 -- What a part of the search keeps.
 
-pub more-mark : {n : ℕ} {v₀ o₀ : List ℕ} {c₀ : ℕ} {v₁ o₁ : List ℕ} {c₁ : ℕ} → More n v₀ o₀ c₀ v₁ o₁ c₁ → (v : ℕ) → Marked v₀ v → Marked v₁ v
+pub more-mark : {n : ℕ} {v₀ o₀ : List ℕ} {c₀ : ℕ} {v₁ o₁ : List ℕ} {c₁ : ℕ} → More n v₀ o₀ c₀ v₁ o₁ c₁ → (v : ℕ) → Marked (read v₀) v → Marked (read v₁) v
 more-mark m v h q = h (sym (m .same v h) ∙ q)
 
 pub more-refl : (n : ℕ) (first order : List ℕ) (count : ℕ) → More n first order count first order count
@@ -172,7 +173,7 @@ fit-more f m = record {
 }
 
 pub at-most : {g : Graph} {live pass start : ℕ → Type 0} {n : ℕ} {first order : List ℕ} {count : ℕ} → State g live pass start n first order count → count ≤ n
-at-most {n = n} {first = first} s = omega (arith, s .counted, tally-le first n)
+at-most {n = n} {first = first} s = omega (arith, s .counted, tally-le (read first) n)
 
 -- One edge.
 
@@ -186,7 +187,7 @@ module _ {g : Graph} {live pass start : ℕ → Type 0} {n e w : ℕ} {first ord
   step-more (kept p q r m) = rw (p, q, r) (more-refl n first order count)
   step-more (added lw z p q r) = rw (p, q, r) (more-added s e w lw z)
 
-  pub step-whole : Noted n w e first order count first′ order′ count′ → (u v : ℕ) → live e → pass u → Joins g e u v → Marked first u → Marked first′ v
+  pub step-whole : Noted n w e first order count first′ order′ count′ → (u v : ℕ) → live e → pass u → Joins g e u v → Marked (read first) u → Marked (read first′) v
   step-whole (kept p q r m) u v l k j h = rw p (⊎-elim (λ i. i) (λ x. rw x (m (rw x at (below-n e u v j)))) (f .whole u v l k j h))
   step-whole (added lw z p q r) u v l k j h = rw p (⊎-elim (λ i. mark-old s e w lw z v i) (λ x. rw x (mark-new s e w lw z)) (f .whole u v l k j h))
 
@@ -206,7 +207,7 @@ pub record Sweeping (g : Graph) (live pass start goal : ℕ → Type 0) (n : ℕ
   pub state : State g live pass start n first order count
   pub more : More n first₀ order₀ from first order count
   pub plain : Plain goal order count
-  pub whole : (d : ℕ) → d < e → (u v : ℕ) → live d → pass u → Joins g d u v → Marked first₀ u → Marked first v
+  pub whole : (d : ℕ) → d < e → (u v : ℕ) → live d → pass u → Joins g d u v → Marked (read first₀) u → Marked (read first) v
 
 pub sweeping-start : {g : Graph} {live pass start goal : ℕ → Type 0} {n : ℕ} {first order : List ℕ} {count : ℕ} → State g live pass start n first order count
     → Plain goal order count → Sweeping g live pass start goal n first order count first order count 0
@@ -229,7 +230,7 @@ module _ {g : Graph} {live pass start goal : ℕ → Type 0} {n : ℕ} {first₀
       | inl q ↦ λ k l. old-plain k (omega arith)
       | inr q ↦ λ k l. below-more (λ (k : ℕ). goal (getD order′ k 0) → ⊥) count old-plain (λ h. no-goal (λ r. omega (arith, q .0)) (rw (q .1) at h)) k (omega (arith, q .0))
     ];
-    whole = below-more (λ (d : ℕ). (u v : ℕ) → live d → pass u → Joins g d u v → Marked first₀ u → Marked first′ v) e
+    whole = below-more (λ (d : ℕ). (u v : ℕ) → live d → pass u → Joins g d u v → Marked (read first₀) u → Marked (read first′) v) e
         (λ d l u v a b j i. more-mark m v (p .whole d l u v a b j i)) (λ u v a b j i. step-whole below-n (p .state) f d u v a b j (more-mark (p .more) u i));
   }
 
@@ -248,7 +249,7 @@ pub record Rounds (g : Graph) (live pass start goal : ℕ → Type 0) (n : ℕ) 
   pub state : State g live pass start n first order count
   pub more : More n first₀ order₀ starts first order count
   pub plain : Plain goal order count
-  pub closed : count ≤ was → (e u v : ℕ) → live e → pass u → Joins g e u v → (u < n) × Marked first u → Marked first v
+  pub closed : count ≤ was → (e u v : ℕ) → live e → pass u → Joins g e u v → (u < n) × Marked (read first) u → Marked (read first) v
 
 pub rounds-start : {g : Graph} {live pass start goal : ℕ → Type 0} {n : ℕ} {first order : List ℕ} {count : ℕ} → State g live pass start n first order count
     → Plain goal order count → Rounds g live pass start goal n first order count first order count 0
@@ -270,17 +271,17 @@ rounds-step {n = n} {first = first} {count = count} {first′ = first′} {p = p
 }
   where
     -- where nothing was added, what is marked was marked
-    back : p .count ≤ count → (u : ℕ) → u < n → Marked first′ u → Marked first u
+    back : p .count ≤ count → (u : ℕ) → u < n → Marked (read first′) u → Marked (read first) u
     back l u lu m =
         let o = s .state .tree .listed u lu m in
         let k : o .0 < count = omega (arith, o .1) in
-        subst (Marked first) (sym (s .more .stays (o .0) k) ∙ o .2) (r .state .tree .marked (o .0) k)
+        subst (Marked (read first)) (sym (s .more .stays (o .0) k) ∙ o .2) (r .state .tree .marked (o .0) k)
 
 pub rounds-end : {g : Graph} {live pass start goal : ℕ → Type 0} {n : ℕ} {first₀ order₀ : List ℕ} {starts : ℕ} {first order : List ℕ} {count was : ℕ}
     → ((e u v : ℕ) → Joins g e u v → v < n) → Rounds g live pass start goal n first₀ order₀ starts first order count was → count ≤ was
     → Whole g live pass start goal n first order count
 rounds-end {n = n} {first = first} below-n r h = record {
-  whole = λ v l f. closed-through (λ (x : ℕ). (x < n) × Marked first x) (λ e u w a b j s. (below-n e u w j, r .closed h e u w a b j s)) (f .way)
+  whole = λ v l f. closed-through (λ (x : ℕ). (x < n) × Marked (read first) x) (λ e u w a b j s. (below-n e u w j, r .closed h e u w a b j s)) (f .way)
       (f .below, λ q. omega (arith, r .state .tree .roots (f .root) (f .below) (f .is-start))) .1;
   plain = r .plain;
 }
@@ -297,7 +298,7 @@ reached {order = order} t (suc m) k l c = elim (t .tree k c) [
 ]
 
 pub tree-sound : {g : Graph} {live pass start : ℕ → Type 0} {n : ℕ} {first order : List ℕ} {count : ℕ} → Tree g live pass start n first order count
-    → (v : ℕ) → v < n → Marked first v → FromStart g live pass start n v
+    → (v : ℕ) → v < n → Marked (read first) v → FromStart g live pass start n v
 tree-sound {g} {live} {pass} {start} {n} t v l h = let o = t .listed v l h in
     subst (FromStart g live pass start n) (o .2) (reached t (suc (o .0)) (o .0) (omega arith) (o .1))
 

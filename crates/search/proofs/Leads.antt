@@ -8,20 +8,9 @@ use lib.ListN.{length, getD}
 use Rattle.connectivity.specs.Plan.{plan, graph}
 use Rattle.connectivity.specs.Graph.{Graph, Vertex, Joins}
 use Rattle.connectivity.proofs.Reach.{joins-sym, joins-vertex}
-use Rattle.search.specs.Search.{Live, Pass, Marked}
+use Rattle.graph.specs.Marks.{read, Live, Marked}
+use Rattle.search.specs.Search.{Pass}
 use Rattle.search.specs.Sweep.{Edge, Lead}
-
--- a vertex is below n; what an edge joins is a vertex, and the edge is one of the table's
-pub vertex-below : (n : ℕ) (ends : List ℕ) (v : ℕ) → Vertex (graph (plan n ends)) v → v < n
-unfolding graph
-vertex-below n ends v h = h .below
-
-pub joins-below : (n : ℕ) (ends : List ℕ) (e u v : ℕ) → Joins (graph (plan n ends)) e u v → v < n
-joins-below n ends e u v j = vertex-below n ends v (joins-vertex (joins-sym j))
-
-pub joins-edge : (n : ℕ) (ends : List ℕ) (e u v : ℕ) → Joins (graph (plan n ends)) e u v → e < length ends / 2
-unfolding graph
-joins-edge n ends e u v j = j .edge .below
 
 module _ {n e : ℕ} {ends roles dead first : List ℕ} (h : Edge n e ends roles dead first) where
   abbrev g : Graph
@@ -45,25 +34,25 @@ module _ {n e : ℕ} {ends roles dead first : List ℕ} (h : Edge n e ends roles
   unfolding graph
   ends-are u v j = ⊎-elim (λ p. inl (sym (p .0), sym (p .1))) (λ p. inr (sym (p .1), sym (p .0))) (j .ends)
 
-  lead-none : ((u v : ℕ) → Live dead e → Pass roles u → Joins g e u v → Marked first u → ⊥) → Lead g (Live dead) (Pass roles) n e first n
+  lead-none : ((u v : ℕ) → Live dead e → Pass roles u → Joins g e u v → Marked (read first) u → ⊥) → Lead g (Live dead) (Pass roles) n e first n
   lead-none f = record { right = λ l. absurd (omega arith); whole = λ u v l p j m. absurd (f u v l p j m) }
 
   pub lead-dead : (getD dead e 0 ≡ 0 → ⊥) → Lead g (Live dead) (Pass roles) n e first n
   lead-dead d = lead-none λ u v l p j m. d l
 
-  pub lead-right : getD dead e 0 ≡ 0 → Marked first a × Pass roles a → Lead g (Live dead) (Pass roles) n e first b
+  pub lead-right : getD dead e 0 ≡ 0 → Marked (read first) a × Pass roles a → Lead g (Live dead) (Pass roles) n e first b
   lead-right l o = record {
     right = λ k. (a, h .left, o .0, o .1, l, joins);
-    whole = λ u v k p j m. ⊎-elim (λ q. inr (q .1)) (λ q. inl (subst (Marked first) (sym (q .1)) (o .0))) (ends-are u v j);
+    whole = λ u v k p j m. ⊎-elim (λ q. inr (q .1)) (λ q. inl (subst (Marked (read first)) (sym (q .1)) (o .0))) (ends-are u v j);
   }
 
-  module _ (shut-a : Marked first a → Pass roles a → ⊥) where
-    pub lead-left : getD dead e 0 ≡ 0 → Marked first b × Pass roles b → Lead g (Live dead) (Pass roles) n e first a
+  module _ (shut-a : Marked (read first) a → Pass roles a → ⊥) where
+    pub lead-left : getD dead e 0 ≡ 0 → Marked (read first) b × Pass roles b → Lead g (Live dead) (Pass roles) n e first a
     lead-left l o = record {
       right = λ k. (b, h .right, o .0, o .1, l, joins-sym joins);
-      whole = λ u v k p j m. ⊎-elim (λ q. absurd (shut-a (subst (Marked first) (q .0) m) (subst (Pass roles) (q .0) p))) (λ q. inr (q .1)) (ends-are u v j);
+      whole = λ u v k p j m. ⊎-elim (λ q. absurd (shut-a (subst (Marked (read first)) (q .0) m) (subst (Pass roles) (q .0) p))) (λ q. inr (q .1)) (ends-are u v j);
     }
 
-    pub lead-neither : (Marked first b → Pass roles b → ⊥) → Lead g (Live dead) (Pass roles) n e first n
+    pub lead-neither : (Marked (read first) b → Pass roles b → ⊥) → Lead g (Live dead) (Pass roles) n e first n
     lead-neither shut-b = lead-none λ u v l p j m. ⊎-elim
-        (λ q. shut-a (subst (Marked first) (q .0) m) (subst (Pass roles) (q .0) p)) (λ q. shut-b (subst (Marked first) (q .0) m) (subst (Pass roles) (q .0) p)) (ends-are u v j)
+        (λ q. shut-a (subst (Marked (read first)) (q .0) m) (subst (Pass roles) (q .0) p)) (λ q. shut-b (subst (Marked (read first)) (q .0) m) (subst (Pass roles) (q .0) p)) (ends-are u v j)

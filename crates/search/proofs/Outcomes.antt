@@ -4,21 +4,18 @@ use mathlib.Core.List.{List}
 use Prim.Native.Nat.{ℕ, _/_, _≤_}
 use mathlib.Core.Path.{_≡_, refl, sym, ap}
 use native.Mathlib.Omega.{arith}
-use lib.Dec.{leb, leb→le, le→leb}
 use lib.ListN.{length}
 use Rattle.connectivity.specs.Plan.{Plan, plan, graph, Limits, limits}
 use Rattle.connectivity.specs.Admission.{Answer, passed, Admitted}
-use Rattle.connectivity.proofs.Lists.{Decides, decides, decides-and}
+use Rattle.connectivity.proofs.Lists.{Decides, decides-le, decides-and}
 use Rattle.graph.specs.Admission.{toldBy, lent}
 use Rattle.graph.proofs.Lent.{RefusedBy, lent-enough, lent-short}
 use Rattle.search.specs.declared.Explored.{Explored}
 use Rattle.search.specs.declared.Explored.the-variants.{Refused, Seen, Met}
-use Rattle.search.specs.Search.{Live, Start, Pass, Goal, Found, Whole, Stopped, enough, Answered}
+use Rattle.graph.specs.Marks.{Live}
+use Rattle.search.specs.Search.{Start, Pass, Goal, Found, Whole, Stopped, enough, Answered}
 use Rattle.search.specs.Sweep.{Fit}
-use Rattle.search.proofs.Handed.{lent-zero, refused-not, refused-answer}
-
-pub at-most-is : (a b : ℕ) → Decides (leb a b) (a ≤ b)
-at-most-is a b = decides (leb a b) (leb→le a b, le→leb a b)
+use Rattle.graph.proofs.Handed.{lent-zero, refused-not, refused-answer}
 
 module _ (n : ℕ) (ends roles dead first order : List ℕ) where
   abbrev pub Room : Type 0
@@ -28,8 +25,8 @@ module _ (n : ℕ) (ends roles dead first order : List ℕ) where
   places = enough (plan n ends) roles dead first order
 
   pub room-is : Decides places Room
-  room-is = decides-and (at-most-is n (length roles))
-      (decides-and (at-most-is (length ends / 2) (length dead)) (decides-and (at-most-is n (length first)) (at-most-is n (length order))))
+  room-is = decides-and (decides-le n (length roles))
+      (decides-and (decides-le (length ends / 2) (length dead)) (decides-and (decides-le n (length first)) (decides-le n (length order))))
 
   pub fit : Admitted limits (plan n ends) → {edges : ℕ} → edges ≡ length ends / 2 → Room → Fit n edges ends roles dead first order
   fit a p r = record {

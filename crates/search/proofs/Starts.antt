@@ -8,9 +8,10 @@ use native.Mathlib.Decide.{ℕ-discrete}
 use borrow.Author.Count.{below-more}
 use lib.ListN.{length, getD, set, length-set}
 use lib.Seq.{getD-set-same, getD-set-other}
-use Rattle.search.specs.Search.{startMark, Start, flag, tally}
+use Rattle.graph.specs.Marks.{read, flag, tally}
+use Rattle.search.specs.Search.{startMark, Start}
 use Rattle.search.specs.Sweep.{Placed, cleared, started, Begun}
-use Rattle.search.proofs.Tally.{tally-suc, flag-pos, flag-zero, tally-same}
+use Rattle.graph.proofs.Tally.{tally-suc, flag-pos, flag-zero, tally-same}
 
 pub begun-none : (roles first order : List ℕ) → Begun 0 roles first order first order 0
 unfolding tally
@@ -27,14 +28,14 @@ begun-none roles first order = record {
 }
 
 -- the tally with one more mark
-tally-next : (a : List ℕ) (v x : ℕ) → v < length a → tally (set a v x) (v + 1) ≡ flag x + tally a v
+tally-next : (a : List ℕ) (v x : ℕ) → v < length a → tally (read (set a v x)) (v + 1) ≡ flag x + tally (read a) v
 tally-next a v x l =
     let one : v + 1 ≡ suc v = omega arith in
     rw one (omega (
       arith,
-      tally-suc (set a v x) v,
+      tally-suc (read (set a v x)) v,
       ap flag (getD-set-same a v x 0 l),
-      tally-same (set a v x) a v (λ k h. getD-set-other a v k x 0 (λ q. omega arith)),
+      tally-same (read (set a v x)) (read a) v (λ k h. getD-set-other a v k x 0 (λ q. omega arith)),
     ))
 
 module _ {roles first₀ order₀ first order : List ℕ} {v count : ℕ} (b : Begun v roles first₀ order₀ first order count) (lf : v < length first) (lo : count < length order) where

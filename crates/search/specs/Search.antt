@@ -12,11 +12,8 @@ use Rattle.connectivity.proofs.Through.{Through}
 use Rattle.connectivity.specs.Admission.{passed, Handed, served, refusal}
 use Rattle.search.specs.declared.Explored.{Explored}
 use Rattle.search.specs.declared.Explored.the-variants.{Refused, Seen, Met}
+use Rattle.graph.specs.Marks.{read, Live, Marked, tally}
 use Rattle.graph.specs.Admission.{answerOf, lent}
-
--- an edge is live if its mark is 0
-abbrev pub Live : List ℕ → ℕ → Type 0
-Live dead e = getD dead e 0 ≡ 0
 
 -- roles of vertices: 0 is passed through; 1 is a start, and passed through; 2 is reached only; above 2 is a goal: reached only, and
 -- where the search ends
@@ -33,20 +30,6 @@ Goal roles v = 2 < getD roles v 0
 abbrev pub startMark : ℕ
 startMark = 65535
 
--- a vertex was seen if its mark is not 0: that of a start, or one more than the edge by which it was first reached
-abbrev pub Marked : List ℕ → ℕ → Type 0
-Marked first v = getD first v 0 ≡ 0 → ⊥
-
--- how many of the first n vertices have been seen
-unfoldable pub flag : ℕ → ℕ
-flag zero = 0
-flag (suc k) = 1
-
-unfoldable pub tally : List ℕ → ℕ → ℕ
-unfolding flag
-tally marks zero = 0
-tally marks (suc n) = flag (getD marks n 0) + tally marks n
-
 -- v was first reached by a live edge from a vertex before place k of the order, and that one may be passed through
 pub record Reached (g : Graph) (live pass : ℕ → Type 0) (first order : List ℕ) (k v : ℕ) : Type 0 where
   pub place : ℕ
@@ -59,8 +42,8 @@ pub record Reached (g : Graph) (live pass : ℕ → Type 0) (first order : List 
 pub record Tree (g : Graph) (live pass start : ℕ → Type 0) (n : ℕ) (first order : List ℕ) (count : ℕ) : Type 0 where
   -- the first `count` places of the order have the seen vertices, each once
   pub valid : (k : ℕ) → k < count → getD order k 0 < n
-  pub marked : (k : ℕ) → k < count → Marked first (getD order k 0)
-  pub listed : (v : ℕ) → v < n → Marked first v → (k : ℕ) × (k < count) × (getD order k 0 ≡ v)
+  pub marked : (k : ℕ) → k < count → Marked (read first) (getD order k 0)
+  pub listed : (v : ℕ) → v < n → Marked (read first) v → (k : ℕ) × (k < count) × (getD order k 0 ≡ v)
   pub once : (j k : ℕ) → j < k → k < count → getD order j 0 ≡ getD order k 0 → ⊥
   -- every start is seen, and the starts come first
   pub roots : (v : ℕ) → v < n → start v → getD first v 0 ≡ startMark
@@ -78,15 +61,15 @@ pub record FromStart (g : Graph) (live pass start : ℕ → Type 0) (n v : ℕ) 
 -- what a search leaves behind
 pub record Found (g : Graph) (live pass start : ℕ → Type 0) (n : ℕ) (first₀ order₀ first order : List ℕ) (count : ℕ) : Type 0 where
   pub tree : Tree g live pass start n first order count
-  pub counted : count ≡ tally first n
-  pub sound : (v : ℕ) → v < n → Marked first v → FromStart g live pass start n v
+  pub counted : count ≡ tally (read first) n
+  pub sound : (v : ℕ) → v < n → Marked (read first) v → FromStart g live pass start n v
   -- numbers behind the needed ones stay
   pub first-rest : (k : ℕ) → n ≤ k → getD first k 0 ≡ getD first₀ k 0
   pub order-rest : (k : ℕ) → count ≤ k → getD order k 0 ≡ getD order₀ k 0
 
 -- it has met no goal, and so has seen everything that is reached
 pub record Whole (g : Graph) (live pass start goal : ℕ → Type 0) (n : ℕ) (first order : List ℕ) (count : ℕ) : Type 0 where
-  pub whole : (v : ℕ) → v < n → FromStart g live pass start n v → Marked first v
+  pub whole : (v : ℕ) → v < n → FromStart g live pass start n v → Marked (read first) v
   pub plain : (k : ℕ) → k < count → goal (getD order k 0) → ⊥
 
 -- it ended at a goal, the last vertex of the order and the only goal in it

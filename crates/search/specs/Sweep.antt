@@ -8,7 +8,8 @@ use lib.ListN.{length, getD, set}
 use Rattle.connectivity.specs.Plan.{plan, graph, limits}
 use Rattle.connectivity.specs.Graph.{Graph, Joins}
 use Rattle.search.specs.declared.Progress.{Progress}
-use Rattle.search.specs.Search.{startMark, Live, Start, Pass, Goal, Marked, tally, Tree, Whole, Stopped}
+use Rattle.graph.specs.Marks.{read, Live, Marked, tally}
+use Rattle.search.specs.Search.{startMark, Start, Pass, Goal, Tree, Whole, Stopped}
 
 -- an admitted plan, and slices that are long enough
 pub record Fit (n edges : ℕ) (ends roles dead first order : List ℕ) : Type 0 where
@@ -34,7 +35,7 @@ pub record Edge (n e : ℕ) (ends roles dead first : List ℕ) : Type 0 where
 -- the search so far: what has been seen, and how many
 pub record State (g : Graph) (live pass start : ℕ → Type 0) (n : ℕ) (first order : List ℕ) (count : ℕ) : Type 0 where
   pub tree : Tree g live pass start n first order count
-  pub counted : count ≡ tally first n
+  pub counted : count ≡ tally (read first) n
   pub first-room : n ≤ length first
   pub order-room : n ≤ length order
 
@@ -48,7 +49,7 @@ pub record More (n : ℕ) (first order : List ℕ) (count : ℕ) (first′ order
   pub order-long : length order′ ≡ length order
   pub grows : count ≤ count′
   pub stays : (k : ℕ) → k < count → getD order′ k 0 ≡ getD order k 0
-  pub same : (v : ℕ) → Marked first v → getD first′ v 0 ≡ getD first v 0
+  pub same : (v : ℕ) → Marked (read first) v → getD first′ v 0 ≡ getD first v 0
   pub first-rest : (k : ℕ) → n ≤ k → getD first′ k 0 ≡ getD first k 0
   pub order-rest : (k : ℕ) → count′ ≤ k → getD order′ k 0 ≡ getD order k 0
 
@@ -65,7 +66,7 @@ pub record Begun (n : ℕ) (roles first order first′ order′ : List ℕ) (cou
   pub starts : (k : ℕ) → k < count → (getD order′ k 0 < n) × Start roles (getD order′ k 0)
   pub rising : (j k : ℕ) → j < k → k < count → getD order′ j 0 < getD order′ k 0
   pub listed : (v : ℕ) → v < n → Start roles v → (k : ℕ) × (k < count) × (getD order′ k 0 ≡ v)
-  pub counted : count ≡ tally first′ n
+  pub counted : count ≡ tally (read first′) n
   pub first-long : length first′ ≡ length first
   pub order-long : length order′ ≡ length order
   pub first-rest : (k : ℕ) → n ≤ k → getD first′ k 0 ≡ getD first k 0
@@ -73,17 +74,17 @@ pub record Begun (n : ℕ) (roles first order first′ order′ : List ℕ) (cou
 
 -- `open`: v has been seen and may be passed through
 pub record Opens (roles first : List ℕ) (v : ℕ) (r : Bool) : Type 0 where
-  pub yes : r ≡ true → Marked first v × Pass roles v
-  pub no : r ≡ false → Marked first v → Pass roles v → ⊥
+  pub yes : r ≡ true → Marked (read first) v × Pass roles v
+  pub no : r ≡ false → Marked (read first) v → Pass roles v → ⊥
 
 -- `lead`: r is a vertex to which e leads from one that is open, or no vertex
 pub record Lead (g : Graph) (live pass : ℕ → Type 0) (n e : ℕ) (first : List ℕ) (r : ℕ) : Type 0 where
-  pub right : r < n → (u : ℕ) × (u < n) × Marked first u × pass u × live e × Joins g e u r
-  pub whole : (u v : ℕ) → live e → pass u → Joins g e u v → Marked first u → Marked first v ⊎ (v ≡ r)
+  pub right : r < n → (u : ℕ) × (u < n) × Marked (read first) u × pass u × live e × Joins g e u r
+  pub whole : (u v : ℕ) → live e → pass u → Joins g e u v → Marked (read first) u → Marked (read first) v ⊎ (v ≡ r)
 
 -- `note`: nothing, or w is put at the end of the order
 pub data Noted (n w e : ℕ) (first order : List ℕ) (count : ℕ) (first′ order′ : List ℕ) (count′ : ℕ) : Type 0 where
-  kept : first′ ≡ first → order′ ≡ order → count′ ≡ count → (w < n → Marked first w) → Noted n w e first order count first′ order′ count′
+  kept : first′ ≡ first → order′ ≡ order → count′ ≡ count → (w < n → Marked (read first) w) → Noted n w e first order count first′ order′ count′
   added : w < n → getD first w 0 ≡ 0 → first′ ≡ set first w (e + 1) → order′ ≡ set order count w → count′ ≡ count + 1
       → Noted n w e first order count first′ order′ count′
 
@@ -91,7 +92,7 @@ pub record Ready (n e count : ℕ) (first order : List ℕ) : Type 0 where
   pub first-room : n ≤ length first
   pub order-room : n ≤ length order
   pub small : e < 65534
-  pub counted : count ≡ tally first n
+  pub counted : count ≡ tally (read first) n
 
 -- `is_met`: w was added, and is a goal
 pub record Meets (roles : List ℕ) (w count next : ℕ) (r : Bool) : Type 0 where
@@ -110,7 +111,7 @@ pub record Swept (g : Graph) (live pass start goal : ℕ → Type 0) (n : ℕ) (
   pub more : More n first order count first′ order′ (p .count)
   pub stopped : p .met ≡ true → Stopped goal order′ (p .count)
   pub plain : p .met ≡ false → Plain goal order′ (p .count)
-  pub whole : p .met ≡ false → (e u v : ℕ) → live e → pass u → Joins g e u v → Marked first u → Marked first′ v
+  pub whole : p .met ≡ false → (e u v : ℕ) → live e → pass u → Joins g e u v → Marked (read first) u → Marked (read first′) v
 
 -- `rounds`
 pub record Rounded (g : Graph) (live pass start goal : ℕ → Type 0) (n : ℕ) (first order : List ℕ) (count : ℕ) (first′ order′ : List ℕ) (p : Progress) : Type 0 where

@@ -9,7 +9,8 @@ ghost use lib.ListN.{length};
 ghost use Rattle.connectivity.specs.Plan.{plan, graph, limits};
 ghost use Rattle.graph.specs.Tells.{Tells};
 ghost use Rattle.connectivity.specs.Admission.{Admitted};
-ghost use Rattle.search.specs.Search.{Live, Pass, Start, Goal, Answered};
+ghost use Rattle.graph.specs.Marks.{Live};
+ghost use Rattle.search.specs.Search.{Pass, Start, Goal, Answered};
 ghost use Rattle.search.specs.Sweep as sweeps;
 
 // What a search answers: refused; how many vertices were seen; or how many with the goal at which it ended.

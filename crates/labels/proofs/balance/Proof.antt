@@ -1,46 +1,62 @@
--- `balance` meets its contract: labels and sums begin as 0, and agree from there on; what lies behind the labels stays.
-use native.Mathlib.Omega.{arith}
+-- `balance` meets its contract: refused by the plan or for want of space, or labelled along the order.
+use mathlib.Core.Path.{_≡_}
+use mathlib.Core.Bool.{not}
 use borrow.Author.Needs.{needs}
-use Rattle.labels.proofs.Sums.{summed-start, kept-then}
+use Rattle.connectivity.specs.Plan.{plan, limits}
+use Rattle.graph.specs.Admission.{toldBy, lent}
+use Rattle.labels.specs.Answered.{fits}
+use Rattle.labels.proofs.LongEnough.{room-is, lent-told, told-admitted, told-room, told-refused}
+use Rattle.labels.proofs.Labelled.{labelled-refused, labelled-done}
 use Rattle.labels.proofs.balance.Statement.{statement}
 use Rattle.labels.proofs.balance.Tie as tie
 
-clear-requires : tie.Need-clear-requires
-clear-requires c κs = search needs
+-- the answer is the one that the promise names, and 0 tells that the plan is admitted and that there is room
+told : (c : tie.After-refusal) → let a = c .before .before .before .before .before .before .before .args in
+    c .refusal .result ≡ toldBy (lent limits (plan (a .vertices) (a .ends .now)) (fits (plan (a .vertices) (a .ends .now)) (a .first .now) (a .order .now) (a .labels .now) (a .sums .now)))
+told c =
+    let a = c .before .before .before .before .before .before .before .args in
+    let p = plan (a .vertices) (a .ends .now) in
+    lent-told limits p (not (c .before .is-tight .result)) (room-is p (a .first .now) (a .order .now) (a .labels .now) (a .sums .now)) (c .before .is-tight .ensures) (c .refusal .ensures)
 
-slice-aggregate-scatter : tie.Need-slice-aggregate-scatter
-slice-aggregate-scatter c = search needs
+is-tight-requires : tie.Need-is-tight-requires
+is-tight-requires c κs = search needs
 
-scatter-requires : tie.Need-scatter-requires
-scatter-requires c κs =
-    let clear = c .before .before .before .before in
-    let start = clear .before .before .before .before .before .before in
-    (start .pre .0, summed-start (start .pre .0) (omega (arith, start .pre .4)) (clear .clear .ensures .0))
+refusal-requires : tie.Need-refusal-requires
+refusal-requires c κs = search needs
 
-slice-aggregate-settle : tie.Need-slice-aggregate-settle
-slice-aggregate-settle c = search needs
-
-settle-requires : tie.Need-settle-requires
-settle-requires c κs = search needs
+distribute-requires : tie.Need-distribute-requires
+distribute-requires c κs =
+    let then = c .before .before in
+    let a = then .before .before .before .before .before .before .before .before .args in
+    let p = plan (a .vertices) (a .ends .now) in
+    let room = fits p (a .first .now) (a .order .now) (a .labels .now) (a .sums .now) in (
+      told-admitted limits p room (told (then .before)) (then .if1 .taken),
+      told-room limits p room (told (then .before)) (then .if1 .taken) (room-is p (a .first .now) (a .order .now) (a .labels .now) (a .sums .now)),
+    )
 
 same-length : tie.Need-same-length
 same-length c = search needs
 
+same-length-2 : tie.Need-same-length-2
+same-length-2 c = search needs
+
 returns : tie.Need-returns
 returns c =
-    let settle = c .before .before .before in
-    let scatter = settle .before .before .before .before .before .before in
-    let clear = scatter .before .before .before .before .before in
-    (settle .settle .ensures .0, kept-then (clear .clear .ensures .1) (kept-then (scatter .scatter .ensures .1) (settle .settle .ensures .1)))
+    let distribute = c .before .before .before .before in
+    let then = distribute .before .before .before in
+    labelled-done _ _ _ _ (told (then .before)) (then .if1 .taken) (distribute .distribute .ensures)
+
+returns-2 : tie.Need-returns-2
+returns-2 c = labelled-refused _ _ _ _ (told-refused _ _ _ (told (c .before)) (c .if1 .left))
 
 pub balance-spec : {M : Type 1} → statement M
 balance-spec =
     tie.close
     (tie.spec
-    clear-requires
-    slice-aggregate-scatter
-    scatter-requires
-    slice-aggregate-settle
-    settle-requires
+    is-tight-requires
+    refusal-requires
+    distribute-requires
     same-length
-    returns)
+    same-length-2
+    returns
+    returns-2)

@@ -1,100 +1,116 @@
--- `label` meets its contract: the search is refused only where the plan is, and sees every vertex exactly where the graph is connected.
-use mathlib.Core.Path.{ap}
+-- `label` meets its contract: refused by the plan or for want of space, and nothing is written; else the forest, and the labels along it.
+use mathlib.Core.Path.{_≡_}
+use mathlib.Core.Bool.{not}
 use native.Mathlib.Omega.{arith}
 use borrow.Author.Needs.{needs}
-use Prim.Native.Nat.{ℕ, _-_}
-use lib.ListN.{replicate, length-replicate}
-use Rattle.connectivity.specs.Plan.{plan, limits}
-use Rattle.connectivity.specs.Admission.{Answer, Admitted}
-use Rattle.graph.proofs.Lent.{lent-passed, lent-refused, refused-own}
-use Rattle.search.proofs.From0.{no-goal, not-admitted}
-use Rattle.search.proofs.Outcomes.{by-cases}
-use Rattle.labels.proofs.Spanning.{searched}
-use Rattle.labels.proofs.Answers.{answers-refused}
+use Rattle.connectivity.specs.Plan.{Plan, plan, limits}
+use Rattle.connectivity.specs.Admission.{Admitted}
+use Rattle.graph.specs.Admission.{toldBy, lent}
+use Rattle.labels.specs.Answered.{Tables, tables, enough}
+use Rattle.labels.proofs.LongEnough.{AmpleFor, ample-is, ample-spacious, ample-rooms, lent-told, told-refused, told-admitted, told-room, told-number}
+use Rattle.labels.proofs.Answers.{cancelled, answers-refused, answers-served}
 use Rattle.labels.proofs.label.Statement.{statement}
 use Rattle.labels.proofs.label.Tie as tie
 
-array-write-roles : tie.Need-array-write-roles
-array-write-roles c = search needs
+-- the plan, and the tables as they were lent
+abbrev planned : tie.After-refusal → Plan
+planned c = let a = c .before .before .before .before .before .before .before .before .before .before .before .args in plan (a .vertices) (a .ends .now)
 
-slice-aggregate-explore : tie.Need-slice-aggregate-explore
-slice-aggregate-explore c = search needs
+abbrev lending : tie.After-refusal → Tables
+lending c =
+    let a = c .before .before .before .before .before .before .before .before .before .before .before .args in
+    tables (a .incident .now) (a .begins .now) (a .dead .now) (a .first .now) (a .order .now) (a .cursor .now) (a .labels .now) (a .sums .now)
 
-slice-aggregate-explore-2 : tie.Need-slice-aggregate-explore-2
-slice-aggregate-explore-2 c = search needs
+-- the answer is the one that the promise names
+told : (c : tie.After-refusal) → c .refusal .result ≡ toldBy (lent limits (planned c) (enough (planned c) (lending c)))
+told c = lent-told limits (planned c) (not (c .before .is-short .result)) (ample-is (planned c) (lending c)) (c .before .is-short .ensures) (c .refusal .ensures)
 
-slice-aggregate-explore-3 : tie.Need-slice-aggregate-explore-3
-slice-aggregate-explore-3 c = search needs
+-- 0: the plan is admitted, and there is room for all
+admitted : (c : tie.Else1) → Admitted limits (planned (c .before))
+admitted c = told-admitted limits (planned (c .before)) (enough (planned (c .before)) (lending (c .before))) (told (c .before)) (c .if1 .left)
 
-slice-aggregate-explore-4 : tie.Need-slice-aggregate-explore-4
-slice-aggregate-explore-4 c = search needs
+ample : (c : tie.Else1) → AmpleFor (planned (c .before)) (lending (c .before))
+ample c = told-room limits (planned (c .before)) (enough (planned (c .before)) (lending (c .before))) (told (c .before)) (c .if1 .left) (ample-is (planned (c .before)) (lending (c .before)))
 
-explore-requires : tie.Need-explore-requires
-explore-requires c κs = search needs
+is-short-requires : tie.Need-is-short-requires
+is-short-requires c κs = search needs
 
-enum-known-found : tie.Need-enum-known-found
-enum-known-found c = search needs
-
-enum-told : tie.Need-enum-told
-enum-told c = search needs
-
-enum-known-found-2 : tie.Need-enum-known-found-2
-enum-known-found-2 c = search needs
-
-slice-aggregate-label-seen : tie.Need-slice-aggregate-label-seen
-slice-aggregate-label-seen c = search needs
-
-slice-aggregate-label-seen-2 : tie.Need-slice-aggregate-label-seen-2
-slice-aggregate-label-seen-2 c = search needs
-
-label-seen-requires : tie.Need-label-seen-requires
-label-seen-requires c κs =
-    let found = c .before .before .before .before in
-    let explore = found .before .before .before .before in
-    let e = rw (found .found2 .given .1) at (by-cases _ _ _ _ _ _ _ _ _ (explore .explore .ensures)) in
-    let a = lent-passed _ (ap (λ (x : Answer). x .number) (e .0)) in
-    (a, searched (limits .vertices - 1) (limits .edges) a (e .1) (e .2), omega (arith, a .vertices), omega (arith, a .vertices))
+refusal-requires : tie.Need-refusal-requires
+refusal-requires c κs = search needs
 
 returns : tie.Need-returns
-returns c =
-    let explore = c .before .before .before .before .before in
-    let e = rw (c .before .found .given .1) at (by-cases _ _ _ _ _ _ _ _ _ (explore .explore .ensures)) in
-    let a = explore .before .before .before .before .before .before .before .args in
-    let bad : Admitted limits (plan (a .vertices) (a .ends .now)) → ⊥ =
-    let edges = length-replicate {A = ℕ} (limits .edges) 0 in
-    let vertices = length-replicate {A = ℕ} (limits .vertices) 0 in
-    not-admitted (replicate (limits .edges) 0) (replicate (limits .vertices) 0) (replicate (limits .vertices) 0) edges vertices vertices (e .0 .0) in
-    answers-refused _ _ _ (lent-refused _ bad (refused-own _ bad (e .0)))
+returns c = answers-refused limits (planned (c .before)) (lending (c .before))
+    (told-refused limits (planned (c .before)) (enough (planned (c .before)) (lending (c .before))) (told (c .before)) (c .if1 .taken))
 
-returns-2 : tie.Need-returns-2
-returns-2 c =
-    let explore = c .before .before .before .before in
-    let e = rw (c .enum-told .given .1) at (by-cases _ _ _ _ _ _ _ _ _ (explore .explore .ensures)) in
-    absurd (no-goal (limits .vertices - 1) (e .2))
+plant-requires : tie.Need-plant-requires
+plant-requires c κs =
+    let left = c .before .before .before .before .before .before in
+    (admitted left, ample-spacious (planned (left .before)) (lending (left .before)) (ample left), ample-rooms (planned (left .before)) (lending (left .before)) (ample left))
+
+distribute-requires : tie.Need-distribute-requires
+distribute-requires c κs =
+    let plant = c .before .before .before .before .before .before .before .before .before .before .before .before .before .before .before .before in
+    let left = plant .before .before .before .before .before .before .before in
+    let s = plant .plant .ensures .spanned in
+    let r = ample left .room in (
+      admitted left,
+      record { marks = omega (arith, r .marks, s .first-kept .long); places = omega (arith, r .places, s .order-kept .long); edges = r .edges; vertices = r .vertices },
+    )
+
+told-requires : tie.Need-told-requires
+told-requires c κs = search needs
 
 same-length : tie.Need-same-length
 same-length c = search needs
 
-returns-3 : tie.Need-returns-3
-returns-3 c = search needs
+same-length-2 : tie.Need-same-length-2
+same-length-2 c = search needs
+
+same-length-3 : tie.Need-same-length-3
+same-length-3 c = search needs
+
+same-length-4 : tie.Need-same-length-4
+same-length-4 c = search needs
+
+same-length-5 : tie.Need-same-length-5
+same-length-5 c = search needs
+
+same-length-6 : tie.Need-same-length-6
+same-length-6 c = search needs
+
+same-length-7 : tie.Need-same-length-7
+same-length-7 c = search needs
+
+same-length-8 : tie.Need-same-length-8
+same-length-8 c = search needs
+
+returns-2 : tie.Need-returns-2
+returns-2 c =
+    let distribute = c .before .before .before .before .before in
+    let plant = distribute .before .before .before .before .before .before .before .before .before .before .before .before .before .before .before .before .before in
+    let left = plant .before .before .before .before .before .before .before in
+    let p = planned (left .before) in
+    let t = lending (left .before) in
+    let made = plant .plant .ensures in
+    answers-served limits p t (told-number limits p (enough p t) (told (left .before)) (left .if1 .left)) (c .told .ensures) (made .told) (made .laid) (made .spanned)
+    (cancelled (admitted left) (ample left .room .vertices) (made .spanned .forest) (distribute .distribute .ensures))
 
 pub label-spec : {M : Type 1} → statement M
 label-spec =
     tie.close
     (tie.spec
-    array-write-roles
-    slice-aggregate-explore
-    slice-aggregate-explore-2
-    slice-aggregate-explore-3
-    slice-aggregate-explore-4
-    explore-requires
-    enum-known-found
-    enum-told
-    enum-known-found-2
-    slice-aggregate-label-seen
-    slice-aggregate-label-seen-2
-    label-seen-requires
+    is-short-requires
+    refusal-requires
     returns
-    returns-2
+    plant-requires
+    distribute-requires
+    told-requires
     same-length
-    returns-3)
+    same-length-2
+    same-length-3
+    same-length-4
+    same-length-5
+    same-length-6
+    same-length-7
+    same-length-8
+    returns-2)

@@ -1,23 +1,23 @@
--- `scatter` meets its contract. The loop's invariant: the sums are those of the labels, and what lies behind these has stayed.
-use mathlib.Core.Path.{_≡_, refl, _∙_}
+-- `scatter` meets its contract. The loop's invariant: the sums are those of the labels, and what lies behind has stayed.
+use mathlib.Core.Path.{_≡_, refl}
 use Prim.Native.Nat.{_-_, _/_}
 use native.Mathlib.Omega.{arith}
 use borrow.Author.Needs.{needs}
 use lib.ListN.{length}
-use Rattle.labels.specs.Labels.{Kept, Summed}
-use Rattle.labels.proofs.Sums.{ready, summed-toggled, kept-all, kept-then, kept-toggled, sums-long}
+use Rattle.connectivity.specs.Plan.{plan}
+use Rattle.labels.specs.Labels.{Scattered}
+use Rattle.labels.proofs.Sums.{ready, scattered-start, scattered-toggled}
 use Rattle.labels.proofs.scatter.Statement.{statement}
 use Rattle.labels.proofs.scatter.Tie as tie
 
 abbrev Inv-loop : tie.InvT-loop
-Inv-loop vertices ends labels₀ sums₀ edges e₀ labels sums e =
-    (edges ≡ length ends / 2) × Kept (length ends / 2) labels₀ labels × (length sums ≡ length sums₀) × Summed vertices ends labels sums
+Inv-loop vertices ends labels₀ sums₀ edges e₀ labels sums e = (edges ≡ length ends / 2) × Scattered (plan vertices ends) labels₀ sums₀ labels sums
 
 abbrev μ-loop : tie.MeasureT-loop
 μ-loop vertices ends labels₀ sums₀ edges e₀ labels sums e = edges - e
 
 loop-holds : tie.Need-loop-holds Inv-loop μ-loop
-loop-holds c = (refl, kept-all _ _, refl, c .before .before .before .pre .1)
+loop-holds c = (refl, scattered-start (c .before .before .before .pre .1))
 
 mix-requires : tie.Need-mix-requires Inv-loop μ-loop
 mix-requires c κs = search needs
@@ -25,7 +25,7 @@ mix-requires c κs = search needs
 toggle-requires : tie.Need-toggle-requires Inv-loop μ-loop
 toggle-requires c κs =
     let l = c .before .before .before .before in
-    ready (l .before .before .before .before .pre .0) (omega (arith, l .loop .inv .0, c .before .before .before .loop-test .taken)) (l .loop .inv .3)
+    ready (l .before .before .before .before .pre .0) (omega (arith, l .loop .inv .0, c .before .before .before .loop-test .taken)) (l .loop .inv .1 .summed)
 
 add-e : tie.Need-add-e Inv-loop μ-loop
 add-e c = omega arith
@@ -37,22 +37,19 @@ loop-again : tie.Need-loop-again Inv-loop μ-loop
 loop-again c =
     let toggle = c .before .before .before .before in
     let in-loop = toggle .before .before .before .before in
-    let l = in-loop .before in
-    let t = toggle .toggle .ensures in (
+    let l = in-loop .before in (
       l .loop .inv .0,
-      kept-then (l .loop .inv .1) (kept-toggled t (omega (arith, l .loop .inv .0, in-loop .loop-test .taken))),
-      sums-long t ∙ l .loop .inv .2,
-      summed-toggled (l .before .before .before .before .pre .0) (omega (arith, l .loop .inv .0, in-loop .loop-test .taken)) (l .loop .inv .3) t,
+      scattered-toggled (l .before .before .before .before .pre .0) (omega (arith, l .loop .inv .0, in-loop .loop-test .taken)) (l .loop .inv .1) (toggle .toggle .ensures),
     )
 
 same-length : tie.Need-same-length Inv-loop μ-loop
-same-length c = c .before .loop .inv .1 .long
+same-length c = c .before .loop .inv .1 .labels-kept .long
 
 same-length-2 : tie.Need-same-length-2 Inv-loop μ-loop
-same-length-2 c = c .before .loop .inv .2
+same-length-2 c = c .before .loop .inv .1 .sums-kept .long
 
 returns : tie.Need-returns Inv-loop μ-loop
-returns c = let i = c .before .loop .inv in (i .3, i .1)
+returns c = c .before .loop .inv .1
 
 pub scatter-spec : {M : Type 1} → statement M
 scatter-spec =

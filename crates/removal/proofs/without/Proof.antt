@@ -1,53 +1,71 @@
 -- `without` meets its contract: what the search has seen is what vertex 0 reaches once the cut is removed.
 use borrow.Author.Needs.{needs}
-use Rattle.search.proofs.Outcomes.{by-cases}
-use Rattle.removal.proofs.Parted.{searched}
+use Rattle.removal.proofs.Parted.{own-refusal, searched}
 use Rattle.removal.proofs.without.Statement.{statement}
 use Rattle.removal.proofs.without.Tie as tie
 
-array-write-roles : tie.Need-array-write-roles
-array-write-roles c = search needs
-
-slice-aggregate-remove : tie.Need-slice-aggregate-remove
-slice-aggregate-remove c = search needs
-
-remove-requires : tie.Need-remove-requires
-remove-requires c κs = search needs
-
-slice-aggregate-explore : tie.Need-slice-aggregate-explore
-slice-aggregate-explore c = search needs
-
-slice-aggregate-explore-2 : tie.Need-slice-aggregate-explore-2
-slice-aggregate-explore-2 c = search needs
-
-slice-aggregate-explore-3 : tie.Need-slice-aggregate-explore-3
-slice-aggregate-explore-3 c = search needs
-
-explore-requires : tie.Need-explore-requires
-explore-requires c κs = search needs
+fill-requires : tie.Need-fill-requires
+fill-requires c κs = search needs
 
 same-length : tie.Need-same-length
 same-length c = search needs
 
+same-length-2 : tie.Need-same-length-2
+same-length-2 c = search needs
+
 returns : tie.Need-returns
 returns c =
-    let explore = c .before .before .before in
-    let remove = explore .before .before .before .before .before .before in
-    let start = remove .before .before .before .before .before in
-    let last = explore .explore .last .1 .1 .1 .1 in
-    searched (start .args .vertices) (start .args .ends .now) (start .args .first .now) (last .0) (last .1 .0) (explore .explore .result)
-    (remove .remove .ensures) (start .pre) (by-cases _ _ _ _ _ _ _ _ (explore .explore .result) (explore .explore .ensures))
+    let fill = c .before .before .before .before .before in
+    let start = fill .before .before .before .before .before .before .before .before .before .before .before in
+    own-refusal (start .pre) (fill .fill .ensures) (c .if1 .taken)
+
+remove-requires : tie.Need-remove-requires
+remove-requires c κs = search needs
+
+explore-requires : tie.Need-explore-requires
+explore-requires c κs = search needs
+
+same-length-3 : tie.Need-same-length-3
+same-length-3 c = search needs
+
+same-length-4 : tie.Need-same-length-4
+same-length-4 c = search needs
+
+same-length-5 : tie.Need-same-length-5
+same-length-5 c = search needs
+
+same-length-6 : tie.Need-same-length-6
+same-length-6 c = search needs
+
+same-length-7 : tie.Need-same-length-7
+same-length-7 c = search needs
+
+same-length-8 : tie.Need-same-length-8
+same-length-8 c = search needs
+
+returns-2 : tie.Need-returns-2
+returns-2 c =
+    let explore = c .before .before .before .before .before .before in
+    let remove = explore .before .before .before .before .before .before .before .before .before in
+    let passed = remove .before .before in
+    let fill = passed .before .before .before .before .before in
+    let start = fill .before .before .before .before .before .before .before .before .before .before .before in
+    searched (start .pre) (fill .fill .ensures) (passed .if1 .left) (remove .remove .ensures) _ _ _ (explore .explore .result) (explore .explore .ensures)
 
 pub without-spec : {M : Type 1} → statement M
 without-spec =
     tie.close
     (tie.spec
-    array-write-roles
-    slice-aggregate-remove
-    remove-requires
-    slice-aggregate-explore
-    slice-aggregate-explore-2
-    slice-aggregate-explore-3
-    explore-requires
+    fill-requires
     same-length
-    returns)
+    same-length-2
+    returns
+    remove-requires
+    explore-requires
+    same-length-3
+    same-length-4
+    same-length-5
+    same-length-6
+    same-length-7
+    same-length-8
+    returns-2)

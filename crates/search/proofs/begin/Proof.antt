@@ -3,7 +3,8 @@ use mathlib.Core.Path.{_≡_, subst}
 use Prim.Native.Nat.{ℕ, _-_, _≤_}
 use native.Mathlib.Omega.{arith}
 use Rattle.search.specs.Sweep.{Begun}
-use Rattle.search.proofs.Tally.{tally-le}
+use Rattle.graph.specs.Marks.{read}
+use Rattle.graph.proofs.Tally.{tally-le}
 use Rattle.search.proofs.Starts.{begun-none, begun-next}
 use Rattle.search.proofs.begin.Statement.{statement}
 use Rattle.search.proofs.begin.Tie as tie
@@ -22,7 +23,7 @@ place-requires : tie.Need-place-requires Inv-loop μ-loop
 place-requires c κs =
     let l = c .before .before .before in
     let b = l .loop .inv .1 in
-    omega (arith, b .first-long, b .order-long, b .counted, tally-le (l .loop .first) (l .loop .v))
+    omega (arith, b .first-long, b .order-long, b .counted, tally-le (read (l .loop .first)) (l .loop .v))
 
 add-v : tie.Need-add-v Inv-loop μ-loop
 add-v c = omega arith
@@ -36,7 +37,7 @@ loop-again c =
     let l = at-place .before .before .before .before in
     let b = l .loop .inv .1 in (
       omega arith,
-      begun-next b (omega (arith, b .first-long)) (omega (arith, b .order-long, b .counted, tally-le (l .loop .first) (l .loop .v))) (at-place .place .ensures),
+      begun-next b (omega (arith, b .first-long)) (omega (arith, b .order-long, b .counted, tally-le (read (l .loop .first)) (l .loop .v))) (at-place .place .ensures),
     )
 
 same-length : tie.Need-same-length Inv-loop μ-loop

@@ -3,7 +3,8 @@ use mathlib.Core.Path.{refl}
 use native.Mathlib.Omega.{arith}
 use borrow.Author.Needs.{needs}
 use Rattle.search.specs.Sweep.{kept, added}
-use Rattle.search.proofs.Tally.{tally-lt}
+use Rattle.graph.specs.Marks.{read}
+use Rattle.graph.proofs.Tally.{tally-lt}
 use Rattle.search.proofs.note.Statement.{statement}
 use Rattle.search.proofs.note.Tie as tie
 
@@ -32,10 +33,10 @@ mul-order : tie.Need-mul-order
 mul-order c = search needs
 
 slice-write-order : tie.Need-slice-write-order
-slice-write-order c = let a = c .before .before .before .args in omega (arith, tally-lt (a .first .now) (a .vertices) (a .w) (omega arith) (c .if2 .left))
+slice-write-order c = let a = c .before .before .before .args in omega (arith, tally-lt (read (a .first .now)) (a .vertices) (a .w) (omega arith) (c .if2 .left))
 
 add-result : tie.Need-add-result
-add-result c = let a = c .before .before .before .args in omega (arith, tally-lt (a .first .now) (a .vertices) (a .w) (omega arith) (c .if2 .left))
+add-result c = let a = c .before .before .before .args in omega (arith, tally-lt (read (a .first .now)) (a .vertices) (a .w) (omega arith) (c .if2 .left))
 
 same-length : tie.Need-same-length
 same-length c = search needs

@@ -4,9 +4,10 @@ use mathlib.Core.Bool.{true≢false, false≢true}
 use Prim.Native.Nat.{_-_}
 use native.Mathlib.Omega.{arith}
 use Rattle.connectivity.specs.Plan.{plan, graph}
-use Rattle.search.specs.Search.{Live, Pass, Start, Goal}
+use Rattle.graph.specs.Marks.{Live}
+use Rattle.search.specs.Search.{Pass, Start, Goal}
 use Rattle.search.proofs.Growth.{Rounds, rounds-start, rounds-step, rounds-end, more-trans, at-most, fit-more}
-use Rattle.search.proofs.Leads.{joins-below}
+use Rattle.graph.proofs.Joined.{joins-below}
 use Rattle.search.proofs.rounds.Statement.{statement}
 use Rattle.search.proofs.rounds.Tie as tie
 

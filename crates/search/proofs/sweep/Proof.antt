@@ -3,10 +3,11 @@ use mathlib.Core.Bool.{true≢false, false≢true}
 use Prim.Native.Nat.{_-_, _≤_}
 use native.Mathlib.Omega.{arith}
 use Rattle.connectivity.specs.Plan.{plan, graph}
-use Rattle.search.specs.Search.{Live, Pass, Start, Goal}
+use Rattle.graph.specs.Marks.{Live}
+use Rattle.search.specs.Search.{Pass, Start, Goal}
 use Rattle.search.specs.Sweep.{More}
 use Rattle.search.proofs.Growth.{noted-below, Sweeping, sweeping-start, sweeping-step, sweeping-met, step-state, step-more, more-trans}
-use Rattle.search.proofs.Leads.{joins-below, joins-edge}
+use Rattle.graph.proofs.Joined.{joins-below, joins-edge}
 use Rattle.search.proofs.sweep.Statement.{statement}
 use Rattle.search.proofs.sweep.Tie as tie
 

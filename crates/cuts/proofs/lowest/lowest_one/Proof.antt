@@ -1,51 +1,92 @@
 -- `lowest_one` meets its contract: every edge before the one that is tried has been tried or passed over.
-use borrow.Author.Needs.{needs}
-use mathlib.Core.Path.{_≡_, refl, sym, _∙_}
+use mathlib.Core.Path.{_≡_, sym, ap, _∙_}
 use Prim.Native.Nat.{_-_, _≤_}
 use native.Mathlib.Omega.{arith}
+use lib.ListN.{length}
 use Rattle.connectivity.specs.Plan.{plan, graph}
 use Rattle.connectivity.specs.Cut.{disconnects, singles, firstOf}
 use Rattle.cuts.specs.Lowest.{firstOne}
+use Rattle.cuts.specs.Tries.{Restored}
 use Rattle.cuts.proofs.First.{from, one-found, one-next, one-over}
+use Rattle.cuts.proofs.Likes.{pass-one}
+use Rattle.cuts.proofs.Trying.{one-twice, ready-again, restored-same, restored-more}
+use borrow.Author.Needs.{needs}
 use Rattle.cuts.proofs.lowest.lowest_one.Statement.{statement}
 use Rattle.cuts.proofs.lowest.lowest_one.Tie as tie
 
 abbrev Inv-loop : tie.InvT-loop
-Inv-loop vertices ends labels edges e₀ e =
+Inv-loop vertices ends incident begins labels edges dead₀ first₀ order₀ cursor₀ e₀ dead first order cursor e =
     (e ≤ edges) × (firstOne (graph (plan vertices ends)) edges ≡ firstOf (disconnects (graph (plan vertices ends))) (singles (from e edges)))
+    × Restored dead₀ first₀ order₀ cursor₀ dead first order cursor
 
 abbrev μ-loop : tie.MeasureT-loop
-μ-loop vertices ends labels edges e₀ e = edges - e
+μ-loop vertices ends incident begins labels edges dead₀ first₀ order₀ cursor₀ e₀ dead first order cursor e = edges - e
+
+zero-from-requires : tie.Need-zero-from-requires Inv-loop μ-loop
+zero-from-requires c κs = (c .before .before .before .before .before .before .before .before .pre .0 .room, omega arith)
 
 loop-holds : tie.Need-loop-holds Inv-loop μ-loop
-loop-holds c = (omega arith, refl)
+loop-holds c = let z = c .zero-from .ensures in (z .high, pass-one _ _ (c .before .before .before .before .before .before .before .before .before .pre .0) z, restored-same)
 
-cast-one-cuts : tie.Need-cast-one-cuts Inv-loop μ-loop
-cast-one-cuts c = search needs
+is-cut-requires : tie.Need-is-cut-requires Inv-loop μ-loop
+is-cut-requires c κs =
+    let l = c .before .before .before .before .before in
+    let s = l .before .before .before .before .before .before .before .before .before .before .pre in
+    let h = c .before .before .before .before .loop-test .taken in
+    (ready-again (s .1) (l .loop .inv .2), omega (arith, h, s .0 .edges), omega (arith, h, s .0 .edges))
 
-mul-one-cuts : tie.Need-mul-one-cuts Inv-loop μ-loop
-mul-one-cuts c = search needs
+same-length : tie.Need-same-length Inv-loop μ-loop
+same-length c = ap length (c .before .before .before .before .before .before .before .before .before .is-cut .ensures .1 .dead-same ∙ c .before .before .before .before .before .before .before .before .before .before .before .before .before .before .before .loop .inv .2 .dead-same)
 
-shared-slice-read-one-cuts : tie.Need-shared-slice-read-one-cuts Inv-loop μ-loop
-shared-slice-read-one-cuts c = search needs
+same-length-2 : tie.Need-same-length-2 Inv-loop μ-loop
+same-length-2 c = ap length (c .before .before .before .before .before .before .before .before .before .is-cut .ensures .1 .first-same ∙ c .before .before .before .before .before .before .before .before .before .before .before .before .before .before .before .loop .inv .2 .first-same)
 
-one-cuts-requires : tie.Need-one-cuts-requires Inv-loop μ-loop
-one-cuts-requires c κs = let p = c .before .before .before .before .before .pre in (p .admitted, p .one _ (c .before .loop-test .taken))
+same-length-3 : tie.Need-same-length-3 Inv-loop μ-loop
+same-length-3 c = c .before .before .before .before .before .before .before .before .before .is-cut .ensures .1 .order-long ∙ c .before .before .before .before .before .before .before .before .before .before .before .before .before .before .before .loop .inv .2 .order-long
+
+same-length-4 : tie.Need-same-length-4 Inv-loop μ-loop
+same-length-4 c = c .before .before .before .before .before .before .before .before .before .is-cut .ensures .1 .cursor-long ∙ c .before .before .before .before .before .before .before .before .before .before .before .before .before .before .before .loop .inv .2 .cursor-long
 
 returns : tie.Need-returns Inv-loop μ-loop
-returns c = let i = c .before .before .before in (omega (arith, i .loop-test .taken), i .before .loop .inv .1 ∙ one-found _ _ _ (i .loop-test .taken) (sym (c .before .one-cuts .ensures) ∙ c .if1 .taken))
+returns c =
+    let t = c .before .before .before .before .before .before .before .before .before .is-cut .ensures in
+    let l = c .before .before .before .before .before .before .before .before .before .before .before .before .before .before .before .loop in
+    let h = c .before .before .before .before .before .before .before .before .before .before .before .before .before .before .loop-test .taken in
+    (l .inv .0, l .inv .1 ∙ one-found _ _ _ h (sym (one-twice _ _) ∙ sym (t .0) ∙ c .if1 .taken), restored-more (l .inv .2) (t .1))
 
-add-e : tie.Need-add-e Inv-loop μ-loop
-add-e c = search needs
+add-zero-from : tie.Need-add-zero-from Inv-loop μ-loop
+add-zero-from c = search needs
+
+zero-from-requires-2 : tie.Need-zero-from-requires-2 Inv-loop μ-loop
+zero-from-requires-2 c κs =
+    let l = c .before .before .before .before .before .before .before .before .before .before .before .before .before .before .before in
+    (l .before .before .before .before .before .before .before .before .before .before .pre .0 .room, omega (arith, c .before .before .before .before .before .before .before .before .before .before .before .before .before .before .loop-test .taken))
 
 loop-less : tie.Need-loop-less Inv-loop μ-loop
-loop-less c = search needs
+loop-less c = omega (arith, c .zero-from2 .ensures .low, c .zero-from2 .ensures .high, c .before .before .before .before .before .before .before .before .before .before .before .before .before .before .before .loop-test .taken)
 
 loop-again : tie.Need-loop-again Inv-loop μ-loop
-loop-again c = let i = c .before .before .before in (omega (arith, i .loop-test .taken), i .before .loop .inv .1 ∙ one-next _ _ _ (i .loop-test .taken) (sym (c .before .one-cuts .ensures) ∙ c .if1 .left))
+loop-again c =
+    let z = c .zero-from2 .ensures in
+    let t = c .before .before .before .before .before .before .before .before .before .before .is-cut .ensures in
+    let l = c .before .before .before .before .before .before .before .before .before .before .before .before .before .before .before .before .loop in
+    let h = c .before .before .before .before .before .before .before .before .before .before .before .before .before .before .before .loop-test .taken in
+    (z .high, l .inv .1 ∙ one-next _ _ _ h (sym (one-twice _ _) ∙ sym (t .0) ∙ c .before .if1 .left) ∙ pass-one _ _ (c .before .before .before .before .before .before .before .before .before .before .before .before .before .before .before .before .before .before .before .before .before .before .before .before .before .before .pre .0) z, restored-more (l .inv .2) (t .1))
+
+same-length-5 : tie.Need-same-length-5 Inv-loop μ-loop
+same-length-5 c = ap length (c .before .loop .inv .2 .dead-same)
+
+same-length-6 : tie.Need-same-length-6 Inv-loop μ-loop
+same-length-6 c = ap length (c .before .loop .inv .2 .first-same)
+
+same-length-7 : tie.Need-same-length-7 Inv-loop μ-loop
+same-length-7 c = c .before .loop .inv .2 .order-long
+
+same-length-8 : tie.Need-same-length-8 Inv-loop μ-loop
+same-length-8 c = c .before .loop .inv .2 .cursor-long
 
 returns-2 : tie.Need-returns-2 Inv-loop μ-loop
-returns-2 c = let l = c .before .loop in (omega arith, l .inv .1 ∙ one-over _ (l .e) _ (omega (arith, c .loop-test .left, l .inv .0)))
+returns-2 c = let l = c .before .loop in (omega arith, l .inv .1 ∙ one-over _ (l .e) _ (omega (arith, c .loop-test .left, l .inv .0)), l .inv .2)
 
 pub lowest-one-spec : {M : Type 1} → statement M
 lowest-one-spec =
@@ -53,13 +94,20 @@ lowest-one-spec =
     (tie.spec
     Inv-loop
     μ-loop
+    zero-from-requires
     loop-holds
-    cast-one-cuts
-    mul-one-cuts
-    shared-slice-read-one-cuts
-    one-cuts-requires
+    is-cut-requires
+    same-length
+    same-length-2
+    same-length-3
+    same-length-4
     returns
-    add-e
+    add-zero-from
+    zero-from-requires-2
     loop-less
     loop-again
+    same-length-5
+    same-length-6
+    same-length-7
+    same-length-8
     returns-2)

@@ -1,60 +1,85 @@
 -- `lowest_with` meets its contract: every edge between the two has been tried or passed over.
-use borrow.Author.Needs.{needs}
-use mathlib.Core.Path.{_≡_, refl, sym, _∙_}
-use Prim.Native.Nat.{_-_, _≤_, _<_}
+use mathlib.Core.Path.{sym, ap, _∙_}
+use Prim.Native.Nat.{_-_}
 use native.Mathlib.Omega.{arith}
+use lib.ListN.{length}
 use Rattle.connectivity.specs.Plan.{plan, graph}
-use Rattle.connectivity.specs.Cut.{disconnects, pairsWith, firstOf}
-use Rattle.cuts.specs.Lowest.{firstWith}
-use Rattle.cuts.proofs.First.{from, with-found, with-next, with-over}
+use Rattle.cuts.specs.Tries.{Restored}
+use Rattle.cuts.proofs.First.{with-found, with-over}
+use Rattle.cuts.proofs.Likes.{With, with-start, with-on}
+use Rattle.cuts.proofs.Trying.{ready-again, restored-same, restored-more}
+use borrow.Author.Needs.{needs}
 use Rattle.cuts.proofs.lowest.lowest_with.Statement.{statement}
 use Rattle.cuts.proofs.lowest.lowest_with.Tie as tie
 
 abbrev Inv-loop : tie.InvT-loop
-Inv-loop vertices ends labels edges e label d₀ d =
-    (e < d) × (d ≤ edges) × (firstWith (graph (plan vertices ends)) edges e ≡ firstOf (disconnects (graph (plan vertices ends))) (pairsWith e (from d edges)))
+Inv-loop vertices ends incident begins labels next edges e dead₀ first₀ order₀ cursor₀ d₀ dead first order cursor d =
+    With (graph (plan vertices ends)) labels edges e d × Restored dead₀ first₀ order₀ cursor₀ dead first order cursor
 
 abbrev μ-loop : tie.MeasureT-loop
-μ-loop vertices ends labels edges e label d₀ d = edges - d
+μ-loop vertices ends incident begins labels next edges e dead₀ first₀ order₀ cursor₀ d₀ dead first order cursor d = edges - d
 
-mul-label : tie.Need-mul-label Inv-loop μ-loop
-mul-label c = search needs
-
-shared-slice-read-label : tie.Need-shared-slice-read-label Inv-loop μ-loop
-shared-slice-read-label c = search needs
-
-add-d : tie.Need-add-d Inv-loop μ-loop
-add-d c = search needs
+next-like-requires : tie.Need-next-like-requires Inv-loop μ-loop
+next-like-requires c κs = let s = c .before .before .before .before .before .before .before .before .before .pre in (s .0 .shown .room, s .1, s .3)
 
 loop-holds : tie.Need-loop-holds Inv-loop μ-loop
-loop-holds c = (omega arith, omega (arith, c .before .before .before .pre .1), refl)
+loop-holds c = (with-start _ _ (c .before .before .before .before .before .before .before .before .before .before .pre .0) (c .next-like .ensures), restored-same)
 
-cast-two-cut : tie.Need-cast-two-cut Inv-loop μ-loop
-cast-two-cut c = search needs
+is-cut-requires : tie.Need-is-cut-requires Inv-loop μ-loop
+is-cut-requires c κs =
+    let l = c .before .before .before .before .before in
+    let s = l .before .before .before .before .before .before .before .before .before .before .before .pre in
+    let h = c .before .before .before .before .loop-test .taken in
+    (ready-again (s .2) (l .loop .inv .1), omega (arith, s .3, s .0 .shown .edges), omega (arith, h, s .0 .shown .edges))
 
-mul-two-cut : tie.Need-mul-two-cut Inv-loop μ-loop
-mul-two-cut c = search needs
+same-length : tie.Need-same-length Inv-loop μ-loop
+same-length c = ap length (c .before .before .before .before .before .before .before .before .before .is-cut .ensures .1 .dead-same ∙ c .before .before .before .before .before .before .before .before .before .before .before .before .before .before .before .loop .inv .1 .dead-same)
 
-shared-slice-read-two-cut : tie.Need-shared-slice-read-two-cut Inv-loop μ-loop
-shared-slice-read-two-cut c = search needs
+same-length-2 : tie.Need-same-length-2 Inv-loop μ-loop
+same-length-2 c = ap length (c .before .before .before .before .before .before .before .before .before .is-cut .ensures .1 .first-same ∙ c .before .before .before .before .before .before .before .before .before .before .before .before .before .before .before .loop .inv .1 .first-same)
 
-two-cut-requires : tie.Need-two-cut-requires Inv-loop μ-loop
-two-cut-requires c κs = let p = c .before .before .before .before .before .before .pre .0 in (p .shown .admitted, p .two _ _ (c .before .before .loop .inv .0) (c .before .loop-test .taken))
+same-length-3 : tie.Need-same-length-3 Inv-loop μ-loop
+same-length-3 c = c .before .before .before .before .before .before .before .before .before .is-cut .ensures .1 .order-long ∙ c .before .before .before .before .before .before .before .before .before .before .before .before .before .before .before .loop .inv .1 .order-long
+
+same-length-4 : tie.Need-same-length-4 Inv-loop μ-loop
+same-length-4 c = c .before .before .before .before .before .before .before .before .before .is-cut .ensures .1 .cursor-long ∙ c .before .before .before .before .before .before .before .before .before .before .before .before .before .before .before .loop .inv .1 .cursor-long
 
 returns : tie.Need-returns Inv-loop μ-loop
-returns c = let i = c .before .before .before in (omega (arith, i .loop-test .taken), i .before .loop .inv .2 ∙ with-found _ _ _ _ (i .loop-test .taken) (sym (c .before .two-cut .ensures) ∙ c .if1 .taken))
+returns c =
+    let t = c .before .before .before .before .before .before .before .before .before .is-cut .ensures in
+    let l = c .before .before .before .before .before .before .before .before .before .before .before .before .before .before .before .loop in
+    let h = c .before .before .before .before .before .before .before .before .before .before .before .before .before .before .loop-test .taken in
+    (l .inv .0 .so-far ∙ with-found _ _ _ _ h (sym (t .0) ∙ c .if1 .taken), restored-more (l .inv .1) (t .1))
 
-add-d-2 : tie.Need-add-d-2 Inv-loop μ-loop
-add-d-2 c = search needs
+next-like-requires-2 : tie.Need-next-like-requires-2 Inv-loop μ-loop
+next-like-requires-2 c κs =
+    let s = c .before .before .before .before .before .before .before .before .before .before .before .before .before .before .before .before .before .before .before .before .before .before .before .before .before .before .pre in
+    (s .0 .shown .room, s .1, c .before .before .before .before .before .before .before .before .before .before .before .before .before .before .loop-test .taken)
 
 loop-less : tie.Need-loop-less Inv-loop μ-loop
-loop-less c = search needs
+loop-less c = omega (arith, c .next-like2 .ensures .low, c .next-like2 .ensures .high, c .before .before .before .before .before .before .before .before .before .before .before .before .before .before .before .loop-test .taken)
 
 loop-again : tie.Need-loop-again Inv-loop μ-loop
-loop-again c = let i = c .before .before .before in (omega (arith, i .before .loop .inv .0), omega (arith, i .loop-test .taken), i .before .loop .inv .2 ∙ with-next _ _ _ _ (i .loop-test .taken) (sym (c .before .two-cut .ensures) ∙ c .if1 .left))
+loop-again c =
+    let t = c .before .before .before .before .before .before .before .before .before .before .is-cut .ensures in
+    let l = c .before .before .before .before .before .before .before .before .before .before .before .before .before .before .before .before .loop in
+    let h = c .before .before .before .before .before .before .before .before .before .before .before .before .before .before .before .loop-test .taken in
+    (with-on _ _ (c .before .before .before .before .before .before .before .before .before .before .before .before .before .before .before .before .before .before .before .before .before .before .before .before .before .before .before .pre .0) (l .inv .0) h (sym (t .0) ∙ c .before .if1 .left) (c .next-like2 .ensures), restored-more (l .inv .1) (t .1))
+
+same-length-5 : tie.Need-same-length-5 Inv-loop μ-loop
+same-length-5 c = ap length (c .before .loop .inv .1 .dead-same)
+
+same-length-6 : tie.Need-same-length-6 Inv-loop μ-loop
+same-length-6 c = ap length (c .before .loop .inv .1 .first-same)
+
+same-length-7 : tie.Need-same-length-7 Inv-loop μ-loop
+same-length-7 c = c .before .loop .inv .1 .order-long
+
+same-length-8 : tie.Need-same-length-8 Inv-loop μ-loop
+same-length-8 c = c .before .loop .inv .1 .cursor-long
 
 returns-2 : tie.Need-returns-2 Inv-loop μ-loop
-returns-2 c = let l = c .before .loop in (omega arith, l .inv .2 ∙ with-over _ _ (l .d) _ (omega (arith, c .loop-test .left, l .inv .1)))
+returns-2 c = let l = c .before .loop in (l .inv .0 .so-far ∙ with-over _ _ (l .d) _ (omega (arith, c .loop-test .left, l .inv .0 .high)), l .inv .1)
 
 pub lowest-with-spec : {M : Type 1} → statement M
 lowest-with-spec =
@@ -62,16 +87,19 @@ lowest-with-spec =
     (tie.spec
     Inv-loop
     μ-loop
-    mul-label
-    shared-slice-read-label
-    add-d
+    next-like-requires
     loop-holds
-    cast-two-cut
-    mul-two-cut
-    shared-slice-read-two-cut
-    two-cut-requires
+    is-cut-requires
+    same-length
+    same-length-2
+    same-length-3
+    same-length-4
     returns
-    add-d-2
+    next-like-requires-2
     loop-less
     loop-again
+    same-length-5
+    same-length-6
+    same-length-7
+    same-length-8
     returns-2)

@@ -2,11 +2,13 @@
 use mathlib.Core.Path.{_≡_, _∙_}
 use mathlib.Core.List.{List}
 use Prim.Native.Nat.{ℕ, _≤_}
-use borrow.Author.Tests.{lt-ltb, le-ltb}
 use Rattle.connectivity.specs.Plan.{plan, graph}
 use Rattle.connectivity.specs.Cut.{lowestCut}
-use Rattle.cuts.specs.Lowest.{Whole, oneTold, twoTold, firstOne, firstTwo, one, two, uncut}
+use Rattle.cuts.specs.Lowest.{Whole, oneTold, twoTold, firstOne, firstTwo, one}
 use Rattle.cuts.proofs.Filter.{shows-one, shows-both, lowest-one, lowest-two, none-one}
+use Rattle.cuts.proofs.Likes.{chained}
+use Rattle.cuts.proofs.Trying.{ready-again}
+use borrow.Author.Needs.{needs}
 use Rattle.cuts.proofs.lowest.small_cut.Statement.{statement}
 use Rattle.cuts.proofs.lowest.small_cut.Tie as tie
 
@@ -16,20 +18,79 @@ found : {n : ℕ} {ends labels : List ℕ} {m : ℕ} (w : Whole n ends labels m)
 found {n} {ends} {m = m} w e h q a b p = lowest-two (w .admitted) m (w .edges) (w .connected) (none-one (graph (plan n ends)) m e h q) ∙ p
 
 lowest-one-requires : tie.Need-lowest-one-requires
-lowest-one-requires c κs = shows-one (c .before .before .pre)
+lowest-one-requires c κs = let s = c .before .before .before .before .before .before .before .before .before .before .before .before .before .before .pre in (shows-one (s .0), s .1)
+
+same-length : tie.Need-same-length
+same-length c = c .before .before .before .before .before .before .before .before .before .lowest-one .kept .1 .1 .1 .1 .1 .1 .0
+
+same-length-2 : tie.Need-same-length-2
+same-length-2 c = c .before .before .before .before .before .before .before .before .before .lowest-one .kept .1 .1 .1 .1 .1 .1 .1 .0
+
+same-length-3 : tie.Need-same-length-3
+same-length-3 c = c .before .before .before .before .before .before .before .before .before .lowest-one .kept .1 .1 .1 .1 .1 .1 .1 .1 .0
+
+same-length-4 : tie.Need-same-length-4
+same-length-4 c = c .before .before .before .before .before .before .before .before .before .lowest-one .kept .1 .1 .1 .1 .1 .1 .1 .1 .1 .0
 
 returns : tie.Need-returns
-returns c = let p = c .before .before .before .before .pre in rw (lowest-one (p .admitted) _ (p .edges) (p .connected) _ (c .if1 .taken) (c .before .lowest-one .ensures .1)) (one _)
+returns c =
+    let w = c .before .before .before .before .before .before .before .before .before .before .before .before .before .before .before .before .before .before .before .before .before .before .before .before .pre .0 in
+    rw (lowest-one (w .admitted) _ (w .edges) (w .connected) _ (c .if1 .taken) (c .before .before .before .before .before .before .before .before .before .lowest-one .ensures .1)) (one _)
+
+chain-requires : tie.Need-chain-requires
+chain-requires c κs = search needs
 
 lowest-two-requires : tie.Need-lowest-two-requires
-lowest-two-requires c κs = shows-both (c .before .before .before .before .pre) (none-one _ _ _ (c .if1 .left) (c .before .lowest-one .ensures .1))
+lowest-two-requires c κs =
+    let e = c .before .before .before .before .before .before .before .before .before .before .before .before in
+    let l = e .before .before .before .before .before .before .before .before .before .lowest-one .ensures in
+    let s = e .before .before .before .before .before .before .before .before .before .before .before .before .before .before .before .before .before .before .before .before .before .before .before .before .pre in
+    (shows-both (s .0) (none-one _ _ _ (e .if1 .left) (l .1)), chained (c .before .before .before .before .before .before .before .before .before .chain .ensures) (s .0 .room) (s .2) (s .3), ready-again (s .1) (l .2))
+
+told-pair-requires : tie.Need-told-pair-requires
+told-pair-requires c κs = search needs
+
+same-length-5 : tie.Need-same-length-5
+same-length-5 c = c .before .before .before .before .before .before .before .before .before .lowest-two .kept .1 .1 .1 .1 .1 .1 .1 .0 ∙ c .before .before .before .before .before .before .before .before .before .before .before .before .before .before .before .before .before .before .before .before .before .before .before .before .before .before .before .before .before .before .before .lowest-one .kept .1 .1 .1 .1 .1 .1 .0
+
+same-length-6 : tie.Need-same-length-6
+same-length-6 c = c .before .before .before .before .before .before .before .before .before .lowest-two .kept .1 .1 .1 .1 .1 .1 .1 .1 .0 ∙ c .before .before .before .before .before .before .before .before .before .before .before .before .before .before .before .before .before .before .before .before .before .before .before .before .before .before .before .before .before .before .before .lowest-one .kept .1 .1 .1 .1 .1 .1 .1 .0
+
+same-length-7 : tie.Need-same-length-7
+same-length-7 c = c .before .before .before .before .before .before .before .before .before .lowest-two .kept .1 .1 .1 .1 .1 .1 .1 .1 .1 .0 ∙ c .before .before .before .before .before .before .before .before .before .before .before .before .before .before .before .before .before .before .before .before .before .before .before .before .before .before .before .before .before .before .before .lowest-one .kept .1 .1 .1 .1 .1 .1 .1 .1 .0
+
+same-length-8 : tie.Need-same-length-8
+same-length-8 c = c .before .before .before .before .before .before .before .before .before .lowest-two .kept .1 .1 .1 .1 .1 .1 .1 .1 .1 .1 .0 ∙ c .before .before .before .before .before .before .before .before .before .before .before .before .before .before .before .before .before .before .before .before .before .before .before .before .before .before .before .before .before .before .before .lowest-one .kept .1 .1 .1 .1 .1 .1 .1 .1 .1 .0
+
+same-length-9 : tie.Need-same-length-9
+same-length-9 c = c .before .before .before .before .before .before .before .before .before .before .before .before .before .before .before .before .before .before .before .chain .kept .1 .1 .0
+
+same-length-10 : tie.Need-same-length-10
+same-length-10 c = c .before .before .before .before .before .before .before .before .before .before .before .before .before .before .before .before .before .before .before .chain .kept .1 .1 .1 .0
 
 returns-2 : tie.Need-returns-2
-returns-2 c = rw (found (c .before .before .before .before .before .before .pre) _ (c .before .before .if1 .left) (c .before .before .before .lowest-one .ensures .1) _ _ (c .before .lowest-two .ensures .1), lt-ltb _ _ (c .if2 .taken)) (two _ _)
-
-returns-3 : tie.Need-returns-3
-returns-3 c = rw (found (c .before .before .before .before .before .before .pre) _ (c .before .before .if1 .left) (c .before .before .before .lowest-one .ensures .1) _ _ (c .before .lowest-two .ensures .1), le-ltb _ _ (c .if2 .left)) uncut
+returns-2 c =
+    let e = c .before .before .before .before .before .before .before .before .before .before .before .before .before .before .before .before .before .before .before .before .before .before in
+    let w = e .before .before .before .before .before .before .before .before .before .before .before .before .before .before .before .before .before .before .before .before .before .before .before .before .pre .0 in
+    rw (found w _ (e .if1 .left) (e .before .before .before .before .before .before .before .before .before .lowest-one .ensures .1) _ _ (c .before .before .before .before .before .before .before .before .before .lowest-two .ensures)) (c .told-pair .ensures)
 
 pub small-cut-spec : {M : Type 1} → statement M
 small-cut-spec =
-    tie.close (tie.spec lowest-one-requires returns lowest-two-requires returns-2 returns-3)
+    tie.close
+    (tie.spec
+    lowest-one-requires
+    same-length
+    same-length-2
+    same-length-3
+    same-length-4
+    returns
+    chain-requires
+    lowest-two-requires
+    told-pair-requires
+    same-length-5
+    same-length-6
+    same-length-7
+    same-length-8
+    same-length-9
+    same-length-10
+    returns-2)

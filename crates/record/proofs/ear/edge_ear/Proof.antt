@@ -3,8 +3,8 @@ use mathlib.Core.Path.{refl, sym, _∙_}
 use Prim.Native.Nat.{ℕ, _<_}
 use native.Mathlib.Omega.{arith}
 use lib.ListN.{set, replicate, length-replicate, length-set}
-use Rattle.search.proofs.Leads.{joins-edge}
-use Rattle.search.proofs.From0.{zeros}
+use Rattle.graph.proofs.Joined.{joins-edge}
+use Rattle.graph.proofs.Tally.{zeros}
 use Rattle.record.specs.Growth.{Alone, WalkedOut}
 use Rattle.record.proofs.FromEdge.{alone, u-below, edge-leaving, edge-room, edge-few, long-grown}
 use Rattle.record.proofs.ear.edge_ear.Statement.{statement}

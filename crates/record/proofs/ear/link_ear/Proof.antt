@@ -3,7 +3,7 @@ use mathlib.Core.List.{List}
 use Prim.Native.Nat.{ℕ, _≤_}
 use native.Mathlib.Omega.{arith}
 use lib.ListN.{length, replicate, length-replicate}
-use Rattle.search.proofs.From0.{zeros}
+use Rattle.graph.proofs.Tally.{zeros}
 use Rattle.record.specs.Growth.{GrowingLink}
 use Rattle.record.proofs.FromLink.{linking, link-leaving, link-grown}
 use borrow.Author.Needs.{needs}

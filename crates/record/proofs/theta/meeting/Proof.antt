@@ -2,7 +2,7 @@
 use Prim.Native.Nat.{ℕ}
 use native.Mathlib.Omega.{arith}
 use lib.ListN.{length, replicate, length-replicate}
-use Rattle.search.proofs.From0.{zeros}
+use Rattle.graph.proofs.Tally.{zeros}
 use Rattle.record.proofs.Meeting.{way-of, toward-of, meeting-at}
 use borrow.Author.Needs.{needs}
 use Rattle.record.proofs.theta.meeting.Statement.{statement}

@@ -6,7 +6,7 @@ use native.Mathlib.Omega.{arith}
 use lib.ListN.{length, set, replicate, length-replicate, length-set}
 use borrow.Author.Needs.{needs}
 use Rattle.search.proofs.Outcomes.{by-cases}
-use Rattle.search.proofs.From0.{zeros}
+use Rattle.graph.proofs.Tally.{zeros}
 use Rattle.record.specs.Opening.{Around}
 use Rattle.record.proofs.Roots.{rooted-by}
 use Rattle.record.proofs.theta.search_around.Statement.{statement}

@@ -1,0 +1,116 @@
+-- A try of two edges: marked for a search, and unmarked again.
+use mathlib.Core.Path.{_≡_, refl, sym, ap, subst, _∙_}
+use mathlib.Core.Logic.{inl, inr}
+use mathlib.Core.List.{List, [], _∷_, List·Memᴰ as In, List·Memᴰ·head as here, List·Memᴰ·tail as later, List·Memᴰ·not-nil as not-in, List·Memᴰ·cases-cons as in-cons}
+use Prim.Native.Nat.{ℕ, _+_, _/_, _≤_, _<_}
+use native.Mathlib.Omega.{arith}
+use native.Mathlib.Decide.{ℕ-discrete}
+use lib.Dec.{T, ltb}
+use lib.ListN.{length, getD, set, length-set}
+use lib.Seq.{ext-getD, getD-set-same, getD-set-other}
+use Rattle.connectivity.specs.Plan.{Plan, graph}
+use Rattle.connectivity.specs.Graph.{Graph}
+use Rattle.connectivity.specs.Cut.{disconnects}
+use Rattle.connectivity.proofs.Lists.{T-dec, T-true, T-false}
+use Rattle.connectivity.proofs.Disconnects.{disconnects-is, connected-less}
+use Rattle.graph.specs.Marks.{read}
+use Rattle.depth.specs.Depth.{Cutting}
+use Rattle.cuts.specs.Tries.{Tables, Ready, Restored}
+
+-- both marks
+abbrev pub both : List ℕ → ℕ → ℕ → ℕ → List ℕ
+both dead e d x = set (set dead e x) d x
+
+module _ (dead : List ℕ) (e d : ℕ) where
+  marked-one : (x : ℕ) → e < length dead → d < length dead → getD (both dead e d x) e 0 ≡ x
+  marked-one x h l = elim (ℕ-discrete e d) [
+    | yes q ↦ ap (λ (k : ℕ). getD (both dead e d x) k 0) q ∙ getD-set-same (set dead e x) d x 0 (omega (arith, length-set dead e x))
+    | no q ↦ getD-set-other (set dead e x) d e x 0 q ∙ getD-set-same dead e x 0 h
+  ]
+
+  marked-two : (x : ℕ) → d < length dead → getD (both dead e d x) d 0 ≡ x
+  marked-two x l = getD-set-same (set dead e x) d x 0 (omega (arith, length-set dead e x))
+
+  unmarked : (x k : ℕ) → (k ≡ e → ⊥) → (k ≡ d → ⊥) → getD (both dead e d x) k 0 ≡ getD dead k 0
+  unmarked x k n o = getD-set-other (set dead e x) d k x 0 o ∙ getD-set-other dead e k x 0 n
+
+module _ (dead : List ℕ) (e d : ℕ) (h : e < length dead) (l : d < length dead) where
+  -- they mark the edges of the set, and no others
+  pub cutting : (p : Plan) → ((k : ℕ) → k < length (p .ends) / 2 → getD dead k 0 ≡ 0) → Cutting p (e ∷ (d ∷ [])) (read (both dead e d 1))
+  cutting p live = record { gone = λ k b i z. gone k i z; kept = λ k b n. unmarked dead e d 1 k (λ q. n (here q)) (λ q. n (later (here q))) ∙ live k b }
+    where
+      gone : (k : ℕ) → In k (e ∷ (d ∷ [])) → getD (both dead e d 1) k 0 ≡ 0 → ⊥
+      gone k i z = elim (in-cons i) [
+        | inl q ↦ let r = marked-one dead e d 1 h l in let s : getD (both dead e d 1) e 0 ≡ 0 = rw q at z in omega arith
+        | inr j ↦ elim (in-cons j) [
+          | inl q ↦ let r = marked-two dead e d 1 l in let s : getD (both dead e d 1) d 0 ≡ 0 = rw q at z in omega arith
+          | inr n ↦ absurd (not-in n)
+        ]
+      ]
+
+  -- and are taken back
+  pub taken-back : getD dead e 0 ≡ 0 → getD dead d 0 ≡ 0 → both (both dead e d 1) e d 0 ≡ dead
+  taken-back p q = ext-getD 0 (both (both dead e d 1) e d 0) dead (long (both dead e d 1) 0 ∙ long dead 1)
+      (λ k b. elim (ℕ-discrete k e) [
+        | yes s ↦ rw s (marked-one (both dead e d 1) e d 0 (omega (arith, long dead 1)) (omega (arith, long dead 1)) ∙ sym p)
+        | no n ↦ elim (ℕ-discrete k d) [
+          | yes s ↦ rw s (marked-two (both dead e d 1) e d 0 (omega (arith, long dead 1)) ∙ sym q)
+          | no o ↦ unmarked (both dead e d 1) e d 0 k n o ∙ unmarked dead e d 1 k n o
+        ]
+      ])
+    where
+      long : (l : List ℕ) (x : ℕ) → length (both l e d x) ≡ length l
+      long l x = length-set (set l e x) d x ∙ length-set l e x
+
+-- the same edges disconnect the same
+more : (g : Graph) {a b : List ℕ} → ((k : ℕ) → In k a → In k b) → T (disconnects g a) → T (disconnects g b)
+more g {a} {b} f t = disconnects-is g b .1 (λ c. disconnects-is g a .0 t (connected-less c (λ k j. f k)))
+
+pub one-twice : (g : Graph) (e : ℕ) → disconnects g (e ∷ (e ∷ [])) ≡ disconnects g (e ∷ [])
+one-twice g e = elim (T-dec (disconnects g (e ∷ []))) [
+  | yes t ↦ T-true (disconnects g (e ∷ (e ∷ []))) (more g (λ k. later) t) ∙ sym (T-true (disconnects g (e ∷ [])) t)
+  | no n ↦ T-false (disconnects g (e ∷ (e ∷ []))) (λ t. n (more g {b = e ∷ []} (λ k i. elim (in-cons {b = e} {l = e ∷ []} i) [ inl q ↦ here q | inr j ↦ j ]) t)) ∙ sym (T-false (disconnects g (e ∷ [])) n)
+]
+
+module _ {p : Plan} {incident begins dead₀ first₀ order₀ cursor₀ dead first order cursor : List ℕ} where
+  pub ready-again : Ready p incident begins dead₀ first₀ order₀ cursor₀ → Restored dead₀ first₀ order₀ cursor₀ dead first order cursor → Ready p incident begins dead first order cursor
+  ready-again r s = let t = r .tables in record {
+    tables = record {
+      tabled = t .tabled;
+      dead-room = rw (s .dead-same) (t .dead-room);
+      first-room = rw (s .first-same) (t .first-room);
+      order-room = omega (arith, s .order-long, t .order-room);
+      cursor-room = omega (arith, s .cursor-long, t .cursor-room);
+      fresh = rw (s .first-same) (t .fresh);
+    };
+    live = rw (s .dead-same) (r .live);
+  }
+
+pub restored-same : {dead first order cursor : List ℕ} → Restored dead first order cursor dead first order cursor
+restored-same = record { dead-same = refl; first-same = refl; order-long = refl; cursor-long = refl }
+
+pub restored-more : {dead₀ first₀ order₀ cursor₀ dead₁ first₁ order₁ cursor₁ dead first order cursor : List ℕ} → Restored dead₀ first₀ order₀ cursor₀ dead₁ first₁ order₁ cursor₁
+    → Restored dead₁ first₁ order₁ cursor₁ dead first order cursor → Restored dead₀ first₀ order₀ cursor₀ dead first order cursor
+restored-more a b = record {
+  dead-same = b .dead-same ∙ a .dead-same;
+  first-same = b .first-same ∙ a .first-same;
+  order-long = b .order-long ∙ a .order-long;
+  cursor-long = b .cursor-long ∙ a .cursor-long;
+}
+
+-- the whole try
+pub tried : {p : Plan} {incident begins dead₀ first₀ order₀ cursor₀ dead₁ dead first order cursor : List ℕ} {e d : ℕ} (count : ℕ) → Ready p incident begins dead₀ first₀ order₀ cursor₀
+    → e < length (p .ends) / 2 → d < length (p .ends) / 2 → dead₁ ≡ both dead₀ e d 1
+    → ((cut : List ℕ) → Cutting p cut (read dead₁) → ltb count (p .vertices) ≡ disconnects (graph p) cut) → first ≡ first₀
+    → dead ≡ both dead₁ e d 0 → length order ≡ length order₀ → length cursor ≡ length cursor₀
+    → (ltb count (p .vertices) ≡ disconnects (graph p) (e ∷ (d ∷ []))) × Restored dead₀ first₀ order₀ cursor₀ dead first order cursor
+tried {p} {dead₀ = dead₀} {e = e} {d} count r h l k s f b o c =
+    let room = r .tables .dead-room in (
+      s (e ∷ (d ∷ [])) (rw k (cutting dead₀ e d (omega (arith, h, room)) (omega (arith, l, room)) p (r .live))),
+      record {
+        dead-same = b ∙ ap (λ (x : List ℕ). both x e d 0) k ∙ taken-back dead₀ e d (omega (arith, h, room)) (omega (arith, l, room)) (r .live e h) (r .live d l);
+        first-same = f;
+        order-long = o;
+        cursor-long = c;
+      },
+    )

@@ -1,0 +1,11 @@
+pub mod Counts
+pub mod Edges
+pub mod Walk
+pub mod Digging
+pub mod Outcomes
+pub mod Crosses
+pub mod Above
+pub mod Entering
+pub mod Undoing
+pub mod Left
+pub mod Forest

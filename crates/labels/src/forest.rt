@@ -1,0 +1,161 @@
+// A spanning forest of a plan's graph, by searches from one root after the other.
+use depth::Explored;
+ghost use Prim.Native.Nat.{_/_, _≤_};
+ghost use lib.ListN.{length};
+ghost use Rattle.connectivity.specs.Plan.{plan, limits};
+ghost use Rattle.connectivity.specs.Admission.{Admitted};
+ghost use Rattle.incidence.specs.Parts.{Cleared};
+ghost use Rattle.depth.specs.Depth.{Searched};
+ghost use Rattle.depth.specs.Parts.{Rooms};
+ghost use Rattle.labels.specs.Planting.{Spacious, Open, Prepared, Growing, Planted};
+
+// Fills the tables by vertex of an admitted plan, and searches from one vertex after the other until each has been seen. The answer is how many
+// the first search has seen, the one from vertex 0.
+pub(crate) fn plant(
+    vertices: u16,
+    ends: &[u16],
+    incident: &mut [u16],
+    begins: &mut [u16],
+    dead: &mut [u8],
+    first: &mut [u16],
+    order: &mut [u16],
+    cursor: &mut [u16],
+) -> u16
+    requires { ⌜ Admitted limits (plan vertices (now ends)) × Spacious (plan vertices (now ends)) (now incident) (now begins) (now dead) × Rooms vertices (now first) (now order) (now cursor) ⌝ }
+    ensures { λ r. ⌜ Planted (plan vertices (now (ends .entry))) (now (incident .entry)) (now (begins .entry)) (now (dead .entry)) (now (first .entry)) (now (order .entry)) (now (cursor .entry)) (now (incident .exit)) (now (begins .exit)) (now (dead .exit)) (now (first .exit)) (now (order .exit)) (now (cursor .exit)) r ⌝ }
+{
+    prepare(vertices, ends, incident, begins, dead, first);
+    let count = search_from(
+        vertices,
+        ends,
+        incident,
+        begins,
+        dead,
+        0,
+        0,
+        first,
+        order,
+        cursor,
+    );
+    search_rest(
+        vertices,
+        ends,
+        incident,
+        begins,
+        dead,
+        count,
+        first,
+        order,
+        cursor,
+    );
+    count
+}
+
+// Fills the tables by vertex, and clears the marks of the edges and of the vertices.
+fn prepare(
+    vertices: u16,
+    ends: &[u16],
+    incident: &mut [u16],
+    begins: &mut [u16],
+    dead: &mut [u8],
+    first: &mut [u16],
+)
+    requires { ⌜ Admitted limits (plan vertices (now ends)) × Spacious (plan vertices (now ends)) (now incident) (now begins) (now dead) × (vertices ≤ length (now first)) ⌝ }
+    ensures { λ _. ⌜ Prepared limits (plan vertices (now (ends .entry))) (now (incident .entry)) (now (begins .entry)) (now (dead .entry)) (now (first .entry)) (now (incident .exit)) (now (begins .exit)) (now (dead .exit)) (now (first .exit)) ⌝ }
+{
+    incidence::fill(vertices, ends, incident, begins);
+    clear_edges(ends.len() / 2, dead);
+    clear_marks(vertices, first);
+}
+
+// Searches from vertex 1 on, until every vertex stands in the order; `count` of them do already.
+fn search_rest(
+    vertices: u16,
+    ends: &[u16],
+    incident: &[u16],
+    begins: &[u16],
+    dead: &[u8],
+    count: u16,
+    first: &mut [u16],
+    order: &mut [u16],
+    cursor: &mut [u16],
+)
+    requires { ⌜ Open limits (plan vertices (now ends)) (now incident) (now begins) (now dead) × Rooms vertices (now first) (now order) (now cursor) × Growing (plan vertices (now ends)) (now first) (now order) (now cursor) (now first) (now order) (now cursor) 1 count ⌝ }
+    ensures { λ _. ⌜ Growing (plan vertices (now (ends .entry))) (now (first .entry)) (now (order .entry)) (now (cursor .entry)) (now (first .exit)) (now (order .exit)) (now (cursor .exit)) vertices vertices ⌝ }
+{
+    let mut seen = count;
+    let mut v = 1;
+    while seen < vertices {
+        seen = search_from(
+            vertices,
+            ends,
+            incident,
+            begins,
+            dead,
+            v,
+            seen,
+            first,
+            order,
+            cursor,
+        );
+        v += 1;
+    }
+}
+
+// One search, which is not refused.
+fn search_from(
+    vertices: u16,
+    ends: &[u16],
+    incident: &[u16],
+    begins: &[u16],
+    dead: &[u8],
+    root: u16,
+    seen: u16,
+    first: &mut [u16],
+    order: &mut [u16],
+    cursor: &mut [u16],
+) -> u16
+    requires { ⌜ Open limits (plan vertices (now ends)) (now incident) (now begins) (now dead) × Rooms vertices (now first) (now order) (now cursor) ⌝ }
+    ensures { λ r. ⌜ Searched (plan vertices (now (ends .entry))) (now (incident .entry)) (now (begins .entry)) (now (dead .entry)) root seen (now (first .entry)) (now (order .entry)) (now (cursor .entry)) (now (first .exit)) (now (order .exit)) (now (cursor .exit)) r ⌝ }
+{
+    let found = depth::explore(
+        vertices,
+        ends,
+        incident,
+        begins,
+        dead,
+        root,
+        seen,
+        first,
+        order,
+        cursor,
+    );
+    let Explored::Seen(count) = found else {
+        return seen;
+    };
+    count
+}
+
+// The marks become 0, of the vertices and of the edges.
+fn clear_marks(vertices: u16, first: &mut [u16])
+    requires { ⌜ vertices ≤ length (now first) ⌝ }
+    ensures { λ _. ⌜ Cleared vertices (now (first .entry)) (now (first .exit)) ⌝ }
+{
+    let n = vertices as usize;
+    let mut v = 0;
+    while v < n {
+        first[v] = 0;
+        v += 1;
+    }
+}
+
+fn clear_edges(edges: usize, dead: &mut [u8])
+    requires { ⌜ edges ≤ length (now dead) ⌝ }
+    ensures { λ _. ⌜ Cleared edges (now (dead .entry)) (now (dead .exit)) ⌝ }
+{
+    let mut e = 0;
+    while e < edges {
+        dead[e] = 0;
+        e += 1;
+    }
+}
