@@ -57,8 +57,8 @@ extern "C" {
 #endif
 
 /* Bytes of stack to keep free below a call. */
-#define HEARTHTANSY_CHECK_STACK 13312
-#define HEARTHTANSY_CHECK_TEXTS_STACK 54272
+#define HEARTHTANSY_CHECK_STACK 31744
+#define HEARTHTANSY_CHECK_TEXTS_STACK 71680
 
 /*
  * The check of a verdict about a plan, both as numbers. `ends` has two numbers for each tab, the pieces that it joins. `kind` is 0 for a

@@ -4,11 +4,11 @@ use mathlib.Core.List.{List, map}
 use Prim.Native.Nat.{ℕ, _+_, _-_, _≤_, _<_}
 use native.Mathlib.Omega.{arith}
 use native.Mathlib.Decide.{ℕ-discrete}
-use lib.Dec.{leb, ltb, leb→le, le→leb, ltb→lt, lt→ltb}
+use lib.Dec.{ltb, ltb→lt, lt→ltb}
 use lib.ListN.{length, getD, set, replicate, length-map, length-set, length-replicate, getD-replicate}
 use lib.Seq.{ext-getD, getD-set-same, getD-set-other}
 use Rattle.connectivity.specs.Lists.{range}
-use Rattle.connectivity.proofs.Lists.{Decides, decides, decides-and, T-true, T-false, length-range, map-range}
+use Rattle.connectivity.proofs.Lists.{Decides, decides, decides-le, decides-and, T-true, T-false, length-range, map-range}
 use Rattle.incidence.proofs.Loops.{kept-same, kept-set}
 use Rattle.incidence.proofs.Front.{front}
 use Rattle.chains.specs.Chains.{lowestFrom, headOf, nextOf, keys, enough, Chained}
@@ -16,8 +16,8 @@ use Rattle.chains.specs.Parts.{Linking, Linked}
 use Rattle.chains.proofs.Lowest.{lowest-none, lowest-yes, lowest-no}
 
 -- a list of zeros, number by number
-pub zeros : (l : List ℕ) (n : ℕ) → length l ≡ n → ((k : ℕ) → k < n → getD l k 0 ≡ 0) → l ≡ replicate n 0
-zeros l n p h = ext-getD 0 l (replicate n 0) (p ∙ sym (length-replicate {A = ℕ} n 0)) (λ k b. let d : k < n = omega arith in h k d ∙ sym (getD-replicate n k 0 0 d))
+pub all-zero : (l : List ℕ) (n : ℕ) → length l ≡ n → ((k : ℕ) → k < n → getD l k 0 ≡ 0) → l ≡ replicate n 0
+all-zero l n p h = ext-getD 0 l (replicate n 0) (p ∙ sym (length-replicate {A = ℕ} n 0)) (λ k b. let d : k < n = omega arith in h k d ∙ sym (getD-replicate n k 0 0 d))
 
 module _ (m : ℕ) (labels : List ℕ) where
   pub linked-start : {next heads : List ℕ} → Linking m labels next heads → Linked m m (length heads) labels next next heads
@@ -58,9 +58,6 @@ pub map-at : (f : ℕ → ℕ) (n k : ℕ) → k < n → getD (map f (range 0 n)
 map-at f n k h = let p : 0 + k ≡ k = omega arith in map-range f 0 n k h ∙ ap f p
 
 -- the answer
-decides-le : (a b : ℕ) → Decides (leb a b) (a ≤ b)
-decides-le a b = decides (leb a b) (leb→le a b, le→leb a b)
-
 module _ (m : ℕ) (labels next₀ heads₀ : List ℕ) where
   abbrev Room : Type 0
   Room = (m ≤ length labels) × ((m ≤ length next₀) × (0 < length heads₀))

@@ -1,17 +1,13 @@
--- The lowest edge of a chain from some edge on: no edge of the chain lies between; and all edges of a chain are met from its head on, ascending.
-use mathlib.Core.Path.{_≡_, refl, sym, ap, subst, _∙_}
+-- The lowest edge of a chain from some edge on: no edge of the chain lies between.
+use mathlib.Core.Path.{_≡_, refl, sym, ap, _∙_}
 use Prim.Native.Nat.{ℕ, zero, suc, _+_, _-_, _≤_, _<_}
 use native.Mathlib.Omega.{arith}
 use native.Mathlib.Decide.{ℕ-discrete}
 use borrow.Author.Tests.{eq-eqb, ne-eqb}
-use Rattle.chains.specs.Chains.{lowestFrom, headOf, nextOf, named, Lowest, Along, here, on}
+use Rattle.chains.specs.Chains.{lowestFrom, named, Lowest}
 
 pub named-some : (m x : ℕ) → 0 < x → named m x ≡ x - 1
 named-some m x h = rw (ne-eqb x 0 (λ p. omega arith))
-
-pub named-le : (m x : ℕ) → x ≤ m → named m x ≤ m
-named-le m zero h = omega arith
-named-le m (suc x) h = omega (arith, named-some m (suc x) (omega arith))
 
 module _ (key : ℕ → ℕ) (i : ℕ) where
   pub lowest-none : (e : ℕ) → lowestFrom key i e 0 ≡ 0

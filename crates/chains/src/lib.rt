@@ -4,7 +4,7 @@ use graph::Answer;
 ghost use mathlib.Core.Path.{_≡_};
 ghost use mathlib.Core.Bool.{not};
 ghost use Prim.Native.Nat.{_<_, _≤_};
-ghost use lib.ListN.{length, getD, replicate};
+ghost use lib.ListN.{length, replicate};
 ghost use Rattle.graph.specs.Tells.{Tells};
 ghost use Rattle.chains.specs.Chains.{keyOf, Chained};
 ghost use Rattle.chains.specs.Parts.{Linked, Linking};

@@ -6,7 +6,7 @@ use mathlib.Core.List.{List, [], _∷_, _++_, List·Memᴰ as In, List·Memᴰ·
 use mathlib.Core.Option.{none, some}
 use Prim.Native.Nat.{ℕ, _-_, _/_, _≤_, _<_}
 use native.Mathlib.Omega.{arith}
-use lib.ListN.{length, getD}
+use lib.ListN.{length}
 use borrow.Author.Tests.{lt-ltb, le-ltb}
 use Rattle.connectivity.specs.Lists.{range}
 use Rattle.connectivity.specs.Plan.{plan, graph, limits}
@@ -17,6 +17,7 @@ use Rattle.connectivity.proofs.Lists.{range-is}
 use Rattle.connectivity.proofs.Search.{edges-are}
 use Rattle.connectivity.proofs.Admission.{admitted-edge, admitted-range}
 use Rattle.connectivity.proofs.LowestCut.{singles-in}
+use Rattle.graph.specs.Marks.{read}
 use Rattle.labels.proofs.CutLabels.{no-loops, skip-one, skip-two}
 use Rattle.cuts.specs.Lowest.{Shown, ShownBoth, Whole, oneTold, firstOne, firstTwo}
 use Rattle.cuts.proofs.First.{none-some, first-yes, first-no, first-some, first-later}
@@ -32,30 +33,28 @@ none-is f (b ∷ l) p c i = go (f b) refl p (in-cons i) (none-is f l)
     go false q r (inl e) h = rw e q
     go false q r (inr k) h = h r c k
 
-module _ {n : ℕ} {ends labels : List ℕ} {m : ℕ} (w : Whole n ends labels m) where
+module _ {n : ℕ} {ends labels : List ℕ} (w : Whole n ends labels) where
   abbrev g : Graph
   g = graph (plan n ends)
 
-  abbrev label : ℕ → ℕ
-  label e = getD labels e 0
+  abbrev m : ℕ
+  m = length ends / 2
 
   edge-in : (e : ℕ) → e < m → In e (edges g)
-  edge-in e h = edges-are g e .1 (admitted-edge (w .admitted) e (omega (arith, h, w .edges)))
+  edge-in e h = edges-are g e .1 (admitted-edge (w .admitted) e h)
 
   pub shows-one : Shown n ends labels m
   shows-one = record {
-    admitted = w .admitted;
-    edges = w .edges;
+    edges = refl;
     room = w .room;
-    one = λ e h d. skip-one g label (w .balanced) (no-loops (w .admitted)) e (w .connected)
-        (edge-in e h) d;
+    one = λ e h d. skip-one g (read labels) (w .balanced) (no-loops (w .admitted)) e (w .connected) (edge-in e h) d;
   }
 
   -- where no edge disconnects alone
   pub shows-both : firstOne g m ≡ none → ShownBoth n ends labels m
   shows-both p = record {
     shown = shows-one;
-    two = λ e d b h. skip-two g label (w .balanced) (no-loops (w .admitted)) e d (single e (omega (arith, b, h))) (single d h) (edge-in e (omega (arith, b, h))) (edge-in d h) (λ q. omega (arith, b, q));
+    two = λ e d b h. skip-two g (read labels) (w .balanced) (no-loops (w .admitted)) e d (single e (omega (arith, b, h))) (single d h) (edge-in e (omega (arith, b, h))) (edge-in d h) (λ q. omega (arith, b, q));
   }
     where
       single : (e : ℕ) → e < m → disconnects g (e ∷ []) ≡ false

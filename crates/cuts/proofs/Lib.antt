@@ -1,6 +1,6 @@
 pub mod First
 pub mod Filter
-pub mod Trying
 pub mod Likes
+pub mod Trying
 pub mod Answers
 pub mod Handing

@@ -11,8 +11,8 @@ use Rattle.connectivity.specs.Graph.{Graph}
 use Rattle.connectivity.specs.Cut.{disconnects, singles, pairsWith, pairs, firstOf}
 use Rattle.graph.specs.declared.Answer.{Answer}
 use Rattle.chains.specs.Chains.{keyOf, keys, named, Lowest, Chained}
-use Rattle.chains.proofs.Lowest.{named-some, named-le}
-use Rattle.chains.proofs.OnChain.{chained-served, next-long, next-lowest}
+use Rattle.chains.proofs.Lowest.{named-some}
+use Rattle.chains.proofs.OnChain.{chained-served, next-long, next-lowest, other-label}
 use Rattle.cuts.specs.Lowest.{Shown, ShownBoth, twoTold, firstWith}
 use Rattle.cuts.specs.Alike.{Chaining, LowestLike, LowestPaired}
 use Rattle.cuts.proofs.First.{from, steps, one-next, with-next, with-over, two-next}
@@ -43,7 +43,7 @@ module _ {m : ℕ} {labels next : List ℕ} (c : Chaining m labels next) {e : �
   like-key d q = ap (keyOf (c .size)) q
 
   pub walk-start : Reached (getD next e 0)
-  walk-start = let l = c .follows e h in record { inside = l .inside; on = l .on; above = omega (arith, l .low); between = λ d b o q. l .between d o b (like-key d q) }
+  walk-start = let l = c .follows e h in record { inside = l .inside; on = l .on; above = omega (arith, l .low); between = λ d b o q. other-label (c .size) labels l d (omega arith) b (sym q) }
 
   module _ {x : ℕ} (w : Reached x) where
     pub walk-over : x ≡ 0 → LowestLike labels (getD labels e 0) (e + 1) m m

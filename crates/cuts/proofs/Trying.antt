@@ -1,25 +1,29 @@
 -- A try of two edges: marked for a search, and unmarked again.
-use mathlib.Core.Path.{_≡_, refl, sym, ap, subst, _∙_}
+use mathlib.Core.Path.{_≡_, refl, sym, ap, _∙_}
 use mathlib.Core.Logic.{inl, inr}
 use mathlib.Core.List.{List, [], _∷_, List·Memᴰ as In, List·Memᴰ·head as here, List·Memᴰ·tail as later, List·Memᴰ·not-nil as not-in, List·Memᴰ·cases-cons as in-cons}
-use Prim.Native.Nat.{ℕ, _+_, _/_, _≤_, _<_}
+use Prim.Native.Nat.{ℕ, _/_, _≤_, _<_}
 use native.Mathlib.Omega.{arith}
 use native.Mathlib.Decide.{ℕ-discrete}
 use lib.Dec.{T, ltb}
 use lib.ListN.{length, getD, set, length-set}
 use lib.Seq.{ext-getD, getD-set-same, getD-set-other}
-use Rattle.connectivity.specs.Plan.{Plan, graph}
+use Rattle.connectivity.specs.Plan.{Plan, graph, limits}
 use Rattle.connectivity.specs.Graph.{Graph}
 use Rattle.connectivity.specs.Cut.{disconnects}
+use Rattle.connectivity.specs.Admission.{Admitted}
 use Rattle.connectivity.proofs.Lists.{T-dec, T-true, T-false}
 use Rattle.connectivity.proofs.Disconnects.{disconnects-is, connected-less}
 use Rattle.graph.specs.Marks.{read}
 use Rattle.depth.specs.Depth.{Cutting}
-use Rattle.cuts.specs.Tries.{Tables, Ready, Restored}
+use Rattle.cuts.specs.Tries.{Tables, Ready, Restored, EndsBelow}
 
 -- both marks
 abbrev pub both : List ℕ → ℕ → ℕ → ℕ → List ℕ
 both dead e d x = set (set dead e x) d x
+
+pub both-long : (dead : List ℕ) (e d x : ℕ) → length (both dead e d x) ≡ length dead
+both-long dead e d x = length-set (set dead e x) d x ∙ length-set dead e x
 
 module _ (dead : List ℕ) (e d : ℕ) where
   marked-one : (x : ℕ) → e < length dead → d < length dead → getD (both dead e d x) e 0 ≡ x
@@ -50,17 +54,14 @@ module _ (dead : List ℕ) (e d : ℕ) (h : e < length dead) (l : d < length dea
 
   -- and are taken back
   pub taken-back : getD dead e 0 ≡ 0 → getD dead d 0 ≡ 0 → both (both dead e d 1) e d 0 ≡ dead
-  taken-back p q = ext-getD 0 (both (both dead e d 1) e d 0) dead (long (both dead e d 1) 0 ∙ long dead 1)
+  taken-back p q = ext-getD 0 (both (both dead e d 1) e d 0) dead (both-long (both dead e d 1) e d 0 ∙ both-long dead e d 1)
       (λ k b. elim (ℕ-discrete k e) [
-        | yes s ↦ rw s (marked-one (both dead e d 1) e d 0 (omega (arith, long dead 1)) (omega (arith, long dead 1)) ∙ sym p)
+        | yes s ↦ rw s (marked-one (both dead e d 1) e d 0 (omega (arith, both-long dead e d 1)) (omega (arith, both-long dead e d 1)) ∙ sym p)
         | no n ↦ elim (ℕ-discrete k d) [
-          | yes s ↦ rw s (marked-two (both dead e d 1) e d 0 (omega (arith, long dead 1)) ∙ sym q)
+          | yes s ↦ rw s (marked-two (both dead e d 1) e d 0 (omega (arith, both-long dead e d 1)) ∙ sym q)
           | no o ↦ unmarked (both dead e d 1) e d 0 k n o ∙ unmarked dead e d 1 k n o
         ]
       ])
-    where
-      long : (l : List ℕ) (x : ℕ) → length (both l e d x) ≡ length l
-      long l x = length-set (set l e x) d x ∙ length-set l e x
 
 -- the same edges disconnect the same
 more : (g : Graph) {a b : List ℕ} → ((k : ℕ) → In k a → In k b) → T (disconnects g a) → T (disconnects g b)
@@ -72,45 +73,63 @@ one-twice g e = elim (T-dec (disconnects g (e ∷ []))) [
   | no n ↦ T-false (disconnects g (e ∷ (e ∷ []))) (λ t. n (more g {b = e ∷ []} (λ k i. elim (in-cons {b = e} {l = e ∷ []} i) [ inl q ↦ here q | inr j ↦ j ]) t)) ∙ sym (T-false (disconnects g (e ∷ [])) n)
 ]
 
-module _ {p : Plan} {incident begins dead₀ first₀ order₀ cursor₀ dead first order cursor : List ℕ} where
-  pub ready-again : Ready p incident begins dead₀ first₀ order₀ cursor₀ → Restored dead₀ first₀ order₀ cursor₀ dead first order cursor → Ready p incident begins dead first order cursor
+module _ {p : Plan} {incident begins first dead₀ marks₀ order₀ cursor₀ dead marks order cursor : List ℕ} where
+  pub ready-again : Ready p incident begins first dead₀ marks₀ order₀ cursor₀ → Restored dead₀ marks₀ order₀ cursor₀ dead marks order cursor → Ready p incident begins first dead marks order cursor
   ready-again r s = let t = r .tables in record {
     tables = record {
       tabled = t .tabled;
       dead-room = rw (s .dead-same) (t .dead-room);
-      first-room = rw (s .first-same) (t .first-room);
+      marks-room = rw (s .marks-same) (t .marks-room);
       order-room = omega (arith, s .order-long, t .order-room);
       cursor-room = omega (arith, s .cursor-long, t .cursor-room);
-      fresh = rw (s .first-same) (t .fresh);
+      fresh = rw (s .marks-same) (t .fresh);
     };
     live = rw (s .dead-same) (r .live);
+    first-room = r .first-room;
   }
 
-pub restored-same : {dead first order cursor : List ℕ} → Restored dead first order cursor dead first order cursor
-restored-same = record { dead-same = refl; first-same = refl; order-long = refl; cursor-long = refl }
+pub restored-same : {dead marks order cursor : List ℕ} → Restored dead marks order cursor dead marks order cursor
+restored-same = record { dead-same = refl; marks-same = refl; order-long = refl; cursor-long = refl }
 
-pub restored-more : {dead₀ first₀ order₀ cursor₀ dead₁ first₁ order₁ cursor₁ dead first order cursor : List ℕ} → Restored dead₀ first₀ order₀ cursor₀ dead₁ first₁ order₁ cursor₁
-    → Restored dead₁ first₁ order₁ cursor₁ dead first order cursor → Restored dead₀ first₀ order₀ cursor₀ dead first order cursor
+pub restored-more : {dead₀ marks₀ order₀ cursor₀ dead₁ marks₁ order₁ cursor₁ dead marks order cursor : List ℕ} → Restored dead₀ marks₀ order₀ cursor₀ dead₁ marks₁ order₁ cursor₁
+    → Restored dead₁ marks₁ order₁ cursor₁ dead marks order cursor → Restored dead₀ marks₀ order₀ cursor₀ dead marks order cursor
 restored-more a b = record {
   dead-same = b .dead-same ∙ a .dead-same;
-  first-same = b .first-same ∙ a .first-same;
+  marks-same = b .marks-same ∙ a .marks-same;
   order-long = b .order-long ∙ a .order-long;
   cursor-long = b .cursor-long ∙ a .cursor-long;
 }
 
--- the whole try
-pub tried : {p : Plan} {incident begins dead₀ first₀ order₀ cursor₀ dead₁ dead first order cursor : List ℕ} {e d : ℕ} (count : ℕ) → Ready p incident begins dead₀ first₀ order₀ cursor₀
-    → e < length (p .ends) / 2 → d < length (p .ends) / 2 → dead₁ ≡ both dead₀ e d 1
-    → ((cut : List ℕ) → Cutting p cut (read dead₁) → ltb count (p .vertices) ≡ disconnects (graph p) cut) → first ≡ first₀
-    → dead ≡ both dead₁ e d 0 → length order ≡ length order₀ → length cursor ≡ length cursor₀
-    → (ltb count (p .vertices) ≡ disconnects (graph p) (e ∷ (d ∷ []))) × Restored dead₀ first₀ order₀ cursor₀ dead first order cursor
-tried {p} {dead₀ = dead₀} {e = e} {d} count r h l k s f b o c =
-    let room = r .tables .dead-room in (
-      s (e ∷ (d ∷ [])) (rw k (cutting dead₀ e d (omega (arith, h, room)) (omega (arith, l, room)) p (r .live))),
-      record {
-        dead-same = b ∙ ap (λ (x : List ℕ). both x e d 0) k ∙ taken-back dead₀ e d (omega (arith, h, room)) (omega (arith, l, room)) (r .live e h) (r .live d l);
-        first-same = f;
-        order-long = o;
-        cursor-long = c;
-      },
-    )
+-- the root of a try is a vertex
+pub ends-below : {p : Plan} (n : ℕ) → Admitted limits p → p .vertices ≤ n → EndsBelow (p .ends) n
+ends-below n a h e l = let f = a .fit e l in (omega (arith, f .left), omega (arith, f .right))
+
+module _ {p : Plan} {incident begins first dead₀ marks₀ order₀ cursor₀ : List ℕ} (r : Ready p incident begins first dead₀ marks₀ order₀ cursor₀) {e d : ℕ} (h : e < length (p .ends) / 2) (l : d < length (p .ends) / 2) where
+  room : (k : ℕ) → k < length (p .ends) / 2 → k < length dead₀
+  room k b = omega (arith, r .tables .dead-room)
+
+  -- marked
+  pub try-tables : {dead₁ : List ℕ} → dead₁ ≡ both dead₀ e d 1 → Tables p incident begins dead₁ marks₀ order₀ cursor₀
+  try-tables q = let t = r .tables in record {
+    tabled = t .tabled;
+    dead-room = omega (arith, t .dead-room, ap length q ∙ both-long dead₀ e d 1);
+    marks-room = t .marks-room;
+    order-room = t .order-room;
+    cursor-room = t .cursor-room;
+    fresh = t .fresh;
+  }
+
+  -- the whole try
+  pub tried : {dead₁ dead marks order cursor : List ℕ} (count : ℕ) → dead₁ ≡ both dead₀ e d 1
+      → ((cut : List ℕ) → Cutting p cut (read dead₁) → ltb count (p .vertices) ≡ disconnects (graph p) cut) → marks ≡ marks₀
+      → dead ≡ both dead₁ e d 0 → length order ≡ length order₀ → length cursor ≡ length cursor₀
+      → (ltb count (p .vertices) ≡ disconnects (graph p) (e ∷ (d ∷ []))) × Restored dead₀ marks₀ order₀ cursor₀ dead marks order cursor
+  tried count k s f b o c = (
+    s (e ∷ (d ∷ [])) (rw k (cutting dead₀ e d (room e h) (room d l) p (r .live))),
+    record {
+      dead-same = b ∙ ap (λ (x : List ℕ). both x e d 0) k ∙ taken-back dead₀ e d (room e h) (room d l) (r .live e h) (r .live d l);
+      marks-same = f;
+      order-long = o;
+      cursor-long = c;
+    },
+  )

@@ -12,6 +12,7 @@ use Rattle.connectivity.specs.Graph.{Graph}
 use Rattle.connectivity.specs.Cut.{disconnects, singles, pairsWith, pairs, firstOf}
 use Rattle.labels.specs.Label.{Balanced}
 use Rattle.connectivity.specs.Admission.{Admitted}
+use Rattle.graph.specs.Marks.{read}
 use Rattle.cuts.specs.declared.lowest.Lowest.{Lowest}
 
 -- the labels hide no cut of one edge, and none of two
@@ -23,7 +24,6 @@ ShowsTwo g m labels = (e d : ℕ) → e < d → d < m → (getD labels e 0 ≡ g
 
 -- what the searches for one edge and for two ask
 pub record Shown (n : ℕ) (ends labels : List ℕ) (m : ℕ) : Type 0 where
-  pub admitted : Admitted limits (plan n ends)
   pub edges : m ≡ length ends / 2
   pub room : m ≤ length labels
   pub one : ShowsOne (graph (plan n ends)) m labels
@@ -57,9 +57,8 @@ pub data Told : Lowest → Option (List ℕ) → Type 0 where
   uncut : Told (record { count = 3; first = 0; second = 0 }) none
 
 -- a connected plan with labels that cancel around every vertex
-pub record Whole (n : ℕ) (ends labels : List ℕ) (m : ℕ) : Type 0 where
+pub record Whole (n : ℕ) (ends labels : List ℕ) : Type 0 where
   pub admitted : Admitted limits (plan n ends)
-  pub edges : m ≡ length ends / 2
-  pub room : m ≤ length labels
+  pub room : length ends / 2 ≤ length labels
   pub connected : disconnects (graph (plan n ends)) [] ≡ false
-  pub balanced : Balanced (graph (plan n ends)) (λ (e : ℕ). getD labels e 0)
+  pub balanced : Balanced (graph (plan n ends)) (read labels)

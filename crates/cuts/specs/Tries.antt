@@ -1,35 +1,43 @@
 -- What a try of some edges asks of the tables, and what it leaves of them.
 use mathlib.Core.Path.{_≡_}
 use mathlib.Core.List.{List}
-use Prim.Native.Nat.{ℕ, _/_, _≤_, _<_}
+use Prim.Native.Nat.{ℕ, _+_, _*_, _/_, _≤_, _<_}
 use lib.ListN.{length, getD}
 use Rattle.connectivity.specs.Plan.{Plan, limits}
 use Rattle.incidence.specs.Tables.{Tabled}
 
 -- the tables of a plan, room for a search, and no vertex marked
-pub record Tables (p : Plan) (incident begins dead first order cursor : List ℕ) : Type 0 where
+pub record Tables (p : Plan) (incident begins dead marks order cursor : List ℕ) : Type 0 where
   pub tabled : Tabled limits p incident begins
   pub dead-room : length (p .ends) / 2 ≤ length dead
-  pub first-room : p .vertices ≤ length first
+  pub marks-room : p .vertices ≤ length marks
   pub order-room : p .vertices ≤ length order
   pub cursor-room : p .vertices ≤ length cursor
-  pub fresh : (v : ℕ) → v < p .vertices → getD first v 0 ≡ 0
+  pub fresh : (v : ℕ) → v < p .vertices → getD marks v 0 ≡ 0
 
--- and no edge marked
-pub record Ready (p : Plan) (incident begins dead first order cursor : List ℕ) : Type 0 where
-  pub tables : Tables p incident begins dead first order cursor
+-- and no edge marked; and a place for the first edge of each vertex
+pub record Ready (p : Plan) (incident begins first dead marks order cursor : List ℕ) : Type 0 where
+  pub tables : Tables p incident begins dead marks order cursor
   pub live : (e : ℕ) → e < length (p .ends) / 2 → getD dead e 0 ≡ 0
+  pub first-room : p .vertices ≤ length first
+
+-- no edge marked, and no vertex in a second table of marks; room for labels and chains
+pub record Spaces (p : Plan) (dead labels sums marks next heads : List ℕ) : Type 0 where
+  pub live : (e : ℕ) → e < length (p .ends) / 2 → getD dead e 0 ≡ 0
+  pub labels-room : length (p .ends) / 2 ≤ length labels
+  pub sums-room : p .vertices ≤ length sums
+  pub marks-room : p .vertices ≤ length marks
+  pub fresh : (v : ℕ) → v < p .vertices → getD marks v 0 ≡ 0
+  pub next-room : length (p .ends) / 2 ≤ length next
+  pub some-head : 0 < length heads
 
 -- a try leaves the marks as they were
-pub record Restored (dead₀ first₀ order₀ cursor₀ dead first order cursor : List ℕ) : Type 0 where
+pub record Restored (dead₀ marks₀ order₀ cursor₀ dead marks order cursor : List ℕ) : Type 0 where
   pub dead-same : dead ≡ dead₀
-  pub first-same : first ≡ first₀
+  pub marks-same : marks ≡ marks₀
   pub order-long : length order ≡ length order₀
   pub cursor-long : length cursor ≡ length cursor₀
 
--- room for labels and chains
-pub record Rooms (p : Plan) (labels sums next heads : List ℕ) : Type 0 where
-  pub labels-room : length (p .ends) / 2 ≤ length labels
-  pub sums-room : p .vertices ≤ length sums
-  pub next-room : length (p .ends) / 2 ≤ length next
-  pub some-head : 0 < length heads
+-- the ends of every edge are below n
+abbrev pub EndsBelow : List ℕ → ℕ → Type 0
+EndsBelow ends n = (e : ℕ) → e < length ends / 2 → (getD ends (2 * e) 0 < n) × (getD ends (2 * e + 1) 0 < n)

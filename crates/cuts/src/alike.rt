@@ -1,5 +1,4 @@
 // Which edges have like labels: an edge that disconnects alone has the label 0, and two that do so only together have the same.
-ghost use mathlib.Core.Path.{_≡_};
 ghost use Prim.Native.Nat.{_+_, _<_, _≤_};
 ghost use lib.ListN.{length, getD};
 ghost use Rattle.cuts.specs.Alike.{Chaining, LowestLike, LowestPaired};

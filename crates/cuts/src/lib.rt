@@ -6,7 +6,7 @@ ghost use mathlib.Core.Path.{_≡_};
 ghost use Rattle.connectivity.specs.Plan.{plan, graph, limits};
 ghost use Rattle.connectivity.specs.Cut.{lowestCut};
 ghost use Rattle.cuts.specs.Lowest.{Told};
-ghost use Rattle.cuts.specs.Tries.{Ready, Rooms};
+ghost use Rattle.cuts.specs.Tries.{Tables, Spaces};
 ghost use Rattle.cuts.specs.Verdict.{handed, lowestHanded, lightest};
 
 mod alike; // alike.rt: which edges have like labels
@@ -36,6 +36,7 @@ pub fn lowest_cut(vertices: u16, ends: &[u16]) -> Lightest
     let mut cursor = [0u16; Graph::MAX_VERTICES];
     let mut labels = [0u64; Graph::MAX_EDGES];
     let mut sums = [0u64; Graph::MAX_VERTICES];
+    let mut marks = [0u16; Graph::MAX_VERTICES];
     let mut next = [0u16; Graph::MAX_EDGES];
     let mut heads = [0u16; Graph::MAX_EDGES];
     told(lowest_over(
@@ -49,13 +50,14 @@ pub fn lowest_cut(vertices: u16, ends: &[u16]) -> Lightest
         &mut cursor,
         &mut labels,
         &mut sums,
+        &mut marks,
         &mut next,
         &mut heads,
     ))
 }
 
-// The lowest cut of an admitted plan whose tables are filled, over lent tables in which no edge and no vertex is marked: the empty set, if
-// a search from vertex 0 does not see all vertices.
+// The lowest cut of an admitted plan over its tables and lent ones in which no edge and no vertex is marked: the empty set, if a search from
+// vertex 0 does not see all vertices.
 fn lowest_over(
     vertices: u16,
     ends: &[u16],
@@ -67,32 +69,37 @@ fn lowest_over(
     cursor: &mut [u16],
     labels: &mut [u64],
     sums: &mut [u64],
+    marks: &mut [u16],
     next: &mut [u16],
     heads: &mut [u16],
 ) -> Lowest
-    requires { ⌜ Ready (plan vertices (now ends)) (now incident) (now begins) (now dead) (now first) (now order) (now cursor) × Rooms (plan vertices (now ends)) (now labels) (now sums) (now next) (now heads) ⌝ }
+    requires { ⌜ Tables (plan vertices (now ends)) (now incident) (now begins) (now dead) (now first) (now order) (now cursor) × Spaces (plan vertices (now ends)) (now dead) (now labels) (now sums) (now marks) (now next) (now heads) ⌝ }
     ensures { λ r. ⌜ Told r (lowestCut (graph (plan vertices (now (ends .entry))))) ⌝ }
 {
-    let count = tries::search(vertices, ends, incident, begins, dead, first, order, cursor);
+    let count = tries::search(
+        vertices,
+        ends,
+        incident,
+        begins,
+        dead,
+        0,
+        first,
+        order,
+        cursor,
+    );
     if count < vertices {
-        return Lowest {
-            count: 0,
-            first: 0,
-            second: 0,
-        };
+        return lowest::cut(0, 0, 0);
     }
     labels::balance(vertices, ends, first, order, labels, sums);
-    depth::undo(order, 0, count, first);
-    let edges = (ends.len() / 2) as u16;
     lowest::small_cut(
         vertices,
         ends,
         incident,
         begins,
-        labels,
-        edges,
-        dead,
         first,
+        labels,
+        dead,
+        marks,
         order,
         cursor,
         next,

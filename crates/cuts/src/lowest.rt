@@ -2,7 +2,7 @@
 use crate::alike;
 use crate::tries::is_cut;
 ghost use mathlib.Core.Path.{_≡_};
-ghost use Prim.Native.Nat.{_≤_, _<_};
+ghost use Prim.Native.Nat.{_/_, _≤_, _<_};
 ghost use lib.ListN.{length};
 ghost use Rattle.connectivity.specs.Plan.{plan, graph};
 ghost use Rattle.connectivity.specs.Cut.{lowestCut};
@@ -17,10 +17,15 @@ pub struct Lowest {
     pub second: u16,
 }
 
-// Two edges.
-pub(crate) struct Pair {
-    pub first: u16,
-    pub second: u16,
+// A cut of so many edges, and these.
+pub(crate) fn cut(count: u16, first: u16, second: u16) -> Lowest
+    ensures { λ r. ⌜ r ≡ record { count = count; first = first; second = second } ⌝ }
+{
+    Lowest {
+        count: count,
+        first: first,
+        second: second,
+    }
 }
 
 // The fewest edges, two at most, that disconnect a connected plan whose edges have labels, and of such sets the lowest. Edges with like
@@ -30,71 +35,50 @@ pub(crate) fn small_cut(
     ends: &[u16],
     incident: &[u16],
     begins: &[u16],
+    first: &[u16],
     labels: &[u64],
-    edges: u16,
     dead: &mut [u8],
-    first: &mut [u16],
+    marks: &mut [u16],
     order: &mut [u16],
     cursor: &mut [u16],
     next: &mut [u16],
     heads: &mut [u16],
 ) -> Lowest
-    requires { ⌜ Whole vertices (now ends) (now labels) edges × Ready (plan vertices (now ends)) (now incident) (now begins) (now dead) (now first) (now order) (now cursor) × (edges ≤ length (now next)) × (0 < length (now heads)) ⌝ }
+    requires { ⌜ Whole vertices (now ends) (now labels) × Ready (plan vertices (now ends)) (now incident) (now begins) (now first) (now dead) (now marks) (now order) (now cursor) × (length (now ends) / 2 ≤ length (now next)) × (0 < length (now heads)) ⌝ }
     ensures { λ r. ⌜ Told r (lowestCut (graph (plan vertices (now (ends .entry))))) ⌝ }
 {
+    let edges = (ends.len() / 2) as u16;
     let e = lowest_one(
         vertices,
         ends,
         incident,
         begins,
+        first,
         labels,
         edges,
         dead,
-        first,
+        marks,
         order,
         cursor,
     );
     if e < edges {
-        return Lowest {
-            count: 1,
-            first: e,
-            second: 0,
-        };
+        return cut(1, e, 0);
     }
     chains::chain(edges, labels, next, heads);
-    let pair = lowest_two(
+    lowest_two(
         vertices,
         ends,
         incident,
         begins,
+        first,
         labels,
         next,
         edges,
         dead,
-        first,
+        marks,
         order,
         cursor,
-    );
-    told_pair(pair, edges)
-}
-
-// A pair whose second is `edges` stands for none.
-fn told_pair(pair: Pair, edges: u16) -> Lowest
-    ensures { λ r. ⌜ Told r (twoTold edges (pair .first) (pair .second)) ⌝ }
-{
-    let second = pair.second;
-    if second < edges {
-        return Lowest {
-            count: 2,
-            first: pair.first,
-            second: second,
-        };
-    }
-    Lowest {
-        count: 3,
-        first: 0,
-        second: 0,
-    }
+    )
 }
 
 // The lowest edge that disconnects, or `edges` for none. One whose label is not 0 need not be tried.
@@ -103,15 +87,16 @@ fn lowest_one(
     ends: &[u16],
     incident: &[u16],
     begins: &[u16],
+    first: &[u16],
     labels: &[u64],
     edges: u16,
     dead: &mut [u8],
-    first: &mut [u16],
+    marks: &mut [u16],
     order: &mut [u16],
     cursor: &mut [u16],
 ) -> u16
-    requires { ⌜ Shown vertices (now ends) (now labels) edges × Ready (plan vertices (now ends)) (now incident) (now begins) (now dead) (now first) (now order) (now cursor) ⌝ }
-    ensures { λ r. ⌜ (r ≤ edges) × (firstOne (graph (plan vertices (now (ends .entry)))) edges ≡ oneTold edges r) × Restored (now (dead .entry)) (now (first .entry)) (now (order .entry)) (now (cursor .entry)) (now (dead .exit)) (now (first .exit)) (now (order .exit)) (now (cursor .exit)) ⌝ }
+    requires { ⌜ Shown vertices (now ends) (now labels) edges × Ready (plan vertices (now ends)) (now incident) (now begins) (now first) (now dead) (now marks) (now order) (now cursor) ⌝ }
+    ensures { λ r. ⌜ (r ≤ edges) × (firstOne (graph (plan vertices (now (ends .entry)))) edges ≡ oneTold edges r) × Restored (now (dead .entry)) (now (marks .entry)) (now (order .entry)) (now (cursor .entry)) (now (dead .exit)) (now (marks .exit)) (now (order .exit)) (now (cursor .exit)) ⌝ }
 {
     let mut e = alike::zero_from(labels, edges, 0);
     while e < edges {
@@ -120,10 +105,11 @@ fn lowest_one(
             ends,
             incident,
             begins,
+            first,
             e,
             e,
             dead,
-            first,
+            marks,
             order,
             cursor,
         ) {
@@ -134,22 +120,23 @@ fn lowest_one(
     edges
 }
 
-// The lowest pair that disconnects, or twice `edges` for none. An edge that no other has the label of need not be tried.
+// The lowest pair that disconnects, or three edges for none. One whose label no later edge has need not be tried.
 fn lowest_two(
     vertices: u16,
     ends: &[u16],
     incident: &[u16],
     begins: &[u16],
+    first: &[u16],
     labels: &[u64],
     next: &[u16],
     edges: u16,
     dead: &mut [u8],
-    first: &mut [u16],
+    marks: &mut [u16],
     order: &mut [u16],
     cursor: &mut [u16],
-) -> Pair
-    requires { ⌜ ShownBoth vertices (now ends) (now labels) edges × Chaining edges (now labels) (now next) × Ready (plan vertices (now ends)) (now incident) (now begins) (now dead) (now first) (now order) (now cursor) ⌝ }
-    ensures { λ r. ⌜ firstTwo (graph (plan vertices (now (ends .entry)))) edges ≡ twoTold edges (r .first) (r .second) ⌝ }
+) -> Lowest
+    requires { ⌜ ShownBoth vertices (now ends) (now labels) edges × Chaining edges (now labels) (now next) × Ready (plan vertices (now ends)) (now incident) (now begins) (now first) (now dead) (now marks) (now order) (now cursor) ⌝ }
+    ensures { λ r. ⌜ Told r (firstTwo (graph (plan vertices (now (ends .entry)))) edges) ⌝ }
 {
     let mut e = alike::paired_from(labels, next, edges, 0);
     while e < edges {
@@ -158,27 +145,22 @@ fn lowest_two(
             ends,
             incident,
             begins,
+            first,
             labels,
             next,
             edges,
             e,
             dead,
-            first,
+            marks,
             order,
             cursor,
         );
         if d < edges {
-            return Pair {
-                first: e,
-                second: d,
-            };
+            return cut(2, e, d);
         }
         e = alike::paired_from(labels, next, edges, e + 1);
     }
-    Pair {
-        first: edges,
-        second: edges,
-    }
+    cut(3, 0, 0)
 }
 
 // The lowest edge above `e` that disconnects together with it, or `edges` for none. Those with another label need not be tried.
@@ -187,17 +169,18 @@ fn lowest_with(
     ends: &[u16],
     incident: &[u16],
     begins: &[u16],
+    first: &[u16],
     labels: &[u64],
     next: &[u16],
     edges: u16,
     e: u16,
     dead: &mut [u8],
-    first: &mut [u16],
+    marks: &mut [u16],
     order: &mut [u16],
     cursor: &mut [u16],
 ) -> u16
-    requires { ⌜ ShownBoth vertices (now ends) (now labels) edges × Chaining edges (now labels) (now next) × Ready (plan vertices (now ends)) (now incident) (now begins) (now dead) (now first) (now order) (now cursor) × (e < edges) ⌝ }
-    ensures { λ r. ⌜ (firstWith (graph (plan vertices (now (ends .entry)))) edges e ≡ twoTold edges e r) × Restored (now (dead .entry)) (now (first .entry)) (now (order .entry)) (now (cursor .entry)) (now (dead .exit)) (now (first .exit)) (now (order .exit)) (now (cursor .exit)) ⌝ }
+    requires { ⌜ ShownBoth vertices (now ends) (now labels) edges × Chaining edges (now labels) (now next) × Ready (plan vertices (now ends)) (now incident) (now begins) (now first) (now dead) (now marks) (now order) (now cursor) × (e < edges) ⌝ }
+    ensures { λ r. ⌜ (firstWith (graph (plan vertices (now (ends .entry)))) edges e ≡ twoTold edges e r) × Restored (now (dead .entry)) (now (marks .entry)) (now (order .entry)) (now (cursor .entry)) (now (dead .exit)) (now (marks .exit)) (now (order .exit)) (now (cursor .exit)) ⌝ }
 {
     let mut d = alike::next_like(labels, next, edges, e);
     while d < edges {
@@ -206,10 +189,11 @@ fn lowest_with(
             ends,
             incident,
             begins,
+            first,
             e,
             d,
             dead,
-            first,
+            marks,
             order,
             cursor,
         ) {

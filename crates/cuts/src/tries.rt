@@ -9,28 +9,55 @@ ghost use Rattle.connectivity.specs.Plan.{plan, graph};
 ghost use Rattle.connectivity.specs.Cut.{disconnects};
 ghost use Rattle.graph.specs.Marks.{read};
 ghost use Rattle.depth.specs.Depth.{Crossing, Found, Cutting};
-ghost use Rattle.cuts.specs.Tries.{Tables, Ready, Restored};
+ghost use Rattle.cuts.specs.Tries.{Tables, Ready, Restored, EndsBelow};
 
-// The edges `e` and `d`, which may be the same, disconnect. They are marked for the time of a search.
+// The edges `e` and `d`, which may be the same, disconnect: without them a search does not see all vertices. It begins at the end of `e` that
+// was found over `e`, if there is one: of an edge that disconnects alone it sees just the part that is cut off.
 pub(crate) fn is_cut(
     vertices: u16,
     ends: &[u16],
     incident: &[u16],
     begins: &[u16],
+    first: &[u16],
     e: u16,
     d: u16,
     dead: &mut [u8],
-    first: &mut [u16],
+    marks: &mut [u16],
     order: &mut [u16],
     cursor: &mut [u16],
 ) -> bool
-    requires { ⌜ Ready (plan vertices (now ends)) (now incident) (now begins) (now dead) (now first) (now order) (now cursor) × (e < length (now ends) / 2) × (d < length (now ends) / 2) ⌝ }
-    ensures { λ r. ⌜ (r ≡ disconnects (graph (plan vertices (now (ends .entry)))) (e ∷ (d ∷ []))) × Restored (now (dead .entry)) (now (first .entry)) (now (order .entry)) (now (cursor .entry)) (now (dead .exit)) (now (first .exit)) (now (order .exit)) (now (cursor .exit)) ⌝ }
+    requires { ⌜ Ready (plan vertices (now ends)) (now incident) (now begins) (now first) (now dead) (now marks) (now order) (now cursor) × (e < length (now ends) / 2) × (d < length (now ends) / 2) ⌝ }
+    ensures { λ r. ⌜ (r ≡ disconnects (graph (plan vertices (now (ends .entry)))) (e ∷ (d ∷ []))) × Restored (now (dead .entry)) (now (marks .entry)) (now (order .entry)) (now (cursor .entry)) (now (dead .exit)) (now (marks .exit)) (now (order .exit)) (now (cursor .exit)) ⌝ }
 {
+    let root = lower_end(ends, first, e);
     mark(e, d, 1, dead);
-    let count = seen(vertices, ends, incident, begins, dead, first, order, cursor);
+    let count = seen(
+        vertices,
+        ends,
+        incident,
+        begins,
+        dead,
+        root,
+        marks,
+        order,
+        cursor,
+    );
     mark(e, d, 0, dead);
     count < vertices
+}
+
+// The end of `e` of which it is the first edge, if there is one; else any.
+fn lower_end(ends: &[u16], first: &[u16], e: u16) -> u16
+    requires { ⌜ EndsBelow (now ends) (length (now first)) × (e < length (now ends) / 2) × (e < 65535) ⌝ }
+    ensures { λ r. ⌜ ((n : ℕ) → EndsBelow (now (ends .entry)) n → r < n) ⌝ }
+{
+    let at = 2 * (e as usize);
+    let v = ends[at];
+    let mark = first[v as usize];
+    if mark == e + 1 {
+        return v;
+    }
+    ends[at + 1]
 }
 
 // Gives both edges a mark.
@@ -42,38 +69,50 @@ fn mark(e: u16, d: u16, x: u8, dead: &mut [u8])
     dead[d as usize] = x;
 }
 
-// How many vertices a search from vertex 0 sees over the edges without a mark. The vertices' marks are taken back.
+// How many vertices a search from `root` sees over the edges without a mark. The vertices' marks are taken back.
 fn seen(
     vertices: u16,
     ends: &[u16],
     incident: &[u16],
     begins: &[u16],
     dead: &[u8],
-    first: &mut [u16],
+    root: u16,
+    marks: &mut [u16],
     order: &mut [u16],
     cursor: &mut [u16],
 ) -> u16
-    requires { ⌜ Tables (plan vertices (now ends)) (now incident) (now begins) (now dead) (now first) (now order) (now cursor) ⌝ }
-    ensures { λ r. ⌜ ((cut : List ℕ) → Cutting (plan vertices (now (ends .entry))) cut (read (now (dead .entry))) → ltb r vertices ≡ disconnects (graph (plan vertices (now (ends .entry)))) cut) × (now (first .exit) ≡ now (first .entry)) ⌝ }
+    requires { ⌜ Tables (plan vertices (now ends)) (now incident) (now begins) (now dead) (now marks) (now order) (now cursor) × (root < vertices) ⌝ }
+    ensures { λ r. ⌜ ((cut : List ℕ) → Cutting (plan vertices (now (ends .entry))) cut (read (now (dead .entry))) → ltb r vertices ≡ disconnects (graph (plan vertices (now (ends .entry)))) cut) × (now (marks .exit) ≡ now (marks .entry)) ⌝ }
 {
-    let count = search(vertices, ends, incident, begins, dead, first, order, cursor);
-    depth::undo(order, 0, count, first);
+    let count = search(
+        vertices,
+        ends,
+        incident,
+        begins,
+        dead,
+        root,
+        marks,
+        order,
+        cursor,
+    );
+    depth::undo(order, 0, count, marks);
     count
 }
 
-// The search from vertex 0 over the edges without a mark; how many vertices it has seen.
+// The search from `root` over the edges without a mark; how many vertices it has seen.
 pub(crate) fn search(
     vertices: u16,
     ends: &[u16],
     incident: &[u16],
     begins: &[u16],
     dead: &[u8],
-    first: &mut [u16],
+    root: u16,
+    marks: &mut [u16],
     order: &mut [u16],
     cursor: &mut [u16],
 ) -> u16
-    requires { ⌜ Tables (plan vertices (now ends)) (now incident) (now begins) (now dead) (now first) (now order) (now cursor) ⌝ }
-    ensures { λ r. ⌜ Found (Crossing (plan vertices (now (ends .entry))) (now (incident .entry)) (now (begins .entry)) (now (dead .entry))) vertices 0 0 (now (first .entry)) (now (order .entry)) (now (cursor .entry)) (now (first .exit)) (now (order .exit)) (now (cursor .exit)) r ⌝ }
+    requires { ⌜ Tables (plan vertices (now ends)) (now incident) (now begins) (now dead) (now marks) (now order) (now cursor) × (root < vertices) ⌝ }
+    ensures { λ r. ⌜ Found (Crossing (plan vertices (now (ends .entry))) (now (incident .entry)) (now (begins .entry)) (now (dead .entry))) vertices root 0 (now (marks .entry)) (now (order .entry)) (now (cursor .entry)) (now (marks .exit)) (now (order .exit)) (now (cursor .exit)) r ⌝ }
 {
     let found = depth::explore(
         vertices,
@@ -81,9 +120,9 @@ pub(crate) fn search(
         incident,
         begins,
         dead,
+        root,
         0,
-        0,
-        first,
+        marks,
         order,
         cursor,
     );

@@ -27,9 +27,12 @@ use Rattle.incidence.specs.Tables.{Tabled}
 use Rattle.depth.specs.Depth.{Crossing, Fresh, Found, Cutting}
 use Rattle.depth.proofs.Entering.{entered-reach, clear-closed}
 
--- vertex 0 of an admitted plan can be entered
+-- where no vertex has a mark any can be entered; vertex 0 of an admitted plan, for one
+pub fresh-at : (n root : ℕ) (first : List ℕ) → root < n → ((v : ℕ) → v < n → getD first v 0 ≡ 0) → Fresh n root 0 first
+fresh-at n root first below clear = record { room = omega arith; below = below; fresh = clear root below }
+
 pub fresh-0 : {most : Limits} {p : Plan} → Admitted most p → (first : List ℕ) → ((v : ℕ) → v < p .vertices → getD first v 0 ≡ 0) → Fresh (p .vertices) 0 0 first
-fresh-0 a first clear = record { room = omega (arith, a .two); below = omega (arith, a .two); fresh = clear 0 (omega (arith, a .two)) }
+fresh-0 {p = p} a first clear = fresh-at (p .vertices) 0 first (omega (arith, a .two)) clear
 
 -- from any vertex
 module _ {most : Limits} {p : Plan} {incident begins dead cut : List ℕ} {root : ℕ} {first₀ order₀ cursor₀ first order cursor : List ℕ} {count : ℕ} (t : Tabled most p incident begins)
@@ -45,7 +48,7 @@ module _ {most : Limits} {p : Plan} {incident begins dead cut : List ℕ} {root 
   root-below = subst (λ (v : ℕ). v < n) (f .tree .top) (f .tree .valid 0 (omega arith) (f .tree .some) .below)
 
   fresh : Fresh n root 0 first₀
-  fresh = record { room = omega (arith, t .admitted .two); below = root-below; fresh = clear root root-below }
+  fresh = fresh-at n root first₀ root-below clear
 
   vertex : (v : ℕ) → v < n → Vertex g v
   vertex v l = admitted-vertex (t .admitted) v l

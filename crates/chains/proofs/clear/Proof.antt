@@ -6,7 +6,7 @@ use borrow.Author.Needs.{needs}
 use borrow.Author.Count.{below-more}
 use lib.ListN.{length, getD, set, length-set}
 use lib.Seq.{getD-set-same, getD-set-other}
-use Rattle.chains.proofs.Linking.{zeros}
+use Rattle.chains.proofs.Linking.{all-zero}
 use Rattle.chains.proofs.clear.Statement.{statement}
 use Rattle.chains.proofs.clear.Tie as tie
 
@@ -43,7 +43,7 @@ same-length : tie.Need-same-length Inv-loop μ-loop
 same-length c = search needs
 
 returns : tie.Need-returns Inv-loop μ-loop
-returns c = let l = c .before .loop in zeros (l .heads) _ (l .inv .1) (λ k h. l .inv .2 k (omega arith))
+returns c = let l = c .before .loop in all-zero (l .heads) _ (l .inv .1) (λ k h. l .inv .2 k (omega arith))
 
 pub clear-spec : {M : Type 1} → statement M
 clear-spec =

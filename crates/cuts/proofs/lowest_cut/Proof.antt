@@ -1,8 +1,8 @@
 -- `lowest_cut` meets its contract: the plan's refusal, or what the lowest cut is called.
 use mathlib.Core.Path.{ap, _∙_}
-use Rattle.cuts.specs.Verdict.{handed}
-use Rattle.cuts.proofs.Answers.{answers-refused, answers-admitted, answers-ready, answers-cut}
 use borrow.Author.Needs.{needs}
+use Rattle.cuts.specs.Verdict.{handed}
+use Rattle.cuts.proofs.Answers.{answers-refused, answers-admitted, answers-spaces, answers-cut}
 use Rattle.cuts.proofs.lowest_cut.Statement.{statement}
 use Rattle.cuts.proofs.lowest_cut.Tie as tie
 
@@ -48,16 +48,17 @@ slice-aggregate-lowest-over-9 c = search needs
 slice-aggregate-lowest-over-10 : tie.Need-slice-aggregate-lowest-over-10
 slice-aggregate-lowest-over-10 c = search needs
 
+slice-aggregate-lowest-over-11 : tie.Need-slice-aggregate-lowest-over-11
+slice-aggregate-lowest-over-11 c = search needs
+
 lowest-over-requires : tie.Need-lowest-over-requires
-lowest-over-requires c κs = let e = c .before .before .before .before .before .before .before .before .before .before in answers-ready _ _ (e .before .before .before .before .fill .ensures) (e .if1 .left)
+lowest-over-requires c κs = answers-spaces _ _ (c .before .before .before .before .before .before .before .before .before .before .before .before .before .before .before .fill .ensures) (c .before .before .before .before .before .before .before .before .before .before .before .if1 .left)
 
 told-requires : tie.Need-told-requires
 told-requires c κs = search needs
 
 returns-2 : tie.Need-returns-2
-returns-2 c =
-    let e = c .before .before .before .before .before .before .before .before .before .before .before .before .before .before .before .before .before .before .before .before in
-    ap handed (c .told .ensures) ∙ answers-cut _ _ _ (answers-admitted _ _ (e .before .before .before .before .fill .ensures) (e .if1 .left)) (c .before .before .before .before .before .before .before .before .before .lowest-over .ensures)
+returns-2 c = ap handed (c .told .ensures) ∙ answers-cut _ _ _ (answers-admitted _ _ (c .before .before .before .before .before .before .before .before .before .before .before .before .before .before .before .before .before .before .before .before .before .before .before .before .before .before .fill .ensures) (c .before .before .before .before .before .before .before .before .before .before .before .before .before .before .before .before .before .before .before .before .before .before .if1 .left)) (c .before .before .before .before .before .before .before .before .before .before .lowest-over .ensures)
 
 pub lowest-cut-spec : {M : Type 1} → statement M
 lowest-cut-spec =
@@ -77,6 +78,7 @@ lowest-cut-spec =
     slice-aggregate-lowest-over-8
     slice-aggregate-lowest-over-9
     slice-aggregate-lowest-over-10
+    slice-aggregate-lowest-over-11
     lowest-over-requires
     told-requires
     returns-2)

@@ -2,6 +2,7 @@
 use mathlib.Core.Path.{_≡_, sym, ap, _∙_}
 use Prim.Native.Nat.{_-_, _≤_}
 use native.Mathlib.Omega.{arith}
+use borrow.Author.Needs.{needs}
 use lib.ListN.{length}
 use Rattle.connectivity.specs.Plan.{plan, graph}
 use Rattle.connectivity.specs.Cut.{disconnects, singles, firstOf}
@@ -10,36 +11,34 @@ use Rattle.cuts.specs.Tries.{Restored}
 use Rattle.cuts.proofs.First.{from, one-found, one-next, one-over}
 use Rattle.cuts.proofs.Likes.{pass-one}
 use Rattle.cuts.proofs.Trying.{one-twice, ready-again, restored-same, restored-more}
-use borrow.Author.Needs.{needs}
 use Rattle.cuts.proofs.lowest.lowest_one.Statement.{statement}
 use Rattle.cuts.proofs.lowest.lowest_one.Tie as tie
 
 abbrev Inv-loop : tie.InvT-loop
-Inv-loop vertices ends incident begins labels edges dead₀ first₀ order₀ cursor₀ e₀ dead first order cursor e =
+Inv-loop vertices ends incident begins first labels edges dead₀ marks₀ order₀ cursor₀ e₀ dead marks order cursor e =
     (e ≤ edges) × (firstOne (graph (plan vertices ends)) edges ≡ firstOf (disconnects (graph (plan vertices ends))) (singles (from e edges)))
-    × Restored dead₀ first₀ order₀ cursor₀ dead first order cursor
+    × Restored dead₀ marks₀ order₀ cursor₀ dead marks order cursor
 
 abbrev μ-loop : tie.MeasureT-loop
-μ-loop vertices ends incident begins labels edges dead₀ first₀ order₀ cursor₀ e₀ dead first order cursor e = edges - e
+μ-loop vertices ends incident begins first labels edges dead₀ marks₀ order₀ cursor₀ e₀ dead marks order cursor e = edges - e
 
 zero-from-requires : tie.Need-zero-from-requires Inv-loop μ-loop
-zero-from-requires c κs = (c .before .before .before .before .before .before .before .before .pre .0 .room, omega arith)
+zero-from-requires c κs = (c .before .before .before .before .before .before .before .before .before .pre .0 .room, omega arith)
 
 loop-holds : tie.Need-loop-holds Inv-loop μ-loop
-loop-holds c = let z = c .zero-from .ensures in (z .high, pass-one _ _ (c .before .before .before .before .before .before .before .before .before .pre .0) z, restored-same)
+loop-holds c = let z = c .zero-from .ensures in (z .high, pass-one _ _ (c .before .before .before .before .before .before .before .before .before .before .pre .0) z, restored-same)
 
 is-cut-requires : tie.Need-is-cut-requires Inv-loop μ-loop
 is-cut-requires c κs =
-    let l = c .before .before .before .before .before in
-    let s = l .before .before .before .before .before .before .before .before .before .before .pre in
+    let s = c .before .before .before .before .before .before .before .before .before .before .before .before .before .before .before .before .pre in
     let h = c .before .before .before .before .loop-test .taken in
-    (ready-again (s .1) (l .loop .inv .2), omega (arith, h, s .0 .edges), omega (arith, h, s .0 .edges))
+    (ready-again (s .1) (c .before .before .before .before .before .loop .inv .2), omega (arith, h, s .0 .edges), omega (arith, h, s .0 .edges))
 
 same-length : tie.Need-same-length Inv-loop μ-loop
 same-length c = ap length (c .before .before .before .before .before .before .before .before .before .is-cut .ensures .1 .dead-same ∙ c .before .before .before .before .before .before .before .before .before .before .before .before .before .before .before .loop .inv .2 .dead-same)
 
 same-length-2 : tie.Need-same-length-2 Inv-loop μ-loop
-same-length-2 c = ap length (c .before .before .before .before .before .before .before .before .before .is-cut .ensures .1 .first-same ∙ c .before .before .before .before .before .before .before .before .before .before .before .before .before .before .before .loop .inv .2 .first-same)
+same-length-2 c = ap length (c .before .before .before .before .before .before .before .before .before .is-cut .ensures .1 .marks-same ∙ c .before .before .before .before .before .before .before .before .before .before .before .before .before .before .before .loop .inv .2 .marks-same)
 
 same-length-3 : tie.Need-same-length-3 Inv-loop μ-loop
 same-length-3 c = c .before .before .before .before .before .before .before .before .before .is-cut .ensures .1 .order-long ∙ c .before .before .before .before .before .before .before .before .before .before .before .before .before .before .before .loop .inv .2 .order-long
@@ -58,12 +57,10 @@ add-zero-from : tie.Need-add-zero-from Inv-loop μ-loop
 add-zero-from c = search needs
 
 zero-from-requires-2 : tie.Need-zero-from-requires-2 Inv-loop μ-loop
-zero-from-requires-2 c κs =
-    let l = c .before .before .before .before .before .before .before .before .before .before .before .before .before .before .before in
-    (l .before .before .before .before .before .before .before .before .before .before .pre .0 .room, omega (arith, c .before .before .before .before .before .before .before .before .before .before .before .before .before .before .loop-test .taken))
+zero-from-requires-2 c κs = (c .before .before .before .before .before .before .before .before .before .before .before .before .before .before .before .before .before .before .before .before .before .before .before .before .before .before .pre .0 .room, omega (arith, c .before .before .before .before .before .before .before .before .before .before .before .before .before .before .loop-test .taken))
 
 loop-less : tie.Need-loop-less Inv-loop μ-loop
-loop-less c = omega (arith, c .zero-from2 .ensures .low, c .zero-from2 .ensures .high, c .before .before .before .before .before .before .before .before .before .before .before .before .before .before .before .loop-test .taken)
+loop-less c = let z = c .zero-from2 .ensures in omega (arith, z .low, z .high, c .before .before .before .before .before .before .before .before .before .before .before .before .before .before .before .loop-test .taken)
 
 loop-again : tie.Need-loop-again Inv-loop μ-loop
 loop-again c =
@@ -71,13 +68,13 @@ loop-again c =
     let t = c .before .before .before .before .before .before .before .before .before .before .is-cut .ensures in
     let l = c .before .before .before .before .before .before .before .before .before .before .before .before .before .before .before .before .loop in
     let h = c .before .before .before .before .before .before .before .before .before .before .before .before .before .before .before .loop-test .taken in
-    (z .high, l .inv .1 ∙ one-next _ _ _ h (sym (one-twice _ _) ∙ sym (t .0) ∙ c .before .if1 .left) ∙ pass-one _ _ (c .before .before .before .before .before .before .before .before .before .before .before .before .before .before .before .before .before .before .before .before .before .before .before .before .before .before .pre .0) z, restored-more (l .inv .2) (t .1))
+    (z .high, l .inv .1 ∙ one-next _ _ _ h (sym (one-twice _ _) ∙ sym (t .0) ∙ c .before .if1 .left) ∙ pass-one _ _ (c .before .before .before .before .before .before .before .before .before .before .before .before .before .before .before .before .before .before .before .before .before .before .before .before .before .before .before .pre .0) z, restored-more (l .inv .2) (t .1))
 
 same-length-5 : tie.Need-same-length-5 Inv-loop μ-loop
 same-length-5 c = ap length (c .before .loop .inv .2 .dead-same)
 
 same-length-6 : tie.Need-same-length-6 Inv-loop μ-loop
-same-length-6 c = ap length (c .before .loop .inv .2 .first-same)
+same-length-6 c = ap length (c .before .loop .inv .2 .marks-same)
 
 same-length-7 : tie.Need-same-length-7 Inv-loop μ-loop
 same-length-7 c = c .before .loop .inv .2 .order-long

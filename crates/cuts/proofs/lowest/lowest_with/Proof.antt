@@ -8,35 +8,33 @@ use Rattle.cuts.specs.Tries.{Restored}
 use Rattle.cuts.proofs.First.{with-found, with-over}
 use Rattle.cuts.proofs.Likes.{With, with-start, with-on}
 use Rattle.cuts.proofs.Trying.{ready-again, restored-same, restored-more}
-use borrow.Author.Needs.{needs}
 use Rattle.cuts.proofs.lowest.lowest_with.Statement.{statement}
 use Rattle.cuts.proofs.lowest.lowest_with.Tie as tie
 
 abbrev Inv-loop : tie.InvT-loop
-Inv-loop vertices ends incident begins labels next edges e dead₀ first₀ order₀ cursor₀ d₀ dead first order cursor d =
-    With (graph (plan vertices ends)) labels edges e d × Restored dead₀ first₀ order₀ cursor₀ dead first order cursor
+Inv-loop vertices ends incident begins first labels next edges e dead₀ marks₀ order₀ cursor₀ d₀ dead marks order cursor d =
+    With (graph (plan vertices ends)) labels edges e d × Restored dead₀ marks₀ order₀ cursor₀ dead marks order cursor
 
 abbrev μ-loop : tie.MeasureT-loop
-μ-loop vertices ends incident begins labels next edges e dead₀ first₀ order₀ cursor₀ d₀ dead first order cursor d = edges - d
+μ-loop vertices ends incident begins first labels next edges e dead₀ marks₀ order₀ cursor₀ d₀ dead marks order cursor d = edges - d
 
 next-like-requires : tie.Need-next-like-requires Inv-loop μ-loop
-next-like-requires c κs = let s = c .before .before .before .before .before .before .before .before .before .pre in (s .0 .shown .room, s .1, s .3)
+next-like-requires c κs = let s = c .before .before .before .before .before .before .before .before .before .before .pre in (s .0 .shown .room, s .1, s .3)
 
 loop-holds : tie.Need-loop-holds Inv-loop μ-loop
-loop-holds c = (with-start _ _ (c .before .before .before .before .before .before .before .before .before .before .pre .0) (c .next-like .ensures), restored-same)
+loop-holds c = (with-start _ _ (c .before .before .before .before .before .before .before .before .before .before .before .pre .0) (c .next-like .ensures), restored-same)
 
 is-cut-requires : tie.Need-is-cut-requires Inv-loop μ-loop
 is-cut-requires c κs =
-    let l = c .before .before .before .before .before in
-    let s = l .before .before .before .before .before .before .before .before .before .before .before .pre in
+    let s = c .before .before .before .before .before .before .before .before .before .before .before .before .before .before .before .before .before .pre in
     let h = c .before .before .before .before .loop-test .taken in
-    (ready-again (s .2) (l .loop .inv .1), omega (arith, s .3, s .0 .shown .edges), omega (arith, h, s .0 .shown .edges))
+    (ready-again (s .2) (c .before .before .before .before .before .loop .inv .1), omega (arith, s .3, s .0 .shown .edges), omega (arith, h, s .0 .shown .edges))
 
 same-length : tie.Need-same-length Inv-loop μ-loop
 same-length c = ap length (c .before .before .before .before .before .before .before .before .before .is-cut .ensures .1 .dead-same ∙ c .before .before .before .before .before .before .before .before .before .before .before .before .before .before .before .loop .inv .1 .dead-same)
 
 same-length-2 : tie.Need-same-length-2 Inv-loop μ-loop
-same-length-2 c = ap length (c .before .before .before .before .before .before .before .before .before .is-cut .ensures .1 .first-same ∙ c .before .before .before .before .before .before .before .before .before .before .before .before .before .before .before .loop .inv .1 .first-same)
+same-length-2 c = ap length (c .before .before .before .before .before .before .before .before .before .is-cut .ensures .1 .marks-same ∙ c .before .before .before .before .before .before .before .before .before .before .before .before .before .before .before .loop .inv .1 .marks-same)
 
 same-length-3 : tie.Need-same-length-3 Inv-loop μ-loop
 same-length-3 c = c .before .before .before .before .before .before .before .before .before .is-cut .ensures .1 .order-long ∙ c .before .before .before .before .before .before .before .before .before .before .before .before .before .before .before .loop .inv .1 .order-long
@@ -48,29 +46,26 @@ returns : tie.Need-returns Inv-loop μ-loop
 returns c =
     let t = c .before .before .before .before .before .before .before .before .before .is-cut .ensures in
     let l = c .before .before .before .before .before .before .before .before .before .before .before .before .before .before .before .loop in
-    let h = c .before .before .before .before .before .before .before .before .before .before .before .before .before .before .loop-test .taken in
-    (l .inv .0 .so-far ∙ with-found _ _ _ _ h (sym (t .0) ∙ c .if1 .taken), restored-more (l .inv .1) (t .1))
+    (l .inv .0 .so-far ∙ with-found _ _ _ _ (c .before .before .before .before .before .before .before .before .before .before .before .before .before .before .loop-test .taken) (sym (t .0) ∙ c .if1 .taken), restored-more (l .inv .1) (t .1))
 
 next-like-requires-2 : tie.Need-next-like-requires-2 Inv-loop μ-loop
-next-like-requires-2 c κs =
-    let s = c .before .before .before .before .before .before .before .before .before .before .before .before .before .before .before .before .before .before .before .before .before .before .before .before .before .before .pre in
-    (s .0 .shown .room, s .1, c .before .before .before .before .before .before .before .before .before .before .before .before .before .before .loop-test .taken)
+next-like-requires-2 c κs = let s = c .before .before .before .before .before .before .before .before .before .before .before .before .before .before .before .before .before .before .before .before .before .before .before .before .before .before .before .pre in (s .0 .shown .room, s .1, c .before .before .before .before .before .before .before .before .before .before .before .before .before .before .loop-test .taken)
 
 loop-less : tie.Need-loop-less Inv-loop μ-loop
-loop-less c = omega (arith, c .next-like2 .ensures .low, c .next-like2 .ensures .high, c .before .before .before .before .before .before .before .before .before .before .before .before .before .before .before .loop-test .taken)
+loop-less c = let z = c .next-like2 .ensures in omega (arith, z .low, z .high, c .before .before .before .before .before .before .before .before .before .before .before .before .before .before .before .loop-test .taken)
 
 loop-again : tie.Need-loop-again Inv-loop μ-loop
 loop-again c =
     let t = c .before .before .before .before .before .before .before .before .before .before .is-cut .ensures in
     let l = c .before .before .before .before .before .before .before .before .before .before .before .before .before .before .before .before .loop in
     let h = c .before .before .before .before .before .before .before .before .before .before .before .before .before .before .before .loop-test .taken in
-    (with-on _ _ (c .before .before .before .before .before .before .before .before .before .before .before .before .before .before .before .before .before .before .before .before .before .before .before .before .before .before .before .pre .0) (l .inv .0) h (sym (t .0) ∙ c .before .if1 .left) (c .next-like2 .ensures), restored-more (l .inv .1) (t .1))
+    (with-on _ _ (c .before .before .before .before .before .before .before .before .before .before .before .before .before .before .before .before .before .before .before .before .before .before .before .before .before .before .before .before .pre .0) (l .inv .0) h (sym (t .0) ∙ c .before .if1 .left) (c .next-like2 .ensures), restored-more (l .inv .1) (t .1))
 
 same-length-5 : tie.Need-same-length-5 Inv-loop μ-loop
 same-length-5 c = ap length (c .before .loop .inv .1 .dead-same)
 
 same-length-6 : tie.Need-same-length-6 Inv-loop μ-loop
-same-length-6 c = ap length (c .before .loop .inv .1 .first-same)
+same-length-6 c = ap length (c .before .loop .inv .1 .marks-same)
 
 same-length-7 : tie.Need-same-length-7 Inv-loop μ-loop
 same-length-7 c = c .before .loop .inv .1 .order-long

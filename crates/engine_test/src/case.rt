@@ -1,0 +1,106 @@
+// The cases of the table: a line each.
+use crate::lent;
+use crate::plan;
+use crate::show;
+ghost use Prim.Native.Nat.{_≤_};
+ghost use lib.ListN.{length};
+
+// The first place from `from` on that has this byte, or the end.
+pub(crate) fn find(text: &[u8], from: usize, byte: u8) -> usize
+    requires { ⌜ from ≤ length (now text) ⌝ }
+    ensures { λ r. ⌜ (from ≤ r) × (r ≤ length (now (text .entry))) ⌝ }
+{
+    let mut i = from;
+    while i < text.len() {
+        if text[i] == byte {
+            return i;
+        }
+        i += 1;
+    }
+    i
+}
+
+// The number that a byte stands for.
+fn worth(byte: u8) -> u16 {
+    match byte {
+        b'a'..=b'h' => (byte - 87) as u16,
+        b'l' => 999,
+        b'm' => 1000,
+        b'n' => 1001,
+        b'r' => 65535,
+        _ => (byte % 48) as u16,
+    }
+}
+
+// Puts the numbers of a part of a line, 17 at most, into a table; how many they are.
+pub(crate) fn read(line: &[u8], part: u16, table: &mut [u16]) -> usize
+    ensures { λ r. ⌜ r ≤ 17 ⌝ }
+{
+    let mut seen: u16 = 0;
+    let mut n = 0;
+    let mut i = 0;
+    while i < line.len() {
+        let byte = line[i];
+        n = taken(byte, seen == part, table, n);
+        seen = passed(byte, seen);
+        i += 1;
+    }
+    n
+}
+
+// Takes up a byte of the part that is read; how many numbers there are then.
+fn taken(byte: u8, here: bool, table: &mut [u16], n: usize) -> usize
+    requires { ⌜ n ≤ 17 ⌝ }
+    ensures { λ r. ⌜ r ≤ 17 ⌝ }
+{
+    if !here {
+        return n;
+    }
+    if byte == b' ' {
+        return n;
+    }
+    if byte == b';' {
+        return n;
+    }
+    if n < table.len() {
+        if n < 17 {
+            table[n] = worth(byte);
+            return n + 1;
+        }
+    }
+    n
+}
+
+// How many parts have ended.
+fn passed(byte: u8, seen: u16) -> u16 {
+    if byte == b';' {
+        return std::num::wrapping_add_u16(seen, 1);
+    }
+    seen
+}
+
+fn byte_at(line: &[u8], i: usize) -> u8 {
+    if i < line.len() {
+        return line[i];
+    }
+    0
+}
+
+// Shows the name of a case and runs it: a letter behind the name tells what is called.
+pub(crate) fn run(line: &[u8]) {
+    let end = find(line, 0, b';');
+    show::say(&line[..end]);
+    let mut numbers = [0; 17];
+    read(line, 2, &mut numbers);
+    match byte_at(line, end + 2) {
+        b'f' => lent::fill(line, &numbers),
+        b's' => lent::search(line, &numbers),
+        b'u' => lent::undo(line, &numbers),
+        b'b' => lent::balance(line, &numbers),
+        b'l' => lent::label(line, &numbers),
+        b'c' => lent::chain(line, &numbers),
+        b'g' => plan::large(numbers[0], numbers[1]),
+        _ => {}
+    }
+    show::byte(b'\n');
+}

@@ -1,0 +1,267 @@
+// Tables, searches and labels of one plan, beside the second implementation.
+use crate::plan::draw;
+use crate::second;
+use crate::second_labels;
+use crate::second_search;
+use depth::Explored;
+use labels::Labelling;
+
+// A run counts plans, by what they are refused, those in one body, searches, vertices that they entered, and differences.
+const REFUSED: usize = 1;
+
+const WHOLE: usize = 2;
+
+const SEARCHES: usize = 3;
+
+const ENTERED: usize = 4;
+
+const DIFFERENCES: usize = 5;
+
+// What stands in a lent table before a call.
+const UNTOUCHED: u16 = 54321;
+
+fn count(run: &mut [u16; 6], i: usize, n: u16) {
+    if i < 6 {
+        run[i] = std::num::wrapping_add_u16(run[i], n);
+    }
+}
+
+// A difference, where something does not hold.
+fn require(run: &mut [u16; 6], holds: bool) {
+    if !holds {
+        count(run, DIFFERENCES, 1);
+    }
+}
+
+fn is_same(a: &[u16], b: &[u16]) -> bool {
+    let mut i = 0;
+    while i < a.len() {
+        if a[i] != second::at(b, i) {
+            return false;
+        }
+        i += 1;
+    }
+    true
+}
+
+// All on one plan: the tables, and where it is admitted, the rest.
+pub(crate) fn tried(run: &mut [u16; 6], vertices: u16, ends: &[u16], seed: u32) {
+    let mut incident = [UNTOUCHED; 8000];
+    let mut begins = [UNTOUCHED; 1000];
+    let mut groups = [UNTOUCHED; 8000];
+    let mut places = [UNTOUCHED; 1000];
+    let answer = incidence::fill(vertices, ends, &mut incident, &mut begins);
+    count(run, 0, 1);
+    if answer.number != 0 {
+        return count(run, REFUSED, answer.number);
+    }
+    second::fill(vertices, ends, &mut groups, &mut places);
+    require(run, is_same(&incident, &groups));
+    require(run, is_same(&begins, &places));
+    searched(run, vertices, ends, &mut groups, &mut places, seed);
+}
+
+// Searches over the tables as they are filled, and over damaged ones; and labels.
+fn searched(
+    run: &mut [u16; 6],
+    vertices: u16,
+    ends: &[u16],
+    incident: &mut [u16],
+    begins: &mut [u16],
+    seed: u32,
+) {
+    let seen = explored(run, vertices, ends, incident, begins, 0, seed);
+    labelled(run, vertices, ends, seen == vertices);
+    explored(run, vertices, ends, incident, begins, 5, seed);
+    damage(incident, 3, seed);
+    explored(run, vertices, ends, incident, begins, 9, seed);
+    damage(begins, 4, seed);
+    explored(run, vertices, ends, incident, begins, 7, seed);
+}
+
+// One of so many numbers becomes another.
+fn damage(list: &mut [u16], times: u16, seed: u32) {
+    let mut i = 0;
+    while i < list.len() {
+        list[i] = damaged(list[i], (i % 8000) as u16, times, seed);
+        i += 1;
+    }
+}
+
+fn damaged(x: u16, i: u16, times: u16, seed: u32) -> u16 {
+    if draw(seed, (i as u32) + 500, times) == 1 {
+        return draw(seed, (i as u32) + 9000, 40);
+    }
+    x
+}
+
+fn kill(dead: &mut [u8], times: u16, seed: u32) {
+    let mut e = 0;
+    while e < dead.len() {
+        dead[e] = mark((e % 4000) as u16, times, seed);
+        e += 1;
+    }
+}
+
+fn mark(e: u16, times: u16, seed: u32) -> u8 {
+    if draw(seed, (e as u32) + 20000, times) == 1 {
+        1
+    } else {
+        0
+    }
+}
+
+// A search where one of so many edges is dead and one of so many vertices has a mark: how many then stand in the order.
+fn explored(
+    run: &mut [u16; 6],
+    vertices: u16,
+    ends: &[u16],
+    incident: &[u16],
+    begins: &[u16],
+    times: u16,
+    seed: u32,
+) -> u16 {
+    let mut dead = [0u8; 4000];
+    kill(&mut dead, times, seed);
+    let mut found = [0u16; 1000];
+    damage(&mut found, times, seed);
+    let mut listed = [UNTOUCHED; 1000];
+    let root = draw(seed, 1, vertices);
+    let seen = draw(seed, 2, times);
+    let n = second_search::search(
+        vertices,
+        ends,
+        incident,
+        begins,
+        &dead,
+        root,
+        seen,
+        &mut found,
+        &mut listed,
+    );
+    count(run, SEARCHES, 1);
+    count(run, ENTERED, std::num::wrapping_sub_u16(n, seen));
+    let walk = Walk {
+        root: root,
+        seen: seen,
+        count: n,
+        times: times,
+        seed: seed,
+    };
+    compared(
+        run,
+        vertices,
+        ends,
+        incident,
+        begins,
+        &dead,
+        walk,
+        &found,
+        &listed,
+    );
+    n
+}
+
+// A search of the second implementation: from `root`, behind `seen` in the order, up to `count`; and how its marks were made.
+struct Walk {
+    root: u16,
+    seen: u16,
+    count: u16,
+    times: u16,
+    seed: u32,
+}
+
+// The same search finds what the second one has found, clears the cursors of what it entered, and leaves every other number; undone, the
+// marks are those of before.
+fn compared(
+    run: &mut [u16; 6],
+    vertices: u16,
+    ends: &[u16],
+    incident: &[u16],
+    begins: &[u16],
+    dead: &[u8],
+    walk: Walk,
+    found: &[u16],
+    listed: &[u16],
+) {
+    let mut first = [0u16; 1000];
+    damage(&mut first, walk.times, walk.seed);
+    let mut order = [UNTOUCHED; 1000];
+    let mut cursor = [UNTOUCHED; 1000];
+    let told = depth::explore(
+        vertices,
+        ends,
+        incident,
+        begins,
+        dead,
+        walk.root,
+        walk.seen,
+        &mut first,
+        &mut order,
+        &mut cursor,
+    );
+    require(run, is_seen(told, walk.count));
+    require(run, is_same(&first, found));
+    require(run, is_same(&order, listed));
+    undone(run, walk, listed, &mut first, &cursor);
+}
+
+fn is_seen(told: Explored, count: u16) -> bool {
+    match told {
+        Explored::Refused(_) => false,
+        Explored::Seen(n) => n == count,
+    }
+}
+
+fn undone(run: &mut [u16; 6], walk: Walk, order: &[u16], first: &mut [u16], cursor: &[u16]) {
+    let mut places = [UNTOUCHED; 1000];
+    depth::undo(order, walk.seen, walk.count, &mut places);
+    require(run, is_same(cursor, &places));
+    let mut before = [0u16; 1000];
+    damage(&mut before, walk.times, walk.seed);
+    depth::undo(order, walk.seen, walk.count, first);
+    require(run, is_same(first, &before));
+}
+
+// The labels of a plan, in one body or in several.
+fn labelled(run: &mut [u16; 6], vertices: u16, ends: &[u16], whole: bool) {
+    let mut incident = [UNTOUCHED; 8000];
+    let mut begins = [UNTOUCHED; 1000];
+    let mut dead = [9u8; 4000];
+    let mut first = [UNTOUCHED; 1000];
+    let mut order = [UNTOUCHED; 1000];
+    let mut cursor = [UNTOUCHED; 1000];
+    let mut labels = [9u64; 4000];
+    let mut sums = [9u64; 1000];
+    let said = labels::label(
+        vertices,
+        ends,
+        &mut incident,
+        &mut begins,
+        &mut dead,
+        &mut first,
+        &mut order,
+        &mut cursor,
+        &mut labels,
+        &mut sums,
+    );
+    require(run, is_said(said, whole));
+    balanced(run, vertices, ends, &labels, &sums);
+    if whole {
+        count(run, WHOLE, 1);
+    }
+}
+
+fn is_said(said: Labelling, whole: bool) -> bool {
+    match said {
+        Labelling::Refused(_) => false,
+        Labelling::Disconnected => !whole,
+        Labelling::Connected => whole,
+    }
+}
+
+// The labels cancel, and the sums are theirs.
+fn balanced(run: &mut [u16; 6], vertices: u16, ends: &[u16], labels: &[u64], sums: &[u64]) {
+    require(run, second_labels::is_balanced(vertices, ends, labels));
+    require(run, second_labels::is_summed(vertices, ends, labels, sums));
+}
