@@ -40,6 +40,7 @@ pub struct Use {
 /// Prints a table: the deepest use of each function. More than its header asks for is an error.
 pub fn run() -> Result<(), String> {
     head(&["function", "stack, bytes", "its header asks for", "inputs"]);
+    let mut done = Ok(());
     for Use {
         name,
         bytes,
@@ -50,10 +51,10 @@ pub fn run() -> Result<(), String> {
         let [taken, header, inputs] = [bytes, asked, inputs].map(whole);
         row(&[format!("`{name}`"), taken, header, inputs]);
         if asked < bytes {
-            return Err(format!("{name} takes more stack than its header asks for"));
+            done = Err(format!("{name} takes more stack than its header asks for"));
         }
     }
-    Ok(())
+    done
 }
 
 /// The bytes of stack that a function's header asks for.

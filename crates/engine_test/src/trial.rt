@@ -7,6 +7,8 @@ use depth::Explored;
 use labels::Labelling;
 
 // A run counts plans, by what they are refused, those in one body, searches, vertices that they entered, and differences.
+const PLANS: usize = 0;
+
 const REFUSED: usize = 1;
 
 const WHOLE: usize = 2;
@@ -51,7 +53,7 @@ pub(crate) fn tried(run: &mut [u16; 6], vertices: u16, ends: &[u16], seed: u32) 
     let mut groups = [UNTOUCHED; 8000];
     let mut places = [UNTOUCHED; 1000];
     let answer = incidence::fill(vertices, ends, &mut incident, &mut begins);
-    count(run, 0, 1);
+    count(run, PLANS, 1);
     if answer.number != 0 {
         return count(run, REFUSED, answer.number);
     }
@@ -111,7 +113,24 @@ fn mark(e: u16, times: u16, seed: u32) -> u8 {
     }
 }
 
-// A search where one of so many edges is dead and one of so many vertices has a mark: how many then stand in the order.
+// A search: from `root`, behind `seen` places of the order, where one of so many edges is dead and one of so many vertices has a mark.
+struct Walk {
+    root: u16,
+    seen: u16,
+    times: u16,
+    seed: u32,
+}
+
+fn begun(vertices: u16, times: u16, seed: u32) -> Walk {
+    Walk {
+        root: draw(seed, 1, vertices),
+        seen: draw(seed, 2, times),
+        times: times,
+        seed: seed,
+    }
+}
+
+// A search by both; how many vertices then stand in the order.
 fn explored(
     run: &mut [u16; 6],
     vertices: u16,
@@ -121,69 +140,52 @@ fn explored(
     times: u16,
     seed: u32,
 ) -> u16 {
+    let walk = begun(vertices, times, seed);
     let mut dead = [0u8; 4000];
     kill(&mut dead, times, seed);
     let mut found = [0u16; 1000];
     damage(&mut found, times, seed);
     let mut listed = [UNTOUCHED; 1000];
-    let root = draw(seed, 1, vertices);
-    let seen = draw(seed, 2, times);
     let n = second_search::search(
         vertices,
         ends,
         incident,
         begins,
         &dead,
-        root,
-        seen,
+        walk.root,
+        walk.seen,
         &mut found,
         &mut listed,
     );
-    count(run, SEARCHES, 1);
-    count(run, ENTERED, std::num::wrapping_sub_u16(n, seen));
-    let walk = Walk {
-        root: root,
-        seen: seen,
-        count: n,
-        times: times,
-        seed: seed,
-    };
     compared(
         run,
         vertices,
         ends,
         incident,
         begins,
-        &dead,
         walk,
+        n,
         &found,
         &listed,
     );
     n
 }
 
-// A search of the second implementation: from `root`, behind `seen` in the order, up to `count`; and how its marks were made.
-struct Walk {
-    root: u16,
-    seen: u16,
-    count: u16,
-    times: u16,
-    seed: u32,
-}
-
-// The same search finds what the second one has found, clears the cursors of what it entered, and leaves every other number; undone, the
-// marks are those of before.
+// The search finds what the second implementation has found, clears the cursors of what it entered, and leaves every other number; undone,
+// the marks are those of before.
 fn compared(
     run: &mut [u16; 6],
     vertices: u16,
     ends: &[u16],
     incident: &[u16],
     begins: &[u16],
-    dead: &[u8],
     walk: Walk,
+    n: u16,
     found: &[u16],
     listed: &[u16],
 ) {
+    let mut dead = [0u8; 4000];
+    kill(&mut dead, walk.times, walk.seed);
     let mut first = [0u16; 1000];
     damage(&mut first, walk.times, walk.seed);
     let mut order = [UNTOUCHED; 1000];
@@ -193,17 +195,17 @@ fn compared(
         ends,
         incident,
         begins,
-        dead,
+        &dead,
         walk.root,
         walk.seen,
         &mut first,
         &mut order,
         &mut cursor,
     );
-    require(run, is_seen(told, walk.count));
+    require(run, is_seen(told, n));
     require(run, is_same(&first, found));
     require(run, is_same(&order, listed));
-    undone(run, walk, listed, &mut first, &cursor);
+    undone(run, walk, n, listed, &mut first, &cursor);
 }
 
 fn is_seen(told: Explored, count: u16) -> bool {
@@ -213,13 +215,22 @@ fn is_seen(told: Explored, count: u16) -> bool {
     }
 }
 
-fn undone(run: &mut [u16; 6], walk: Walk, order: &[u16], first: &mut [u16], cursor: &[u16]) {
+fn undone(
+    run: &mut [u16; 6],
+    walk: Walk,
+    n: u16,
+    order: &[u16],
+    first: &mut [u16],
+    cursor: &[u16],
+) {
+    count(run, SEARCHES, 1);
+    count(run, ENTERED, std::num::wrapping_sub_u16(n, walk.seen));
     let mut places = [UNTOUCHED; 1000];
-    depth::undo(order, walk.seen, walk.count, &mut places);
+    depth::undo(order, walk.seen, n, &mut places);
     require(run, is_same(cursor, &places));
     let mut before = [0u16; 1000];
     damage(&mut before, walk.times, walk.seed);
-    depth::undo(order, walk.seen, walk.count, first);
+    depth::undo(order, walk.seen, n, first);
     require(run, is_same(first, &before));
 }
 
