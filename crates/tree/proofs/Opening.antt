@@ -1,0 +1,258 @@
+-- The first three walks in the order in which they are written, and their places.
+use mathlib.Core.Path.{_≡_, refl, sym, _∙_, subst}
+use mathlib.Core.Logic.{_⊎_, inl, inr, ⊎-swap}
+use mathlib.Core.List.{List, [], _∷_, _++_, List·Memᴰ as In, List·Memᴰ·head as first, List·Memᴰ·tail as later, List·Memᴰ·not-nil as not-in, List·Memᴰ·cases-cons as in-cons, List·Memᴰ·append-cases as in-cases, Memᴰ·append-left as in-left, Memᴰ·append-right as in-right, Memᴰ·cast}
+use Prim.Native.Nat.{ℕ, _≤_}
+use native.Mathlib.Omega.{arith}
+use native.Mathlib.Decide.{ℕ-discrete, decLe}
+use Rattle.connectivity.specs.Lists.{Distinct, no-member}
+use Rattle.connectivity.specs.Graph.{Graph, Joins}
+use Rattle.connectivity.specs.Walk.{Leg, Between, froms, inner, edgesOf, allInner, allEdges, hits, degree, Built, Branch}
+use Rattle.connectivity.specs.Mader.{Theta, theta}
+use Rattle.connectivity.proofs.Distinct.{tail-distinct, left-distinct, right-distinct, apart-distinct, join-distinct}
+use Rattle.connectivity.proofs.Degree.{degree-append, hits-from, hits-on, in-degree, on-inner, inner-most}
+use Rattle.connectivity.proofs.Stage.{AllBetween, all-degree, all-inner}
+use Rattle.connectivity.proofs.Legs.{leg}
+use Rattle.tree.specs.Tree.{Pointers, Child, Above, Tree, Passing, Climb, on, Held}
+use Rattle.tree.specs.Filed.{Filed}
+use Rattle.tree.proofs.Above.{not-over, climb-new, climb-as, climb-on, climb-child, climb-first}
+use Rattle.tree.proofs.Step.{step}
+use Rattle.tree.proofs.Begin.{built-edge, climb-start, climb-ends, meeting-below, meeting-child, round, beside, begin-theta, begin-once, begun, in-p, cases, first-x, first-r, first-q, root-branch, begin-held}
+use Rattle.tree.proofs.Filing.{Places}
+use Rattle.tree.proofs.Splitting.{filed-map}
+use Rattle.tree.proofs.Along.{Along}
+
+-- The order of the last two.
+
+in-swap : {x : ℕ} (r q p : List ℕ) → In x (r ++ (q ++ (p ++ []))) → In x (r ++ (p ++ (q ++ [])))
+in-swap r q p i = elim (in-cases r i) [
+  | inl j ↦ in-left (p ++ (q ++ [])) j
+  | inr j ↦ in-right r (elim (in-cases q j) [
+    | inl k ↦ in-right p (in-left [] k)
+    | inr k ↦ elim (in-cases p k) [ inl l ↦ in-left (q ++ []) l | inr l ↦ absurd (not-in l) ]
+  ])
+]
+
+distinct-swap : (r q p : List ℕ) → Distinct (r ++ (q ++ (p ++ []))) → Distinct (r ++ (p ++ (q ++ [])))
+distinct-swap r q p d = let e = right-distinct r d in
+    join-distinct r (left-distinct r (q ++ (p ++ [])) d)
+    (join-distinct p (left-distinct p [] (right-distinct q e)) (join-distinct q (left-distinct q (p ++ []) e) no-member (λ x i j. not-in j))
+    (λ x i j. elim (in-cases q j) [ inl k ↦ apart-distinct q e k (in-left [] i) | inr k ↦ not-in k ]))
+    (λ x i j. apart-distinct r d i (right-swap x j))
+  where
+    right-swap : (x : ℕ) → In x (p ++ (q ++ [])) → In x (q ++ (p ++ []))
+    right-swap x j = in-swap [] p q j
+
+theta-swap : {g : Graph} {a b : ℕ} {r q p : List Leg} → Theta g a b (r ∷ q ∷ p ∷ []) → Theta g a b (r ∷ p ∷ q ∷ [])
+theta-swap {a = a} {b = b} {r = r} {q = q} {p = p} t = record {
+  three = refl;
+  between = λ legs i. t .between legs (elim (in-cons i) [
+    | inl h ↦ first h
+    | inr j ↦ elim (in-cons j) [
+      | inl h ↦ later (later (first h))
+      | inr k ↦ elim (in-cons k) [ inl h ↦ later (first h) | inr l ↦ absurd (not-in l) ]
+    ]
+  ]);
+  simple = distinct-swap (a ∷ b ∷ inner r) (inner q) (inner p) (t .simple);
+}
+
+pub degree-swap : (g : Graph) (r q p : List Leg) (v : ℕ) → degree g (allEdges (r ∷ q ∷ p ∷ [])) v ≡ degree g (allEdges (r ∷ p ∷ q ∷ [])) v
+degree-swap g r q p v = omega (
+  arith,
+  degree-append g (edgesOf r) (edgesOf q ++ (edgesOf p ++ [])) v,
+  degree-append g (edgesOf q) (edgesOf p ++ []) v,
+  degree-append g (edgesOf p) [] v,
+  degree-append g (edgesOf r) (edgesOf p ++ (edgesOf q ++ [])) v,
+  degree-append g (edgesOf p) (edgesOf q ++ []) v,
+  degree-append g (edgesOf q) [] v,
+)
+
+held-swap : {g : Graph} {t : Pointers} (r q p : List Leg) → Held g t (allEdges (r ∷ q ∷ p ∷ [])) → Held g t (allEdges (r ∷ p ∷ q ∷ []))
+held-swap {g} {t} r q p h = record {
+  edges = λ e i. h .edges e (in-swap (edgesOf r) (edgesOf p) (edgesOf q) i);
+  rooted = omega (arith, h .rooted, degree-swap g r q p (t .root));
+  upwards = λ v c b. in-swap (edgesOf r) (edgesOf q) (edgesOf p) (h .upwards v c (omega (arith, b, degree-swap g r q p v)));
+  hung = λ f s w b i. omega (arith, h .hung f s w b (in-swap (edgesOf r) (edgesOf p) (edgesOf q) i), degree-swap g r q p s);
+}
+
+-- over f and up to x, from x up to the root, over d and up to x
+pub along-begin : {g : Graph} {t : Pointers} {c f d w u x : ℕ} {p q r : List Leg} → Tree g t → Child g t c
+    → Passing g t c f (t .root) w → Passing g t c d (t .root) u → (f ≡ d → ⊥)
+    → Climb g t (λ v. Above g t v w) u r x → Climb g t (λ v. v ≡ x) w q x → Climb g t (λ v. v ≡ t .root) x p (t .root)
+    → Along g t (step d (t .root) r ∷ p ∷ step f (t .root) q ∷ [])
+along-begin {t = t} {f = f} {d = d} {p = p} {q = q} {r = r} tree h one other n m k l = record {
+  steps = theta (theta-swap (begin-theta tree h one other n m k l));
+  once = distinct-swap (edgesOf (step d (t .root) r)) (edgesOf (step f (t .root) q)) (edgesOf p) (begin-once tree h one other n m k l);
+  held = held-swap (step d (t .root) r) (step f (t .root) q) p (begin-held tree h one other n m k l);
+}
+
+-- The places.
+
+-- the root and x
+abbrev pub Ends : Pointers → ℕ → ℕ → Type 0
+Ends t x v = (v ≡ t .root) ⊎ (v ≡ x)
+
+-- and what the three climbs leave
+abbrev pub OnWalks : Pointers → ℕ → List Leg → List Leg → List Leg → ℕ → Type 0
+OnWalks t x q p r v = ((Ends t x v ⊎ In v (froms q)) ⊎ In v (froms p)) ⊎ In v (froms r)
+
+ends-dec : (t : Pointers) (x v : ℕ) → Dec (Ends t x v)
+ends-dec t x v = elim (ℕ-discrete v (t .root)) [
+  | yes p ↦ yes (inl p)
+  | no n ↦ elim (ℕ-discrete v x) [ yes p ↦ yes (inr p) | no m ↦ no (λ e. elim e [ inl p ↦ n p | inr p ↦ m p ]) ]
+]
+
+-- before the first walk: both are branches, and nothing else is filed
+pub filed-ends : {g : Graph} {t : Pointers} {x : ℕ} {place : ℕ → ℕ} → ((v : ℕ) → Ends t x v → place v ≡ 1)
+    → ((v : ℕ) → (Ends t x v → ⊥) → place v ≡ 0) → Filed g t (λ v. Ends t x v) (λ v. Ends t x v) place
+filed-ends {g} {t} {x} {place} one zero = record {
+  off = λ v p e. omega (arith, p, one v e);
+  built = λ v h. filed v h;
+  branch = λ v p. filed v (omega (arith, p));
+  plain = λ v h e. omega (arith, h, one v e);
+  held = λ v c h. absurd (small v h);
+  kept = λ v c h k. absurd (small v h);
+  between = λ u y v a b h e. absurd (small u h);
+  line = λ u v h e. absurd (small u h);
+}
+  where
+    filed : (v : ℕ) → 1 ≤ place v → Ends t x v
+    filed v h = elim (ends-dec t x v) [ yes e ↦ e | no n ↦ absurd (omega (arith, h, zero v n)) ]
+
+    small : (v : ℕ) → 2 ≤ place v → ⊥
+    small v h = omega (arith, h, one v (filed v (omega (arith, h))))
+
+-- away from their ends three paths have at most two edges at a vertex
+between-most : {g : Graph} {a b : ℕ} {legs : List Leg} (x : ℕ) → Between g a legs b → (x ≡ a → ⊥) → (x ≡ b → ⊥) → Distinct (inner legs) → degree g (edgesOf legs) x ≤ 2
+between-most x (inl k) n m d = inner-most x k n m d
+between-most x (inr k) n m d = inner-most x k m n d
+
+between-inner : {g : Graph} {a b : ℕ} {legs : List Leg} (x : ℕ) → Between g a legs b → (x ≡ a → ⊥) → (x ≡ b → ⊥) → Built g (edgesOf legs) x → In x (inner legs)
+between-inner x (inl k) n m h = on-inner x k n m h
+between-inner x (inr k) n m h = on-inner x k m n h
+
+all-most : {g : Graph} {a b : ℕ} (walks : List (List Leg)) (x : ℕ) → AllBetween g a walks b → (x ≡ a → ⊥) → (x ≡ b → ⊥) → Distinct (allInner walks)
+    → degree g (allEdges walks) x ≤ 2
+all-most [] x f n m d = omega arith
+all-most {g} (legs ∷ walks) x f n m d =
+    let sum = degree-append g (edgesOf legs) (allEdges walks) x in
+    let this = f legs (first refl) in
+    let p = between-most x this n m (left-distinct (inner legs) (allInner walks) d) in
+    let q = all-most walks x (λ l i. f l (later i)) n m (right-distinct (inner legs) d) in
+    elim (decLe 1 (degree g (edgesOf legs) x)) [
+      | yes h ↦ elim (decLe 1 (degree g (allEdges walks) x)) [
+        | yes i ↦ absurd (apart-distinct (inner legs) d (between-inner x this n m h) (all-inner walks x (λ l i. f l (later i)) n m i))
+        | no i ↦ omega (arith, sum, p, i)
+      ]
+      | no h ↦ omega (arith, sum, q, h)
+    ]
+
+module _ {g : Graph} {t : Pointers} {c f d w u x : ℕ} {p q r : List Leg} (tree : Tree g t) (child : Child g t c)
+    (one-door : Passing g t c f (t .root) w) (other-door : Passing g t c d (t .root) u) (differ : f ≡ d → ⊥)
+    (meets : Climb g t (λ v. Above g t v w) u r x) (to-x : Climb g t (λ v. v ≡ x) w q x)
+    (up : Climb g t (λ v. v ≡ t .root) (t .parent x) p (t .root)) where
+  x-child : Child g t x
+  x-child = meeting-child tree child one-door other-door meets
+
+  -- x, and on from its parent
+  pub to-root : Climb g t (λ v. v ≡ t .root) x (leg (t .first x) x ∷ p) (t .root)
+  to-root = on x-child (meeting-below tree child one-door other-door meets) up
+
+  -- The three climbs, each to what is filed before it.
+
+  pub climb-one : Climb g t (λ v. Ends t x v) w q x
+  climb-one = climb-as to-x (inr refl) (λ v i e. elim e [ inl h ↦ climb-child tree to-x i .other h | inr h ↦ climb-new to-x i h ])
+
+  pub climb-two : Climb g t (λ v. Ends t x v ⊎ In v (froms q)) (t .parent x) p (t .root)
+  climb-two = climb-as up (inl (inl refl)) (λ v i e. elim e [
+    | inl (inl h) ↦ climb-child tree up i .other h
+    | inl (inr h) ↦ not-over tree x-child (subst (λ (y : ℕ). Above g t y (t .parent x)) h (climb-on tree up i))
+    | inr j ↦ apart-distinct (froms q) (tail-distinct (round tree child one-door other-door differ meets to-x to-root)) j (later i)
+  ])
+
+  pub climb-three : Climb g t (λ v. (Ends t x v ⊎ In v (froms q)) ⊎ In v (froms p)) u r x
+  climb-three = climb-as meets (inl (inl (inr refl))) (λ v i e. beside tree child one-door other-door differ meets to-x to-root v i (elim e [
+    | inl (inl (inl h)) ↦ first h
+    | inl (inl (inr h)) ↦ later (in-right (froms q) (first h))
+    | inl (inr j) ↦ later (in-left (x ∷ froms p) j)
+    | inr j ↦ later (in-right (froms q) (later j))
+  ]))
+
+  -- What they have built.
+
+  abbrev Begun : List ℕ
+  Begun = begun tree child one-door other-door differ meets to-x to-root
+
+  at-climb-q : {v : ℕ} → In v (froms q) ⊎ (v ≡ x) → OnWalks t x q p r v
+  at-climb-q (inl i) = inl (inl (inr i))
+  at-climb-q (inr h) = inl (inl (inl (inr h)))
+
+  at-climb-r : {v : ℕ} → In v (froms r) ⊎ (v ≡ x) → OnWalks t x q p r v
+  at-climb-r (inl i) = inr i
+  at-climb-r (inr h) = inl (inl (inl (inr h)))
+
+  at-climb-p : {v : ℕ} → In v (x ∷ froms p) ⊎ (v ≡ t .root) → OnWalks t x q p r v
+  at-climb-p (inl i) = elim (in-cons i) [ inl h ↦ inl (inl (inl (inr h))) | inr j ↦ inl (inr j) ]
+  at-climb-p (inr h) = inl (inl (inl (inl h)))
+
+  from-root : {e y v : ℕ} → Joins g e (t .root) y → hits g e v ≡ 1 → (v ≡ y → OnWalks t x q p r v) → OnWalks t x q p r v
+  from-root {e} {y} {v} j h n = elim (hits-on v j (omega (arith, h))) [ inl p ↦ inl (inl (inl (inl p))) | inr p ↦ n p ]
+
+  built-on : (v : ℕ) → Built g Begun v → OnWalks t x q p r v
+  built-on v h = let (e, i, m) = built-edge g v Begun h in elim (cases tree child one-door other-door differ meets to-x to-root i) [
+    | inl (inl a) ↦ from-root (other-door .back .joins) (subst (λ (z : ℕ). hits g z v ≡ 1) a m)
+        (λ b. at-climb-r (elim (climb-start tree meets) [ inl o ↦ inl (Memᴰ·cast b o) | inr o ↦ inr (b ∙ o) ]))
+    | inl (inr a) ↦ from-root (one-door .back .joins) (subst (λ (z : ℕ). hits g z v ≡ 1) a m)
+        (λ b. at-climb-q (elim (climb-start tree to-x) [ inl o ↦ inl (Memᴰ·cast b o) | inr o ↦ inr (b ∙ o) ]))
+    | inr (inl a) ↦ at-climb-r (climb-ends tree meets a m)
+    | inr (inr (inl a)) ↦ at-climb-q (climb-ends tree to-x a m)
+    | inr (inr (inr a)) ↦ at-climb-p (climb-ends tree to-root a m)
+  ]
+
+  first-built : {v : ℕ} → Child g t v → In (t .first v) Begun → Built g Begun v
+  first-built {v} k i = in-degree g v i (hits-from (tree .joins v k))
+
+  on-built : (v : ℕ) → OnWalks t x q p r v → Built g Begun v
+  on-built v (inl (inl (inl (inl h)))) = subst (Built g Begun) (sym h) (omega (arith, root-branch tree child one-door other-door differ meets to-x to-root))
+  on-built v (inl (inl (inl (inr h)))) = subst (Built g Begun) (sym h) (first-built x-child (first-x tree child one-door other-door differ meets to-x to-root))
+  on-built v (inl (inl (inr i))) = first-built (climb-child tree to-x i) (first-q tree child one-door other-door differ meets to-x to-root (inl i))
+  on-built v (inl (inr i)) = first-built (climb-child tree up i) (in-p tree child one-door other-door differ meets to-x to-root (later (climb-first tree up i)))
+  on-built v (inr i) = first-built (climb-child tree meets i) (first-r tree child one-door other-door differ meets to-x to-root (inl i))
+
+  the-theta : Theta g (t .root) x (step d (t .root) r ∷ step f (t .root) q ∷ (leg (t .first x) x ∷ p) ∷ [])
+  the-theta = begin-theta tree child one-door other-door differ meets to-x to-root
+
+  branch-end : (v : ℕ) → Branch g Begun v → Ends t x v
+  branch-end v h = elim (ends-dec t x v) [
+    | yes e ↦ e
+    | no n ↦ absurd (omega (
+      arith,
+      h,
+      all-most (step d (t .root) r ∷ step f (t .root) q ∷ (leg (t .first x) x ∷ p) ∷ []) v (the-theta .between)
+          (λ e. n (inl e)) (λ e. n (inr e)) (tail-distinct (tail-distinct (the-theta .simple))),
+    ))
+  ]
+
+  end-branch : (v : ℕ) → Ends t x v → Branch g Begun v
+  end-branch v (inl h) = subst (Branch g Begun) (sym h) (root-branch tree child one-door other-door differ meets to-x to-root)
+  end-branch v (inr h) = subst (Branch g Begun) (sym h) (omega (
+    arith,
+    all-degree {g = g} {a = x} {b = t .root} (step d (t .root) r ∷ step f (t .root) q ∷ (leg (t .first x) x ∷ p) ∷ []) (λ l i. ⊎-swap (the-theta .between l i)),
+  ))
+
+  abbrev written : List ℕ
+  written = allEdges (step d (t .root) r ∷ (leg (t .first x) x ∷ p) ∷ step f (t .root) q ∷ [])
+
+  same-degree : (v : ℕ) → degree g Begun v ≡ degree g written v
+  same-degree v = degree-swap g (step d (t .root) r) (step f (t .root) q) (leg (t .first x) x ∷ p) v
+
+  pub on-begun : (v : ℕ) → OnWalks t x q p r v → Built g written v
+  on-begun v o = omega (arith, on-built v o, same-degree v)
+
+  pub begun-on : (v : ℕ) → Built g written v → OnWalks t x q p r v
+  begun-on v b = built-on v (omega (arith, b, same-degree v))
+
+  -- their insides filed, the places are those of what is built
+  pub places-begin : {place : ℕ → ℕ} → Filed g t (λ v. OnWalks t x q p r v) (λ v. Ends t x v) place
+      → Places g t (allEdges (step d (t .root) r ∷ (leg (t .first x) x ∷ p) ∷ step f (t .root) q ∷ [])) place
+  places-begin h = filed-map on-begun begun-on (λ v e. omega (arith, end-branch v e, same-degree v)) (λ v b. branch-end v (omega (arith, b, same-degree v))) h
