@@ -3,20 +3,59 @@
 //! Valgrind runs this program itself, which makes some calls on one plan: once with one call and once with eleven. A tenth of the difference
 //! is what one call takes, since all else is the same.
 
+use crate::firm_shapes::firm;
 use crate::measure::weak_verdict;
 use crate::random::Random;
-use crate::shapes::{Plan, Shape};
+use crate::shapes::{ORDERS, Plan, Shape};
 use crate::table::{head, number, row, whole};
 use crate::weak_shapes::weak;
 use crate::{archive, second, writer};
 use std::hint::black_box;
 use std::process::Command;
 
-const SIZES: [usize; 3] = [100, 1000, 4000];
 /// How many calls the second run makes more than the first.
 const MORE: u64 = 10;
-/// Where the proved functions were found to be slowest, or to grow most.
-const WORST: [&str; 8] = [
+
+/// What is called on shapes of some sizes, and the shapes where it was found to be slowest, or to grow most.
+struct Counted {
+    title: &'static str,
+    what: &'static str,
+    sizes: [usize; 3],
+    worst: &'static [&'static str],
+}
+
+const COUNTED: [Counted; 3] = [
+    Counted {
+        title: "firm plans, the writer",
+        what: "record",
+        sizes: [1000, 2000, 4000],
+        worst: FIRM,
+    },
+    Counted {
+        title: "weak plans, the writer",
+        what: "cut",
+        sizes: [100, 1000, 4000],
+        worst: WEAK,
+    },
+    Counted {
+        title: "weak verdicts, the check",
+        what: "check",
+        sizes: [100, 1000, 4000],
+        worst: WEAK,
+    },
+];
+
+const FIRM: &[&str] = &[
+    "random, short ears",
+    "random, far ends",
+    "ring of blobs",
+    "three paths, rungs",
+    "nested chords",
+    "exits in the middle",
+    "doubled path, one outlet",
+];
+
+const WEAK: &[&str] = &[
     "the first apart",
     "several bodies",
     "path",
@@ -27,52 +66,65 @@ const WORST: [&str; 8] = [
     "bipartite, one hung on by two",
 ];
 
-/// Prints two tables of instructions for each tab, of the writer on weak plans and of the check of weak verdicts: over the worst shapes, or over
-/// those of one name.
+/// Prints tables of instructions for each tab, of the writer on firm and on weak plans and of the check of weak verdicts: over the worst shapes,
+/// or over those of one name.
 pub fn run(name: Option<&str>) -> Result<(), String> {
-    let chosen = |shape: &Shape| match name {
-        None => WORST.contains(&shape.name),
-        Some("all") => true,
-        Some(name) => shape.name == name,
-    };
-    let shapes: Vec<Shape> = weak().into_iter().filter(chosen).collect();
-    if shapes.is_empty() {
-        return Err("no weak shape has that name".to_string());
+    let mut none = true;
+    for counted in COUNTED {
+        let chosen = |shape: &Shape| match name {
+            None => counted.worst.contains(&shape.name),
+            Some("all") => true,
+            Some(name) => shape.name == name,
+        };
+        let shapes: Vec<Shape> = shapes(counted.what).into_iter().filter(chosen).collect();
+        if !shapes.is_empty() {
+            none = false;
+            table(&counted, &shapes)?;
+            println!();
+        }
     }
-    table("weak plans, the writer", "writer", &shapes)?;
-    println!();
-    table("weak verdicts, the check", "check", &shapes)
+    if none {
+        return Err("no shape has that name".to_string());
+    }
+    Ok(())
 }
 
-fn table(title: &str, what: &str, shapes: &[Shape]) -> Result<(), String> {
+/// The shapes that something is called on.
+fn shapes(what: &str) -> Vec<Shape> {
+    if what == "record" { firm() } else { weak() }
+}
+
+fn table(counted: &Counted, shapes: &[Shape]) -> Result<(), String> {
+    let [few, some, most] = counted.sizes;
     head(&[
-        title,
+        counted.title,
         "tabs numbered",
         "tabs",
-        "proved, instructions for each tab, at 100",
-        "at 1,000",
+        &format!("proved, instructions for each tab, at {}", whole(few)),
+        &format!("at {}", whole(some)),
         "at most",
-        "most against 100",
+        &format!("most against {}", whole(few)),
         "second, at most",
     ]);
     for shape in shapes {
-        for order in shape.orders {
-            let plan = |size| shape.plan(&mut Random::new(1), size, *order);
+        for order in ORDERS {
+            let plan = |size| shape.plan(&mut Random::new(1), size, order);
             let each = |which: &str, size: usize| -> Result<f64, String> {
-                let words = [which, what, shape.name, order.name(), &size.to_string()];
+                let size_word = size.to_string();
+                let words = [which, counted.what, shape.name, order.name(), &size_word];
                 Ok(instructions(words)? / tabs(&plan(size)) as f64)
             };
-            let [few, some, most] = SIZES.map(|size| each("proved", size));
-            let (few, most) = (few?, most?);
+            let [low, middle, high] = counted.sizes.map(|size| each("proved", size));
+            let (low, high) = (low?, high?);
             row(&[
                 shape.name.to_string(),
                 order.name().to_string(),
-                whole(tabs(&plan(SIZES[2]))),
-                number(few),
-                number(some?),
-                number(most),
-                number(most / few),
-                number(each("second", SIZES[2])?),
+                whole(tabs(&plan(most))),
+                number(low),
+                number(middle?),
+                number(high),
+                number(high / low),
+                number(each("second", most)?),
             ]);
         }
     }
@@ -107,18 +159,18 @@ fn collected(words: [&str; 5], count: u64) -> Result<u64, String> {
     number.ok_or(format!("valgrind counted nothing: {said}"))
 }
 
-/// Makes so many calls on the weak plan that these words name: proved or second, writer or check, shape, order, size.
+/// Makes so many calls on the plan that these words name: proved or second, what is called, shape, order, size.
 pub fn call(words: [&str; 5], count: u64) -> Result<(), String> {
     let [which, what, name, order, size] = words;
     let unknown = || format!("no call has the words {words:?}");
-    let shape = weak().into_iter().find(|shape| shape.name == name);
+    let shape = shapes(what).into_iter().find(|shape| shape.name == name);
     let shape = shape.ok_or_else(unknown)?;
-    let order = shape.orders.iter().find(|known| known.name() == order);
+    let order = ORDERS.into_iter().find(|known| known.name() == order);
     let size = size.parse().map_err(|_| unknown())?;
-    let plan = shape.plan(&mut Random::new(1), size, *order.ok_or_else(unknown)?);
+    let plan = shape.plan(&mut Random::new(1), size, order.ok_or_else(unknown)?);
     match (what, which) {
-        ("writer", "proved") => write(archive::verdict, &plan, count),
-        ("writer", "second") => write(writer::verdict, &plan, count),
+        ("record" | "cut", "proved") => write(archive::verdict, &plan, count),
+        ("record" | "cut", "second") => write(writer::verdict, &plan, count),
         ("check", "proved") => check(archive::check, plan, count),
         ("check", "second") => check(second::check, plan, count),
         _ => return Err(unknown()),

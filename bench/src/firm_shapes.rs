@@ -2,33 +2,71 @@
 
 use crate::grow::Family;
 use crate::random::Random;
-use crate::shapes::{Drawn, MAX_PIECES, Make, Order, Shape, joined, ring};
+use crate::shapes::{
+    Drawn, MAX_PIECES, Make, Shape, bipartite, caterpillar, joined, named, ring, star, tree, wheel,
+};
 
 /// A long shape leaves room for a blob.
 const LONG_PIECES: usize = MAX_PIECES - 10;
-const MADE: &[Order] = &[Order::Up];
-const LONG: &[Order] = &[Order::Up, Order::Down, Order::Other];
 
-/// Those that vary, then the long ones.
+/// Those that are made at random, the long ones, those made to have dear links, those with pieces of many tabs.
 pub fn firm() -> Vec<Shape> {
-    let varied: [(&str, Make); 4] = [
-        ("random, short ears", |r, m| grown(r, Family::Short, m)),
-        ("random, long ears", |r, m| grown(r, Family::Long, m)),
-        ("random, far ends", |r, m| grown(r, Family::Far, m)),
-        ("ring of blobs", |r, m| ring(r, m, 2)),
-    ];
-    let long: [(&str, Make); 5] = [
-        ("ladder", |_, m| filled(ladder(m), m)),
-        ("three doubled paths", |_, m| filled(doubled_paths(m), m)),
-        ("doubled paths, a tail", |_, m| {
-            filled(paths_with_tail(m), m)
-        }),
-        ("three paths, rungs", |_, m| filled(paths_with_rungs(m), m)),
-        ("tripled path", |_, m| filled(tripled(m), m)),
-    ];
-    let named = |orders| move |(name, make)| Shape { name, orders, make };
-    let varied = varied.into_iter().map(named(MADE));
-    varied.chain(long.into_iter().map(named(LONG))).collect()
+    named(&[&RANDOM[..], &LONG[..], &LINKS[..], &WIDE[..]].concat())
+}
+
+const RANDOM: [(&str, Make); 5] = [
+    ("random, short ears", |r, m| grown(r, Family::Short, m)),
+    ("random, long ears", |r, m| grown(r, Family::Long, m)),
+    ("random, far ends", |r, m| grown(r, Family::Far, m)),
+    ("ring of blobs", |r, m| ring(r, m, 2)),
+    ("tree of three", |r, m| {
+        filled(tree(r, long(m, 3), 3).tabs, m)
+    }),
+];
+
+const LONG: [(&str, Make); 9] = [
+    ("ladder", |_, m| filled(ladder(m), m)),
+    ("three doubled paths", |_, m| filled(doubled_paths(m), m)),
+    ("doubled paths, a tail", |_, m| {
+        filled(paths_with_tail(m), m)
+    }),
+    ("three paths, rungs", |_, m| filled(paths_with_rungs(m), m)),
+    ("tripled path", |_, m| filled(tripled(m), m)),
+    ("ring, twice", |_, m| filled(turns(m, 2), m)),
+    ("ring, three times", |_, m| filled(turns(m, 3), m)),
+    ("ring, four times", |_, m| filled(turns(m, 4), m)),
+    ("grid, twice", |_, m| filled(grid(m), m)),
+];
+
+const LINKS: [(&str, Make); 4] = [
+    ("nested chords", |_, m| filled(nested(m), m)),
+    ("exits in the middle", |_, m| filled(halved(m), m)),
+    ("doubled path, one outlet", |_, m| filled(outlet(m, 1), m)),
+    ("doubled paths, one outlet each", |_, m| {
+        filled(outlet(m, m.isqrt() / 4), m)
+    }),
+];
+
+const WIDE: [(&str, Make); 8] = [
+    ("star of three", |_, m| {
+        filled(star(long(m, 3), 3, 3).tabs, m)
+    }),
+    ("star of four", |_, m| star(m, 4, 4)),
+    ("star of four, from a point", |_, m| turned(star(m, 4, 4))),
+    ("caterpillar of three", |_, m| {
+        filled(caterpillar(long(m, 3), 3).tabs, m)
+    }),
+    ("wheel", |_, m| filled(wheel(long(m, 2), 1).tabs, m)),
+    ("bipartite of three", |_, m| {
+        filled(bipartite(long(m, 3) - 9, 3, 0).tabs, m)
+    }),
+    ("every two pieces", |_, m| every_two(m)),
+    ("few pieces, many tabs", |_, m| joined(5, m / 4, m / 4)),
+];
+
+/// So many tabs, if a long shape may have them with so many for each piece.
+fn long(tabs: usize, each: usize) -> usize {
+    tabs.min(each * (LONG_PIECES - 1))
 }
 
 fn grown(random: &mut Random, family: Family, tabs: usize) -> Drawn {
@@ -100,4 +138,80 @@ fn paths_with_rungs(tabs: usize) -> Vec<[usize; 2]> {
 
 fn tripled(tabs: usize) -> Vec<[usize; 2]> {
     joined((tabs / 3).min(LONG_PIECES), 3, 3).tabs
+}
+
+/// A ring, its tabs numbered along it and then again, so many times.
+fn turns(tabs: usize, times: usize) -> Vec<[usize; 2]> {
+    let pieces = (tabs / times).min(LONG_PIECES);
+    let side = |v| [v, (v + 1) % pieces];
+    (0..times * pieces).map(|i| side(i % pieces)).collect()
+}
+
+/// A grid of 30 rows, or fewer, each tab doubled.
+fn grid(tabs: usize) -> Vec<[usize; 2]> {
+    let rows = 30.min(tabs / 16);
+    let columns = ((tabs / 2 + rows) / (2 * rows - 1)).min(LONG_PIECES / rows);
+    let last = rows * columns;
+    let right = |v: usize| ((v + 1) % rows > 0).then_some([v, v + 1]);
+    let down = |v: usize| (v + rows < last).then_some([v, v + rows]);
+    let tabs = (0..last).flat_map(|v| [right(v), down(v)]).flatten();
+    tabs.flat_map(|tab| [tab, tab]).collect()
+}
+
+/// A path whose ends are joined twice more; then the tabs that the shape is made for.
+fn closed(last: usize) -> Vec<[usize; 2]> {
+    let path = (0..last).map(|v| [v, v + 1]);
+    path.chain([[0, last]; 2]).collect()
+}
+
+/// A closed path with a tab from its first piece to its middle, and from each piece to the one as far from the other end.
+fn nested(tabs: usize) -> Vec<[usize; 2]> {
+    let half = ((tabs - 2) / 3).min(LONG_PIECES / 2 - 1);
+    let last = 2 * half;
+    let mut list = closed(last);
+    list.push([0, half]);
+    list.extend((1..half).map(|v| [v, last - v]));
+    list
+}
+
+/// A closed path, and from the middle of each stretch a tab to a piece beside the stretch: the first stretch is all but both ends, the others
+/// are what a middle leaves on either side.
+fn halved(tabs: usize) -> Vec<[usize; 2]> {
+    let last = ((tabs - 1) / 2).min(LONG_PIECES - 1);
+    let mut list = closed(last);
+    let mut stretches = vec![(1, last - 1, 0)];
+    while let Some((first, end, beside)) = stretches.pop() {
+        let middle = (first + end) / 2;
+        list.push([beside, middle]);
+        let halves = [(first, middle - 1, middle), (middle + 1, end, middle)];
+        stretches.extend(halves.into_iter().filter(|(first, end, _)| first <= end));
+    }
+    list
+}
+
+/// So many doubled paths, each with a tab from both ends and from its middle to the first piece.
+fn outlet(tabs: usize, paths: usize) -> Vec<[usize; 2]> {
+    let length = (tabs / (2 * paths)).min((LONG_PIECES - 1) / paths);
+    let mut list = Vec::new();
+    for path in 0..paths {
+        let first = 1 + path * length;
+        list.extend([0, length / 2, length - 1].map(|i| [0, first + i]));
+        let doubled = (first + 1..first + length).map(|v| [v - 1, v]);
+        list.extend(doubled.flat_map(|tab| [tab, tab]));
+    }
+    list
+}
+
+/// The same with its first piece as the last.
+fn turned(drawn: Drawn) -> Drawn {
+    let last = drawn.pieces - 1;
+    let turn = |tab: [usize; 2]| tab.map(|v| last - v);
+    Drawn::of(drawn.tabs.into_iter().map(turn).collect())
+}
+
+/// As many pieces as the tabs allow, each joined to each.
+fn every_two(tabs: usize) -> Drawn {
+    let pieces = (2..).take_while(|n| n * (n - 1) / 2 <= tabs).last();
+    let before = |v| (0..v).map(move |u| [u, v]);
+    Drawn::of((1..pieces.unwrap_or(2)).flat_map(before).collect())
 }

@@ -12,8 +12,8 @@ mod damage;
 mod firm_shapes;
 mod grow;
 mod measure;
+mod measure_shapes;
 mod measure_texts;
-mod measure_weak;
 mod measure_writer;
 mod plans;
 mod random;
@@ -27,14 +27,15 @@ mod writer;
 
 use std::process::ExitCode;
 
-const USE: &str = "use: bench/run [measure | measure-writer | measure-texts | stack | figures | callgrind [all | SHAPE] | compare [COUNT [SEED]] | compare-writer [COUNT [SEED]]]";
+const USE: &str = "use: bench/run [measure | measure-writer [SHAPE] | measure-texts | stack | figures | callgrind [all | SHAPE] | compare [COUNT [SEED]] | compare-writer [COUNT [SEED]]]";
 
 fn main() -> ExitCode {
     let words: Vec<String> = std::env::args().skip(1).collect();
     let words: Vec<&str> = words.iter().map(String::as_str).collect();
     let done = match words[..] {
         [] | ["measure"] => measure::run(),
-        ["measure-writer"] => measure_writer::run(),
+        ["measure-writer"] => measure_writer::run(None),
+        ["measure-writer", name] => measure_writer::run(Some(name)),
         ["measure-texts"] => measure_texts::run(),
         ["stack"] => stack::run(),
         ["figures"] => figures(),
@@ -65,7 +66,7 @@ fn figures() -> Result<(), String> {
     type Run = fn() -> Result<(), String>;
     let parts: [(&str, Run); 6] = [
         ("The check", measure::run),
-        ("The writer", measure_writer::run),
+        ("The writer", || measure_writer::run(None)),
         ("Texts", measure_texts::run),
         ("Stack", stack::run),
         ("Checks compared", || compare::run(500_000, 1)),

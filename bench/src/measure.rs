@@ -4,11 +4,13 @@ use crate::clock::{median, time};
 use crate::compare::same;
 use crate::firm_shapes::firm;
 use crate::grow::{Case, Family, grow};
+use crate::measure_shapes::table;
 use crate::random::Random;
 use crate::second::Check;
 use crate::shapes::Plan;
-use crate::table::{head, number, numbers, row, whole};
-use crate::{archive, measure_weak, second, writer};
+use crate::table::{head, number, row, whole};
+use crate::weak_shapes::weak;
+use crate::{archive, second, writer};
 use std::hint::black_box;
 use std::time::Duration;
 
@@ -18,10 +20,9 @@ const FAMILIES: [(&str, Family); 3] = [
     ("few long links", Family::Long),
     ("ends far apart", Family::Far),
 ];
-/// Graphs of each size and family, samples of each verdict, firm and weak, and how long a sample takes at least.
-const GRAPHS: usize = 9;
-const SAMPLES: usize = 15;
-const WEAK_SAMPLES: usize = 5;
+/// How many tabs the graphs of a size and family have together, samples, and how long one takes at least.
+const TABS: usize = 36_000;
+const SAMPLES: usize = 9;
 const TIME: Duration = Duration::from_millis(2);
 
 /// Prints three tables: median times of a check of one verdict, of firm ones and of weak ones by size, and of weak ones that are no cut.
@@ -35,17 +36,17 @@ pub fn run() -> Result<(), String> {
 
 const CHECKS: [Check; 2] = [archive::check, second::check];
 
-/// The median nanoseconds of each check over some verdicts, sampled so often in turn.
-fn medians(cases: &[Case], samples: usize) -> [f64; 2] {
+/// The median nanoseconds of one call of each check: a sample goes over all verdicts, again and again.
+fn medians(cases: &[Case]) -> [f64; 2] {
     let mut times = [Vec::new(), Vec::new()];
-    for _ in 0..samples {
-        for case in cases {
-            for (check, times) in CHECKS.iter().zip(&mut times) {
-                times.push(time(TIME, || {
-                    let case = black_box(case);
+    for _ in 0..SAMPLES {
+        for (check, times) in CHECKS.iter().zip(&mut times) {
+            let all = time(TIME, || {
+                for case in black_box(cases) {
                     black_box(check(case.vertices, &case.ends, case.kind, &case.list));
-                }));
-            }
+                }
+            });
+            times.push(all / cases.len() as f64);
         }
     }
     times.map(|times| median(&times))
@@ -65,10 +66,10 @@ fn records() -> Result<(), String> {
     for (name, family) in FAMILIES {
         let mut before = None;
         for tabs in SIZES {
-            let grown = (0..GRAPHS).map(|_| grow(&mut random, family, tabs / 4, tabs));
+            let grown = (0..TABS / tabs).map(|_| grow(&mut random, family, tabs / 4, tabs));
             let cases: Vec<Case> = grown.collect();
             cases.iter().try_for_each(|case| answers(case, 0))?;
-            let [proved, other] = medians(&cases, SAMPLES);
+            let [proved, other] = medians(&cases);
             let growth = before.map_or(String::new(), |before| format!("× {:.1}", proved / before));
             row(&[
                 name.to_string(),
@@ -108,41 +109,24 @@ pub fn weak_verdict(plan: Plan) -> Case {
 
 /// Weak verdicts that pass, each the lowest cut of its plan.
 fn weak_verdicts() -> Result<(), String> {
-    measure_weak::table("weak verdicts", |plans| {
+    table("weak verdicts", &weak(), |plans| {
         let cases: Vec<Case> = plans.into_iter().map(weak_verdict).collect();
         cases.iter().try_for_each(|case| answers(case, 0))?;
-        Ok(medians(&cases, WEAK_SAMPLES))
+        Ok(medians(&cases))
     })
 }
 
 /// Weak verdicts about firm plans, with the first and the last tab: both are no cut.
 fn no_cuts() -> Result<(), String> {
-    let mut random = Random::new(1);
-    head(&["no cut", "pieces", "tabs", "proved, µs", "second, µs"]);
-    for shape in firm() {
-        for size in &SIZES[1..] {
-            let mut about = (0, 0);
-            let mut times = Vec::new();
-            for &order in shape.orders {
-                let Plan { vertices, ends } = shape.plan(&mut random, *size, order);
-                about = (vertices as usize, ends.len() / 2);
-                let case = Case {
-                    vertices,
-                    ends,
-                    kind: 1,
-                    list: vec![0, about.1 as u16 - 1],
-                };
-                answers(&case, 17)?;
-                times.push(medians(&[case], WEAK_SAMPLES));
-            }
-            row(&[
-                shape.title(),
-                whole(about.0),
-                whole(about.1),
-                numbers(times.iter().map(|[proved, _]| proved / 1e3)),
-                numbers(times.iter().map(|[_, other]| other / 1e3)),
-            ]);
-        }
-    }
-    Ok(())
+    let first_and_last = |Plan { vertices, ends }| Case {
+        vertices,
+        list: vec![0, (ends.len() / 2 - 1) as u16],
+        ends,
+        kind: 1,
+    };
+    table("no cut", &firm(), |plans| {
+        let cases: Vec<Case> = plans.into_iter().map(first_and_last).collect();
+        cases.iter().try_for_each(|case| answers(case, 17))?;
+        Ok(medians(&cases))
+    })
 }

@@ -15,22 +15,21 @@ pub struct Plan {
     pub ends: Vec<u16>,
 }
 
-/// How the tabs of a shape are numbered. A search that sweeps over the table again and again gains one piece of a long shape a sweep, from the
-/// one end if they are numbered up, from the other if down, and two from either end if every other one comes first.
+/// How the tabs of a shape are numbered: as they are drawn, from the last to the first, or at random.
 #[derive(Clone, Copy)]
 pub enum Order {
     Up,
     Down,
-    Other,
     Shuffled,
 }
+
+pub const ORDERS: [Order; 3] = [Order::Up, Order::Down, Order::Shuffled];
 
 impl Order {
     pub fn name(self) -> &'static str {
         match self {
             Order::Up => "up",
             Order::Down => "down",
-            Order::Other => "other",
             Order::Shuffled => "shuffled",
         }
     }
@@ -39,11 +38,10 @@ impl Order {
 /// A shape of so many tabs, or as many fewer as it takes.
 pub type Make = fn(&mut Random, usize) -> Drawn;
 
-/// A named shape, and the orders that it is numbered in.
+/// A named shape.
 pub struct Shape {
     pub name: &'static str,
-    pub orders: &'static [Order],
-    pub make: Make,
+    make: Make,
 }
 
 impl Shape {
@@ -51,20 +49,12 @@ impl Shape {
         let drawn = (self.make)(random, tabs);
         drawn.numbered(random, order)
     }
+}
 
-    /// Whether it has one order, since it is mixed when it is made.
-    pub fn varies(&self) -> bool {
-        self.orders.len() == 1
-    }
-
-    /// The name, with the orders if there are several.
-    pub fn title(&self) -> String {
-        if self.varies() {
-            return self.name.to_string();
-        }
-        let orders: Vec<&str> = self.orders.iter().map(|order| order.name()).collect();
-        format!("{}: {}", self.name, orders.join(", "))
-    }
+/// Shapes by their names.
+pub fn named(all: &[(&'static str, Make)]) -> Vec<Shape> {
+    let shape = |&(name, make)| Shape { name, make };
+    all.iter().map(shape).collect()
 }
 
 /// All shapes, the firm ones first.
@@ -120,7 +110,6 @@ impl Drawn {
         match order {
             Order::Up => (),
             Order::Down => tabs.reverse(),
-            Order::Other => tabs = other_first(&tabs),
             Order::Shuffled => {
                 let places = random.order(tabs.len());
                 tabs = places.iter().map(|&i| tabs[i as usize]).collect();
@@ -131,14 +120,6 @@ impl Drawn {
             ends: tabs.iter().flatten().map(|&v| v as u16).collect(),
         }
     }
-}
-
-/// Every other one first; those beside each other that join the same two pieces count as one.
-fn other_first(tabs: &[[usize; 2]]) -> Vec<[usize; 2]> {
-    let places = tabs.chunk_by(|a, b| a == b).enumerate();
-    let (odd, even): (Vec<_>, Vec<_>) = places.partition(|(i, _)| i % 2 == 1);
-    let tabs = odd.into_iter().chain(even);
-    tabs.flat_map(|(_, tabs)| tabs.to_vec()).collect()
 }
 
 /// A path with each neighbour joined by so many tabs, the last one by so many.
@@ -170,4 +151,65 @@ pub fn ring(random: &mut Random, tabs: usize, joints: usize) -> Drawn {
         ring.tie(a, b, 1);
     }
     ring
+}
+
+/// So many pieces, if a plan may have them.
+pub fn long(pieces: usize) -> usize {
+    pieces.min(MAX_PIECES)
+}
+
+/// Each piece but the first is joined to it by so many tabs, the last one by so many.
+pub fn star(tabs: usize, each: usize, last: usize) -> Drawn {
+    let mut star = Drawn::apart(long(tabs / each + 1));
+    for v in 1..star.pieces {
+        let count = if v + 1 < star.pieces { each } else { last };
+        star.tie(0, v, count);
+    }
+    star
+}
+
+/// A path, and a piece hung on each of its pieces.
+pub fn caterpillar(tabs: usize, each: usize) -> Drawn {
+    let half = long(tabs / each) / 2;
+    let mut all = joined(half, each, each);
+    for v in 0..half {
+        let last = all.put(&Drawn::apart(1));
+        all.tie(v, last, each);
+    }
+    all
+}
+
+/// Each piece joined to some piece before it.
+pub fn tree(random: &mut Random, tabs: usize, each: usize) -> Drawn {
+    let mut tree = Drawn::apart(long(tabs / each + 1));
+    for v in 1..tree.pieces {
+        tree.tie(random.below(v), v, each);
+    }
+    tree
+}
+
+/// A cycle, and a tab from the first piece to each piece on it, to the last one so many.
+pub fn wheel(tabs: usize, last: usize) -> Drawn {
+    let rim = long(tabs / 2 + 1) - 1;
+    let mut wheel = Drawn::apart(rim + 1);
+    for v in 1..=rim {
+        wheel.tie(v, v % rim + 1, 1);
+        wheel.tie(0, v, if v < rim { 1 } else { last });
+    }
+    wheel
+}
+
+/// Each of so many pieces joined to each of the others, and one more piece, the last, hung on the first by so many tabs.
+pub fn bipartite(tabs: usize, few: usize, joints: usize) -> Drawn {
+    let few = few.min(tabs / 8);
+    let others = ((tabs - joints) / few).min(MAX_PIECES - few - 1);
+    let mut all = Drawn::apart(few + others);
+    for v in few..few + others {
+        (0..few).for_each(|u| all.tie(u, v, 1));
+    }
+    if joints > 0 {
+        let last = all.put(&Drawn::apart(1));
+        all.tie(0, last, joints);
+    }
+    all
 }

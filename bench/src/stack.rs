@@ -10,7 +10,7 @@ use crate::archive::{self, Exported};
 use crate::damage::number;
 use crate::grow::{Case, Family, grow};
 use crate::random::Random;
-use crate::shapes::{Plan, shapes};
+use crate::shapes::{ORDERS, Plan, shapes};
 use crate::table::{head, row, whole};
 use crate::texts;
 use std::arch::asm;
@@ -76,7 +76,7 @@ fn measure() -> Result<Vec<Use>, String> {
         stack.verdicts(&mut random, &case)?;
     }
     for shape in shapes() {
-        for &order in shape.orders {
+        for order in ORDERS {
             let plan = shape.plan(&mut random, TABS, order);
             stack.plans(&mut random, &plan)?;
         }

@@ -3,16 +3,14 @@
 use crate::firm_shapes::three;
 use crate::grow::Family;
 use crate::random::Random;
-use crate::shapes::{Drawn, MAX_PIECES, Make, Order, Shape, bodies, joined, ring};
-
-const ORDERS: &[Order] = &[Order::Up, Order::Down, Order::Shuffled];
+use crate::shapes::{
+    Drawn, MAX_PIECES, Make, Shape, bipartite, bodies, caterpillar, joined, long, named, ring,
+    star, tree, wheel,
+};
 
 /// Those in several bodies, those with a tab that parts them, those with pairs alone.
 pub fn weak() -> Vec<Shape> {
-    let all = [&PARTED[..], &BY_ONE[..], &BY_TWO[..]].concat();
-    let orders = ORDERS;
-    let named = |(name, make)| Shape { name, orders, make };
-    all.into_iter().map(named).collect()
+    named(&[&PARTED[..], &BY_ONE[..], &BY_TWO[..]].concat())
 }
 
 const PARTED: [(&str, Make); 8] = [
@@ -61,15 +59,10 @@ const BY_TWO: [(&str, Make); 23] = [
     ("tree of two", |r, m| tree(r, m, 2)),
     ("ladder, grid of two rows", |_, m| grid(2, m)),
     ("grid", |_, m| grid(32.min(m / 8), m)),
-    ("wheel less a spoke", |_, m| wheel(m)),
+    ("wheel less a spoke", |_, m| wheel(m, 0)),
     ("bipartite of two", |_, m| bipartite(m, 2, 0)),
     ("bipartite, one hung on by two", |_, m| bipartite(m, 63, 2)),
 ];
-
-/// So many pieces, if a plan may have them.
-fn long(pieces: usize) -> usize {
-    pieces.min(MAX_PIECES)
-}
 
 /// A firm body with four tabs for each piece, but for what is kept back.
 fn core(random: &mut Random, tabs: usize, pieces_kept: usize, tabs_kept: usize) -> Drawn {
@@ -122,36 +115,6 @@ fn two_paths(random: &mut Random, tabs: usize) -> Drawn {
 fn middle(tabs: usize) -> Drawn {
     let pairs = (1..long(tabs + 1)).map(|v| [v.saturating_sub(2), v]);
     Drawn::of(pairs.collect())
-}
-
-/// Each piece but the first is joined to it by so many tabs, the last one by so many.
-fn star(tabs: usize, each: usize, last: usize) -> Drawn {
-    let mut star = Drawn::apart(long(tabs / each + 1));
-    for v in 1..star.pieces {
-        let count = if v + 1 < star.pieces { each } else { last };
-        star.tie(0, v, count);
-    }
-    star
-}
-
-/// A path, and a piece hung on each of its pieces.
-fn caterpillar(tabs: usize, each: usize) -> Drawn {
-    let half = long(tabs / each) / 2;
-    let mut all = joined(half, each, each);
-    for v in 0..half {
-        let last = all.put(&Drawn::apart(1));
-        all.tie(v, last, each);
-    }
-    all
-}
-
-/// Each piece joined to some piece before it.
-fn tree(random: &mut Random, tabs: usize, each: usize) -> Drawn {
-    let mut tree = Drawn::apart(long(tabs / each + 1));
-    for v in 1..tree.pieces {
-        tree.tie(random.below(v), v, each);
-    }
-    tree
 }
 
 /// Blobs of five pieces, each joined to some blob before it; these tabs come last.
@@ -272,30 +235,4 @@ fn grid(rows: usize, tabs: usize) -> Drawn {
         }
     }
     Drawn::of(list)
-}
-
-/// A cycle, and a tab from the first piece to each piece on it but the last.
-fn wheel(tabs: usize) -> Drawn {
-    let rim = long(tabs / 2 + 1) - 1;
-    let mut wheel = Drawn::apart(rim + 1);
-    for v in 1..=rim {
-        wheel.tie(v, v % rim + 1, 1);
-        wheel.tie(0, v, (v < rim) as usize);
-    }
-    wheel
-}
-
-/// Each of so many pieces joined to each of the others, and one more piece, the last, hung on the first by so many tabs.
-fn bipartite(tabs: usize, few: usize, joints: usize) -> Drawn {
-    let few = few.min(tabs / 8);
-    let others = ((tabs - joints) / few).min(MAX_PIECES - few - 1);
-    let mut all = Drawn::apart(few + others);
-    for v in few..few + others {
-        (0..few).for_each(|u| all.tie(u, v, 1));
-    }
-    if joints > 0 {
-        let last = all.put(&Drawn::apart(1));
-        all.tie(0, last, joints);
-    }
-    all
 }

@@ -3,4 +3,5 @@ pub mod Filter
 pub mod Likes
 pub mod Trying
 pub mod Answers
+pub mod Serving
 pub mod Handing

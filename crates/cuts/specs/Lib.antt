@@ -2,3 +2,4 @@ pub mod Lowest
 pub mod Alike
 pub mod Tries
 pub mod Verdict
+pub mod Answered

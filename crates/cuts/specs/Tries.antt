@@ -2,9 +2,12 @@
 use mathlib.Core.Path.{_≡_}
 use mathlib.Core.List.{List}
 use Prim.Native.Nat.{ℕ, _+_, _*_, _/_, _≤_, _<_}
-use lib.ListN.{length, getD}
+use lib.ListN.{length, getD, replicate}
 use Rattle.connectivity.specs.Plan.{Plan, limits}
+use Rattle.graph.specs.declared.Answer.{Answer}
 use Rattle.incidence.specs.Tables.{Tabled}
+use Rattle.depth.specs.Depth.{Crossing, Found}
+use Rattle.labels.specs.Answered.{Labelled}
 
 -- the tables of a plan, room for a search, and no vertex marked
 pub record Tables (p : Plan) (incident begins dead marks order cursor : List ℕ) : Type 0 where
@@ -21,15 +24,25 @@ pub record Ready (p : Plan) (incident begins first dead marks order cursor : Lis
   pub live : (e : ℕ) → e < length (p .ends) / 2 → getD dead e 0 ≡ 0
   pub first-room : p .vertices ≤ length first
 
--- no edge marked, and no vertex in a second table of marks; room for labels and chains
-pub record Spaces (p : Plan) (dead labels sums marks next heads : List ℕ) : Type 0 where
+-- no edge marked, and no vertex in a second table of marks; room for labels, and for a second order
+pub record Spaces (p : Plan) (dead labels marks other : List ℕ) : Type 0 where
   pub live : (e : ℕ) → e < length (p .ends) / 2 → getD dead e 0 ≡ 0
   pub labels-room : length (p .ends) / 2 ≤ length labels
-  pub sums-room : p .vertices ≤ length sums
   pub marks-room : p .vertices ≤ length marks
   pub fresh : (v : ℕ) → v < p .vertices → getD marks v 0 ≡ 0
-  pub next-room : length (p .ends) / 2 ≤ length next
-  pub some-head : 0 < length heads
+  pub other-room : p .vertices ≤ length other
+
+-- what a search from vertex 0 has left, but for its cursors
+pub record Searched (p : Plan) (incident begins dead first₀ order₀ cursor₀ first order : List ℕ) : Type 0 where
+  pub cursor : List ℕ
+  pub count : ℕ
+  pub found : Found (Crossing p incident begins dead) (p .vertices) 0 0 first₀ order₀ cursor₀ first order cursor count
+
+-- the labels, made with sums that were 0
+pub record LabelledBy (p : Plan) (first order labels₀ labels : List ℕ) : Type 0 where
+  pub sums : List ℕ
+  pub answer : Answer
+  pub labelled : Labelled limits p first order labels₀ (replicate (limits .vertices) 0) labels sums answer
 
 -- a try leaves the marks as they were
 pub record Restored (dead₀ marks₀ order₀ cursor₀ dead marks order cursor : List ℕ) : Type 0 where

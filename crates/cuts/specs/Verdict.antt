@@ -4,7 +4,7 @@ use mathlib.Core.List.{[], _∷_}
 use lib.Dec.{eqb}
 use Rattle.connectivity.specs.Plan.{Plan, graph, Limits}
 use Rattle.connectivity.specs.Cut.{lowestCut}
-use Rattle.connectivity.specs.Admission.{Handed, served, refusal, admission}
+use Rattle.connectivity.specs.Admission.{Answer, Handed, served, refusal, admission}
 use Rattle.connectivity.specs.Verdict.{verdictOn, verdictHanded}
 use Rattle.graph.specs.Admission.{answerOf}
 use Rattle.cuts.specs.declared.lowest.Lowest.{Lowest}
@@ -21,6 +21,12 @@ handed (Cut c) = served (1 ∷ (c .count ∷ (c .first ∷ (c .second ∷ []))))
 unfoldable pub lowestHanded : Limits → Plan → Handed
 lowestHanded most p =
     let a = admission most p in
+    let found = verdictHanded (verdictOn (lowestCut (graph p))) in
+    cond (eqb (a .number) 0) found (refusal a)
+
+-- the same behind any refusal
+unfoldable pub lowestAfter : Answer → Plan → Handed
+lowestAfter a p =
     let found = verdictHanded (verdictOn (lowestCut (graph p))) in
     cond (eqb (a .number) 0) found (refusal a)
 

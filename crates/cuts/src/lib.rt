@@ -1,13 +1,23 @@
 // The lowest cut of at most two edges of a plan.
+use graph::Admission;
 use graph::Answer;
 use graph::Graph;
 use lowest::Lowest;
 ghost use mathlib.Core.Path.{_≡_};
+ghost use mathlib.Core.Bool.{false, not};
+ghost use Prim.Native.Nat.{_≤_};
+ghost use lib.ListN.{length};
 ghost use Rattle.connectivity.specs.Plan.{plan, graph, limits};
 ghost use Rattle.connectivity.specs.Cut.{lowestCut};
+ghost use Rattle.connectivity.specs.Verdict.{verdictOn, verdictHanded};
+ghost use Rattle.graph.specs.Admission.{toldBy, lent};
+ghost use Rattle.graph.specs.Tells.{Tells};
+ghost use Rattle.incidence.specs.Tables.{Tabled};
+ghost use Rattle.incidence.specs.Parts.{Cleared};
 ghost use Rattle.cuts.specs.Lowest.{Told};
-ghost use Rattle.cuts.specs.Tries.{Tables, Spaces};
-ghost use Rattle.cuts.specs.Verdict.{handed, lowestHanded, lightest};
+ghost use Rattle.cuts.specs.Tries.{Tables, Spaces, LabelledBy, Searched};
+ghost use Rattle.cuts.specs.Verdict.{handed, lightest};
+ghost use Rattle.cuts.specs.Answered.{SearchedFrom, Answered};
 
 mod alike; // alike.rt: which edges have like labels
 pub mod lowest; // lowest.rt: the fewest edges that disconnect, the lowest set
@@ -20,44 +30,104 @@ pub enum Lightest {
     Cut(Lowest),
 }
 
-// The plan's own 1 to 5; else its lowest cut of at most two edges, if it has one.
-pub fn lowest_cut(vertices: u16, ends: &[u16]) -> Lightest
-    ensures { λ r. ⌜ handed r ≡ lowestHanded limits (plan vertices (now (ends .entry))) ⌝ }
+// The plan's own 1 to 5; 6 where a lent table is too short: `incident` wants two places for each edge, the others one for each vertex. Else its
+// lowest cut of at most two edges, if it has one. The tables then hold its edges by vertex, and in `first` and `order` what a search from vertex 0
+// finds over them.
+pub fn lowest_cut(
+    vertices: u16,
+    ends: &[u16],
+    incident: &mut [u16],
+    begins: &mut [u16],
+    first: &mut [u16],
+    order: &mut [u16],
+) -> Lightest
+    ensures { λ r. ⌜ Answered limits (plan vertices (now (ends .entry))) (now (incident .entry)) (now (begins .entry)) (now (first .entry)) (now (order .entry)) (now (incident .exit)) (now (begins .exit)) (now (first .exit)) (now (order .exit)) r ⌝ }
 {
-    let mut incident = [0u16; 2 * Graph::MAX_EDGES];
-    let mut begins = [0u16; Graph::MAX_VERTICES];
-    let filled = incidence::fill(vertices, ends, &mut incident, &mut begins);
+    if is_short(vertices, first.len(), order.len()) {
+        return no_room(vertices, ends);
+    }
+    let filled = incidence::fill(vertices, ends, incident, begins);
     if filled.number != 0 {
         return Lightest::Refused(filled);
     }
+    lowest_filled(vertices, ends, incident, begins, first, order)
+}
+
+// Whether one of two tables by vertex, of which these are the lengths, is too short.
+fn is_short(vertices: u16, first: usize, order: usize) -> bool
+    ensures { λ r. ⌜ Tells (not r) ((vertices ≤ first) × (vertices ≤ order)) ⌝ }
+{
+    if first < vertices as usize {
+        return true;
+    }
+    if order < vertices as usize {
+        return true;
+    }
+    false
+}
+
+// What is said where a lent table is too short: the plan's own refusal, else 6.
+fn no_room(vertices: u16, ends: &[u16]) -> Lightest
+    ensures { λ r. ⌜ r ≡ Lightest.Refused (toldBy (lent limits (plan vertices (now (ends .entry))) false)) ⌝ }
+{
+    let made = Graph::new(vertices, ends);
+    match made {
+        Admission::Refused(answer) => Lightest::Refused(answer),
+        Admission::Admitted(_) => Lightest::Refused(Answer {
+            number: 6,
+            place: 0,
+        }),
+    }
+}
+
+// The lowest cut of an admitted plan whose tables by vertex are filled; whatever stands in `first` is cleared.
+fn lowest_filled(
+    vertices: u16,
+    ends: &[u16],
+    incident: &[u16],
+    begins: &[u16],
+    first: &mut [u16],
+    order: &mut [u16],
+) -> Lightest
+    requires { ⌜ Tabled limits (plan vertices (now ends)) (now incident) (now begins) × (vertices ≤ length (now first)) × (vertices ≤ length (now order)) ⌝ }
+    ensures { λ r. ⌜ (handed r ≡ verdictHanded (verdictOn (lowestCut (graph (plan vertices (now (ends .entry))))))) × SearchedFrom (plan vertices (now (ends .entry))) (now (incident .entry)) (now (begins .entry)) (now (first .entry)) (now (order .entry)) (now (first .exit)) (now (order .exit)) ⌝ }
+{
+    clear(vertices, first);
     let mut dead = [0u8; Graph::MAX_EDGES];
-    let mut first = [0u16; Graph::MAX_VERTICES];
-    let mut order = [0u16; Graph::MAX_VERTICES];
     let mut cursor = [0u16; Graph::MAX_VERTICES];
     let mut labels = [0u64; Graph::MAX_EDGES];
-    let mut sums = [0u64; Graph::MAX_VERTICES];
     let mut marks = [0u16; Graph::MAX_VERTICES];
-    let mut next = [0u16; Graph::MAX_EDGES];
-    let mut heads = [0u16; Graph::MAX_EDGES];
+    let mut other = [0u16; Graph::MAX_VERTICES];
     told(lowest_over(
         vertices,
         ends,
-        &incident,
-        &begins,
+        incident,
+        begins,
         &mut dead,
-        &mut first,
-        &mut order,
+        first,
+        order,
         &mut cursor,
         &mut labels,
-        &mut sums,
         &mut marks,
-        &mut next,
-        &mut heads,
+        &mut other,
     ))
 }
 
+// No vertex has a mark.
+fn clear(vertices: u16, first: &mut [u16])
+    requires { ⌜ vertices ≤ length (now first) ⌝ }
+    ensures { λ _. ⌜ Cleared vertices (now (first .entry)) (now (first .exit)) ⌝ }
+{
+    let n = vertices as usize;
+    let mut v = 0;
+    while v < n {
+        first[v] = 0;
+        v += 1;
+    }
+}
+
 // The lowest cut of an admitted plan over its tables and lent ones in which no edge and no vertex is marked: the empty set, if a search from
-// vertex 0 does not see all vertices.
+// vertex 0 does not see all vertices. What that finds stays: later ones have `marks` and `other`.
 fn lowest_over(
     vertices: u16,
     ends: &[u16],
@@ -68,13 +138,11 @@ fn lowest_over(
     order: &mut [u16],
     cursor: &mut [u16],
     labels: &mut [u64],
-    sums: &mut [u64],
     marks: &mut [u16],
-    next: &mut [u16],
-    heads: &mut [u16],
+    other: &mut [u16],
 ) -> Lowest
-    requires { ⌜ Tables (plan vertices (now ends)) (now incident) (now begins) (now dead) (now first) (now order) (now cursor) × Spaces (plan vertices (now ends)) (now dead) (now labels) (now sums) (now marks) (now next) (now heads) ⌝ }
-    ensures { λ r. ⌜ Told r (lowestCut (graph (plan vertices (now (ends .entry))))) ⌝ }
+    requires { ⌜ Tables (plan vertices (now ends)) (now incident) (now begins) (now dead) (now first) (now order) (now cursor) × Spaces (plan vertices (now ends)) (now dead) (now labels) (now marks) (now other) ⌝ }
+    ensures { λ r. ⌜ Told r (lowestCut (graph (plan vertices (now (ends .entry))))) × Searched (plan vertices (now (ends .entry))) (now (incident .entry)) (now (begins .entry)) (now (dead .entry)) (now (first .entry)) (now (order .entry)) (now (cursor .entry)) (now (first .exit)) (now (order .exit)) ⌝ }
 {
     let count = tries::search(
         vertices,
@@ -90,7 +158,7 @@ fn lowest_over(
     if count < vertices {
         return lowest::cut(0, 0, 0);
     }
-    labels::balance(vertices, ends, first, order, labels, sums);
+    label(vertices, ends, first, order, labels);
     lowest::small_cut(
         vertices,
         ends,
@@ -100,11 +168,17 @@ fn lowest_over(
         labels,
         dead,
         marks,
-        order,
+        other,
         cursor,
-        next,
-        heads,
     )
+}
+
+// Labels over a spanning tree. The sums are only needed here: what comes later has their room on the stack.
+fn label(vertices: u16, ends: &[u16], first: &[u16], order: &[u16], labels: &mut [u64])
+    ensures { λ _. ⌜ LabelledBy (plan vertices (now (ends .entry))) (now (first .entry)) (now (order .entry)) (now (labels .entry)) (now (labels .exit)) ⌝ }
+{
+    let mut sums = [0u64; Graph::MAX_VERTICES];
+    labels::balance(vertices, ends, first, order, labels, &mut sums);
 }
 
 // Three edges stand for no cut.

@@ -1,14 +1,17 @@
 // The lowest cut of at most two edges of a connected plan. Labels tell which sets need not be tried; a search tries the others.
 use crate::alike;
 use crate::tries::is_cut;
+use graph::Graph;
 ghost use mathlib.Core.Path.{_≡_};
-ghost use Prim.Native.Nat.{_/_, _≤_, _<_};
-ghost use lib.ListN.{length};
+ghost use Prim.Native.Nat.{_≤_, _<_};
 ghost use Rattle.connectivity.specs.Plan.{plan, graph};
 ghost use Rattle.connectivity.specs.Cut.{lowestCut};
 ghost use Rattle.cuts.specs.Lowest.{Shown, ShownBoth, oneTold, twoTold, firstOne, firstWith, firstTwo, Told, Whole};
 ghost use Rattle.cuts.specs.Alike.{Chaining};
 ghost use Rattle.cuts.specs.Tries.{Ready, Restored};
+
+// How many chains there are for edges with like labels. More would be shorter, and take more of the stack.
+const HEADS: usize = 1024;
 
 // A cut of at most two edges: how many, and which; unused places are 0. Three for none.
 pub struct Lowest {
@@ -41,10 +44,8 @@ pub(crate) fn small_cut(
     marks: &mut [u16],
     order: &mut [u16],
     cursor: &mut [u16],
-    next: &mut [u16],
-    heads: &mut [u16],
 ) -> Lowest
-    requires { ⌜ Whole vertices (now ends) (now labels) × Ready (plan vertices (now ends)) (now incident) (now begins) (now first) (now dead) (now marks) (now order) (now cursor) × (length (now ends) / 2 ≤ length (now next)) × (0 < length (now heads)) ⌝ }
+    requires { ⌜ Whole vertices (now ends) (now labels) × Ready (plan vertices (now ends)) (now incident) (now begins) (now first) (now dead) (now marks) (now order) (now cursor) ⌝ }
     ensures { λ r. ⌜ Told r (lowestCut (graph (plan vertices (now (ends .entry))))) ⌝ }
 {
     let edges = (ends.len() / 2) as u16;
@@ -64,15 +65,13 @@ pub(crate) fn small_cut(
     if e < edges {
         return cut(1, e, 0);
     }
-    chains::chain(edges, labels, next, heads);
-    lowest_two(
+    lowest_pair(
         vertices,
         ends,
         incident,
         begins,
         first,
         labels,
-        next,
         edges,
         dead,
         marks,
@@ -120,7 +119,43 @@ fn lowest_one(
     edges
 }
 
-// The lowest pair that disconnects, or three edges for none. One whose label no later edge has need not be tried.
+// The lowest pair that disconnects, or three edges for none. Edges with like labels are put on chains.
+fn lowest_pair(
+    vertices: u16,
+    ends: &[u16],
+    incident: &[u16],
+    begins: &[u16],
+    first: &[u16],
+    labels: &[u64],
+    edges: u16,
+    dead: &mut [u8],
+    marks: &mut [u16],
+    order: &mut [u16],
+    cursor: &mut [u16],
+) -> Lowest
+    requires { ⌜ ShownBoth vertices (now ends) (now labels) edges × Ready (plan vertices (now ends)) (now incident) (now begins) (now first) (now dead) (now marks) (now order) (now cursor) ⌝ }
+    ensures { λ r. ⌜ Told r (firstTwo (graph (plan vertices (now (ends .entry)))) edges) ⌝ }
+{
+    let mut next = [0u16; Graph::MAX_EDGES];
+    let mut heads = [0u16; HEADS];
+    chains::chain(edges, labels, &mut next, &mut heads);
+    lowest_two(
+        vertices,
+        ends,
+        incident,
+        begins,
+        first,
+        labels,
+        &next,
+        edges,
+        dead,
+        marks,
+        order,
+        cursor,
+    )
+}
+
+// The lowest pair that disconnects, or three edges for none, over chains. One whose label no later edge has need not be tried.
 fn lowest_two(
     vertices: u16,
     ends: &[u16],

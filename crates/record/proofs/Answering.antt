@@ -28,8 +28,7 @@ use Rattle.cuts.specs.declared.Lightest.the-variants as light
 use Rattle.cuts.proofs.Lightest as lightest
 use Rattle.cuts.specs.Verdict.{handed, lowestHanded}
 use Rattle.cuts.proofs.Handing.{toldOf, handed-same, handed-told, told-back}
-use Rattle.record.specs.Step.{Sturdy}
-use Rattle.record.specs.Record.{Recorded}
+use Rattle.record.specs.Recording.{Sturdy, Recorded}
 use Rattle.record.specs.Answered.{Answered}
 
 -- a list that is left as it was

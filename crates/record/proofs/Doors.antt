@@ -1,179 +1,217 @@
--- The doors of x: the test of one edge, the lowest door from one edge to the next, and that there are two.
+-- The doors of the root: the first from a place on, and that there are two of the first child.
 use mathlib.Core.Path.{_≡_, refl, sym, ap, _∙_, subst}
-use mathlib.Core.Logic.{_⊎_, inl, inr, ⊎-elim}
+use mathlib.Core.Logic.{inl, inr}
 use mathlib.Core.List.{List}
-use Prim.Native.Nat.{ℕ, _+_, _*_, _/_, _≤_, _<_}
+use Prim.Native.Nat.{ℕ, _+_, _/_, _≤_, _<_}
 use native.Mathlib.Omega.{arith}
 use native.Mathlib.Decide.{ℕ-discrete, decLt}
-use lib.Dec.{ltb}
-use lib.ListN.{length, getD}
-use borrow.Author.Tests.{eq-eqb, ne-eqb}
-use Rattle.connectivity.specs.Plan.{plan, graph, limits}
-use Rattle.connectivity.specs.Graph.{Graph, Edge, Joins}
-use Rattle.connectivity.specs.Reach.{ThreeEdgeConnected}
-use Rattle.connectivity.specs.Admission.{Admitted}
-use Rattle.connectivity.proofs.Admission.{admitted-edge}
-use Rattle.connectivity.proofs.Reach.{joins-sym}
-use Rattle.connectivity.proofs.Theta.{Door, one-door, two-doors}
-use Rattle.graph.specs.Marks.{read, Marked}
-use Rattle.graph.proofs.Joined.{joins-below, joins-edge}
-use Rattle.graph.specs.Tells.{Tells}
-use Rattle.record.specs.Opening.{IsDoor, DoorFits, DoorsFit, NextDoor, Rooted, farEnd}
-use Rattle.record.proofs.Paths.{far-end}
-use Rattle.record.proofs.Filling.{tells-less}
+use lib.ListN.{length}
+use Rattle.connectivity.specs.Plan.{plan, graph}
+use Rattle.connectivity.specs.Graph.{Graph, Joins}
+use Rattle.connectivity.proofs.Admission.{admitted-vertex}
+use Rattle.tree.specs.Tree.{Pointers, Child, Passing}
+use Rattle.tree.proofs.Above.{root-above, parent-vertex, tree-cases}
+use Rattle.tree.proofs.Passing.{one-passing, two-passing, passing-root}
+use Rattle.graph.specs.Marks.{read}
+use Rattle.graph.proofs.Joined.{vertex-below, joins-below, joins-edge}
+use Rattle.record.specs.Ways.{farEnd}
+use Rattle.record.specs.Standing.{Listed, Ground, treeOf}
+use Rattle.record.specs.Opening.{Door, DoorFits, DoorAt, Doors, NextDoor}
+use Rattle.record.proofs.Climbing.{far-end}
+use Rattle.record.proofs.Upper.{joins-differ}
 
--- One edge.
+-- From place to place.
 
-module _ {ends marks : List ℕ} {e : ℕ} (x : ℕ) (f : DoorFits ends marks e) where
-  abbrev l : ℕ
-  l = getD ends (2 * e) 0
+-- no place from `from` up to k is that of a door
+pub record Passed (ends incident first number : List ℕ) (end r from k : ℕ) : Type 0 where
+  pub least : from ≤ k
+  pub none : (j : ℕ) → from ≤ j → j < k → DoorAt ends incident first number end r j → ⊥
 
-  abbrev r : ℕ
-  r = getD ends (2 * e + 1) 0
+pub passed-start : (ends incident first number : List ℕ) (end r from : ℕ) → Passed ends incident first number end r from from
+passed-start ends incident first number end r from = record { least = omega arith; none = λ j a b. absurd (omega (arith, a, b)) }
 
-  far-left : l ≡ x → farEnd ends e x ≡ r
-  far-left p = rw (eq-eqb l x p)
-
-  far-right : (l ≡ x → ⊥) → farEnd ends e x ≡ l
-  far-right d = rw (ne-eqb l x d)
-
-  pub far-fits : farEnd ends e x < length marks
-  far-fits = elim (ℕ-discrete l x) [ yes p ↦ rw (far-left p) (f .right) | no d ↦ rw (far-right d) (f .left) ]
-
-  -- back from the far end
-  back : farEnd ends e (farEnd ends e x) ≡ x → (l ≡ x) ⊎ (r ≡ x)
-  back h = elim (ℕ-discrete l x) [
-    | yes p ↦ inl p
-    | no d ↦ inr (sym (rw (eq-eqb l l refl)) ∙ ap (farEnd ends e) (sym (far-right d)) ∙ h)
+module _ {ends incident first number : List ℕ} {end r from k : ℕ} (c : Doors ends incident first number end r from)
+    (p : Passed ends incident first number end r from k) where
+  pub passed-below : k < read (c .begins) (r + 1)
+  passed-below = elim (decLt k (read (c .begins) (r + 1))) [
+    | yes h ↦ h
+    | no h ↦ absurd (c .some (λ j a b. p .none j a (omega (arith, b, h))))
   ]
 
-  pub door-off : (farEnd ends e (farEnd ends e x) ≡ x → ⊥) → IsDoor ends marks x e → ⊥
-  door-off h i = elim i [
-    | inl q ↦ h (ap (farEnd ends e) (far-left (q .0)) ∙ rw (ne-eqb l r (f .different)) (q .0))
-    | inr q ↦ h (ap (farEnd ends e) (far-right (λ p. f .different (p ∙ sym (q .0)))) ∙ rw (eq-eqb l l refl) (q .0))
-  ]
+  pub place-below : k < length ends
+  place-below = omega (arith, passed-below, c .grouped .inside r (c .vertex))
 
-  pub door-on : farEnd ends e (farEnd ends e x) ≡ x → Tells (ltb 0 (getD marks (farEnd ends e x) 0)) (IsDoor ends marks x e)
-  door-on h = tells-less {P = IsDoor ends marks x e} 0 (getD marks (farEnd ends e x) 0)
-      (λ m. elim (ℕ-discrete l x) [
-        | yes p ↦ inl (p, λ z. omega (arith, rw (far-left p) at m, z))
-        | no d ↦ inr (elim (back h) [ inl p ↦ absurd (d p) | inr p ↦ p ], λ z. omega (arith, rw (far-right d) at m, z))
-      ])
-      (λ i. elim i [
-        | inl q ↦ rw (far-left (q .0)) (omega (arith, q .1))
-        | inr q ↦ rw (far-right (λ p. f .different (p ∙ sym (q .0)))) (omega (arith, q .1))
-      ])
+  pub place-fits : k < length incident
+  place-fits = omega (arith, place-below, c .grouped .long)
 
--- From one edge to the next.
+  leads : (u : ℕ) × Joins (graph (plan (c .n) ends)) (read incident k) r u
+  leads = c .grouped .joins r k (c .vertex) (omega (arith, c .start, p .least)) passed-below
 
-pub record Passing (ends marks : List ℕ) (x after edges e : ℕ) : Type 0 where
-  pub above : after < e
-  pub most : e ≤ edges
-  pub no-door : (d : ℕ) → after < d → d < e → IsDoor ends marks x d → ⊥
+  pub edge-fits : read incident k < length ends / 2
+  edge-fits = joins-edge (c .n) ends _ r (leads .0) (leads .1)
 
-pub passing-start : (ends marks : List ℕ) (x after edges : ℕ) → after < edges → Passing ends marks x after edges (after + 1)
-passing-start ends marks x after edges l = record { above = omega arith; most = omega (arith, l); no-door = λ d h k. absurd (omega (arith, h, k)) }
+  pub door-fits : DoorFits (read incident k) (farEnd ends (read incident k) r) (length first) (length number)
+  door-fits =
+      let b : farEnd ends (read incident k) r < c .n = subst (λ (u : ℕ). u < c .n) (sym (far-end (c .n) ends _ r _ (leads .1))) (joins-below (c .n) ends _ r _ (leads .1)) in
+      record {
+        edge = omega (arith, edge-fits, c .admitted .edges);
+        marked = omega (arith, b, c .first-long);
+        numbered = omega (arith, b, c .number-long);
+      }
 
-module _ {ends marks : List ℕ} {x after edges e : ℕ} (p : Passing ends marks x after edges e) where
-  pub passing-step : e < edges → (IsDoor ends marks x e → ⊥) → Passing ends marks x after edges (e + 1)
-  passing-step l n = record {
-    above = omega (arith, p .above);
-    most = omega (arith, l);
-    no-door = λ d h k. elim (ℕ-discrete d e) [ yes q ↦ λ i. n (subst (IsDoor ends marks x) q i) | no q ↦ p .no-door d h (omega (arith, k, q)) ];
-  }
+  pub passed-door : DoorAt ends incident first number end r k → NextDoor ends incident (c .begins) first number end r from k
+  passed-door d = record { least = p .least; most = passed-below; door = d; before = p .none }
 
-  pub passing-door : e < edges → IsDoor ends marks x e → NextDoor ends marks x after edges e
-  passing-door l i = record { above = p .above; most = p .most; door = λ h. i; lowest = p .no-door }
-
-  pub passing-end : edges ≤ e → NextDoor ends marks x after edges edges
-  passing-end l = record {
-    above = omega (arith, p .above, p .most, l);
-    most = omega arith;
-    door = λ h. absurd (omega (arith, h));
-    lowest = λ d h k. p .no-door d h (omega (arith, k, l));
-  }
-
--- The edges of a table that is admitted.
-
-pub doors-fit : {n : ℕ} {ends : List ℕ} (marks : List ℕ) (edges : ℕ) → Admitted limits (plan n ends) → n ≤ length marks → edges ≡ length ends / 2 → DoorsFit ends marks edges
-doors-fit {n} {ends} marks edges a l p = record {
-  fit = λ e h. let k = a .fit e (omega (arith, h, p)) in record {
-    below = omega (arith, h, p);
-    left = omega (arith, k .left, l);
-    right = omega (arith, k .right, l);
-    different = k .different;
-  };
-  few = omega (arith, a .edges, p);
+pub passed-step : {ends incident first number : List ℕ} {end r from k : ℕ} → Passed ends incident first number end r from k
+    → (DoorAt ends incident first number end r k → ⊥) → Passed ends incident first number end r from (k + 1)
+passed-step {ends} {incident} {first} {number} {end} {r} {from} {k} p n = record {
+  least = omega (arith, p .least);
+  none = λ j a b. elim (ℕ-discrete j k) [
+    | yes q ↦ λ d. n (subst (DoorAt ends incident first number end r) q d)
+    | no q ↦ p .none j a (omega (arith, b, q))
+  ];
 }
 
-ends-join : (n : ℕ) (ends : List ℕ) (e : ℕ) → Edge (graph (plan n ends)) e
-    → Joins (graph (plan n ends)) e (getD ends (2 * e) 0) (getD ends (2 * e + 1) 0)
-unfolding graph
-ends-join n ends e h = record { edge = h; ends = inl (refl, refl) }
+-- The first child of the root, and the edges that lead past its first edge.
 
-pub edge-joins : (n : ℕ) (ends : List ℕ) (e : ℕ) → Admitted limits (plan n ends) → e < length ends / 2
-    → Joins (graph (plan n ends)) e (getD ends (2 * e) 0) (getD ends (2 * e + 1) 0)
-edge-joins n ends e a l = ends-join n ends e (admitted-edge a e l)
-
-joins-ends : (n : ℕ) (ends : List ℕ) (e u v : ℕ) → Joins (graph (plan n ends)) e u v
-    → ((getD ends (2 * e) 0 ≡ u) × (getD ends (2 * e + 1) 0 ≡ v)) ⊎ ((getD ends (2 * e) 0 ≡ v) × (getD ends (2 * e + 1) 0 ≡ u))
-unfolding graph
-joins-ends n ends e u v j = j .ends
-
--- where a door leads
-pub record Leads (n : ℕ) (ends marks : List ℕ) (x e : ℕ) : Type 0 where
-  pub joins : Joins (graph (plan n ends)) e x (farEnd ends e x)
-  pub below : farEnd ends e x < n
-  pub seen : Marked (read marks) (farEnd ends e x)
-  pub off : farEnd ends e x ≡ x → ⊥
-
-pub door-leads : {n e : ℕ} {ends : List ℕ} (marks : List ℕ) (x : ℕ) → Admitted limits (plan n ends) → e < length ends / 2 → IsDoor ends marks x e → Leads n ends marks x e
-door-leads {n} {e} {ends} marks x a l d =
-    let j = edge-joins n ends e a l in
-    let k = a .fit e l in
-    ⊎-elim (λ h. to (getD ends (2 * e + 1) 0) (subst (λ (u : ℕ). Joins (graph (plan n ends)) e u (getD ends (2 * e + 1) 0)) (h .0) j) (h .1) (λ p. k .different (h .0 ∙ sym p)))
-    (λ h. to (getD ends (2 * e) 0) (subst (λ (u : ℕ). Joins (graph (plan n ends)) e u (getD ends (2 * e) 0)) (h .0) (joins-sym j)) (h .1) (λ p. k .different (p ∙ sym (h .0)))) d
-  where
-    to : (k : ℕ) → Joins (graph (plan n ends)) e x k → Marked (read marks) k → (k ≡ x → ⊥) → Leads n ends marks x e
-    to k j m o = let p : k ≡ farEnd ends e x = sym (far-end n ends e x k j) in record {
-      joins = subst (λ (u : ℕ). Joins (graph (plan n ends)) e x u) p j;
-      below = subst (λ (u : ℕ). u < n) p (joins-below n ends e x k j);
-      seen = subst (Marked (read marks)) p m;
-      off = subst (λ (u : ℕ). u ≡ x → ⊥) p o;
-    }
-
--- There are two.
-
-module _ {n r x edges : ℕ} {ends marks : List ℕ} (t : ThreeEdgeConnected (graph (plan n ends))) (j : Joins (graph (plan n ends)) 0 r x) (apart : r ≡ x → ⊥)
-    (s : Rooted n ends r x marks) (p : edges ≡ length ends / 2) where
+module _ {n root : ℕ} {ends incident begins first order number last over : List ℕ} (s : Ground n root ends incident begins first number last over)
+    (l : Listed n root order number) where
   abbrev g : Graph
   g = graph (plan n ends)
 
-  -- a door is found by the test
-  tested : (e : ℕ) → Door g (Edge g) x r 0 e → IsDoor ends marks x e × (0 < e) × (e < edges)
-  tested e d =
-      let m = s .whole (d .to) (joins-below n ends e x (d .to) (d .joins)) (d .reached) in (
-        ⊎-elim (λ h. inl (h .0, subst (Marked (read marks)) (sym (h .1)) m)) (λ h. inr (h .1, subst (Marked (read marks)) (sym (h .0)) m)) (joins-ends n ends e x (d .to) (d .joins)),
-        omega (arith, d .other),
-        omega (arith, p, joins-edge n ends e x (d .to) (d .joins)),
+  abbrev t : Pointers
+  t = treeOf n ends root first (read number)
+
+  abbrev pub eldest : ℕ
+  eldest = read order 1
+
+  pub eldest-below : eldest < n
+  eldest-below = l .at 1 (omega (arith, s .rooted .admitted .two)) .0
+
+  eldest-number : read number eldest ≡ 1
+  eldest-number = l .at 1 (omega (arith, s .rooted .admitted .two)) .1
+
+  pub root-below : root < n
+  root-below = vertex-below n ends root (s .rooted .tree .start)
+
+  root-number : read number root ≡ 0
+  root-number = ap (read number) (sym (l .top)) ∙ l .at 0 (omega (arith, s .rooted .admitted .two)) .1
+
+  -- only the root has the number 0
+  first-number : {v : ℕ} → v < n → read number v ≡ 0 → v ≡ root
+  first-number {v} h p = sym (l .placed v h .1) ∙ ap (read order) p ∙ l .top
+
+  pub eldest-child : Child g t eldest
+  eldest-child = record {
+    vertex = admitted-vertex (s .rooted .admitted) eldest eldest-below;
+    other = λ p. omega (arith, eldest-number, root-number, ap (read number) p);
+  }
+
+  pub eldest-parent : t .parent eldest ≡ root
+  eldest-parent = first-number (vertex-below n ends _ (parent-vertex (s .rooted .tree) eldest-child))
+      (omega (arith, s .rooted .tree .falls eldest eldest-child, eldest-number))
+
+  module _ (k : ℕ) (from : read begins root ≤ k) (to : k < read begins (root + 1)) where
+    -- a door leads past the first edge of the first child
+    pub door-passing : DoorAt ends incident first number (read last eldest) root k → Passing g t eldest (read incident k) root (farEnd ends (read incident k) root)
+    door-passing d =
+        let (u, j) = s .grouped .joins root k root-below from to in
+        let p = far-end n ends (read incident k) root u j in
+        subst (λ (w : ℕ). Passing g t eldest (read incident k) root w) (sym p) (passing u j (subst (Door (read first) (read number) (read last eldest) (read incident k)) p d))
+      where
+        passing : (u : ℕ) → Joins g (read incident k) root u → Door (read first) (read number) (read last eldest) (read incident k) u → Passing g t eldest (read incident k) root u
+        passing u j d =
+            let below : u < n = joins-below n ends _ root u j in
+            let v = admitted-vertex (s .rooted .admitted) u below in
+            record {
+              back = record {
+                joins = j;
+                above = root-above (s .rooted .tree) v;
+                off = elim (tree-cases (s .rooted .tree) j) [
+                  | inl (inl (c, p)) ↦ absurd (c .other refl)
+                  | inl (inr (c, p)) ↦ absurd (d .off (omega (arith, p, s .rooted .marked u c)))
+                  | inr off ↦ off
+                ];
+              };
+              below = s .preorder .below eldest u (eldest-child .vertex) v (positive u below j) (d .low);
+              above = root-above (s .rooted .tree) (parent-vertex (s .rooted .tree) eldest-child);
+            }
+          where
+            positive : (u : ℕ) → u < n → Joins g (read incident k) root u → read number eldest ≤ read number u
+            positive u h j = elim (ℕ-discrete (read number u) 0) [
+              | yes p ↦ absurd (joins-differ n root ends first number (s .rooted) j (sym (first-number h p)))
+              | no p ↦ omega (arith, p, eldest-number)
+            ]
+
+  -- what leads past it is a door
+  pub passing-door : {e y w : ℕ} → Passing g t eldest e y w
+      → (k : ℕ) × (read begins root ≤ k) × (k < read begins (root + 1)) × (read incident k ≡ e) × DoorAt ends incident first number (read last eldest) root k
+  passing-door {e} {y} {w} q =
+      let j : Joins g e root w = subst (λ (z : ℕ). Joins g e z w) (passing-root (s .rooted .tree) eldest-parent q) (q .back .joins) in
+      let (k, a, b, p) = s .grouped .listed e root w j in (
+        k,
+        a,
+        b,
+        p,
+        subst (λ (d : ℕ). Door (read first) (read number) (read last eldest) d (farEnd ends d root)) (sym p)
+            (subst (Door (read first) (read number) (read last eldest) e) (sym (far-end n ends e root w j)) (record {
+              off = λ m. q .back .off w (is-child j) (omega (arith, m));
+              low = s .preorder .within eldest w (q .below) (eldest-child .vertex);
+            })),
       )
-
-  pub first-door : {e : ℕ} → NextDoor ends marks x 0 edges e → e < edges
-  first-door {e} f = elim (decLt e edges) [
-    | yes l ↦ l
-    | no o ↦ absurd (one-door t (λ d h. h) j apart (λ d k. let q = tested d k in f .lowest d (q .1) (omega (arith, o, q .2)) (q .0)))
-  ]
-
-  pub second-door : {e d : ℕ} → NextDoor ends marks x 0 edges e → NextDoor ends marks x e edges d → d < edges
-  second-door {e} {d} f h = elim (decLt d edges) [
-    | yes l ↦ l
-    | no o ↦ absurd (two-doors t (λ c k. k) j apart (λ b c k q. only b o k ∙ sym (only c o q)))
-  ]
     where
-      only : (c : ℕ) → (d < edges → ⊥) → Door g (Edge g) x r 0 c → c ≡ e
-      only c o k =
-          let q = tested c k in
-          elim (decLt c e) [
-            | yes l ↦ absurd (f .lowest c (q .1) l (q .0))
-            | no a ↦ elim (decLt e c) [ yes l ↦ absurd (h .lowest c l (omega (arith, o, q .2)) (q .0)) | no b ↦ omega (arith, a, b) ]
-          ]
+      is-child : Joins g e root w → Child g t w
+      is-child j = record {
+        vertex = admitted-vertex (s .rooted .admitted) w (joins-below n ends e root w j);
+        other = λ p. joins-differ n root ends first number (s .rooted) j (sym p);
+      }
+
+  -- there is one
+  abbrev pub some-door : Doors ends incident first number (read last eldest) root (read begins root)
+  some-door = record {
+    n = n;
+    begins = begins;
+    admitted = s .rooted .admitted;
+    grouped = s .grouped;
+    vertex = root-below;
+    first-long = s .rooted .long;
+    number-long = s .number-long;
+    start = omega arith;
+    some = λ f. one-passing (s .rooted .tree) (s .three) eldest-child (λ e y w q. let (k, a, b, p, d) = passing-door q in f k a b d);
+  }
+
+  module _ {i : ℕ} (o : NextDoor ends incident begins first number (read last eldest) root (read begins root) i) where
+    -- were there no other, each would be it
+    pub only-door : ((k : ℕ) → i + 1 ≤ k → k < read begins (root + 1) → DoorAt ends incident first number (read last eldest) root k → ⊥)
+        → {e y w : ℕ} → Passing g t eldest e y w → e ≡ read incident i
+    only-door f q = let (k, a, b, p, d) = passing-door q in elim (decLt k i) [
+      | yes h ↦ absurd (o .before k a h d)
+      | no h ↦ elim (decLt i k) [ yes m ↦ absurd (f k (omega (arith, m)) b d) | no m ↦ sym p ∙ ap (read incident) (same k h m) ]
+    ]
+      where
+        same : (k : ℕ) → (k < i → ⊥) → (i < k → ⊥) → k ≡ i
+        same k h m = omega (arith, h, m)
+
+    -- there is another behind it
+    abbrev pub other-door : Doors ends incident first number (read last eldest) root (i + 1)
+    other-door = record {
+      n = n;
+      begins = begins;
+      admitted = s .rooted .admitted;
+      grouped = s .grouped;
+      vertex = root-below;
+      first-long = s .rooted .long;
+      number-long = s .number-long;
+      start = omega (arith, o .least);
+      some = λ f. two-passing (s .rooted .tree) (s .three) eldest-child (λ d e y w v z q r. only-door f q ∙ sym (only-door f r));
+    }
+
+    module _ {k : ℕ} (h : NextDoor ends incident begins first number (read last eldest) root (i + 1) k) where
+      pub doors-differ : read incident i ≡ read incident k → ⊥
+      doors-differ = s .grouped .once root i k root-below (o .least) (omega (arith, h .least)) (h .most)
+
+      pub one-leads : Passing g t eldest (read incident i) root (farEnd ends (read incident i) root)
+      one-leads = door-passing i (o .least) (o .most) (o .door)
+
+      pub other-leads : Passing g t eldest (read incident k) root (farEnd ends (read incident k) root)
+      other-leads = door-passing k (omega (arith, o .least, h .least)) (h .most) (h .door)

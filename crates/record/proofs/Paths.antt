@@ -1,137 +1,68 @@
--- Ways up along first edges: one leg more, parted at a vertex, and how long they are.
+-- A way up while it is walked: the legs that are done, those that are left, and how many these are.
 use mathlib.Core.Path.{_≡_, refl, sym, ap, _∙_, subst}
-use mathlib.Core.Logic.{_⊎_, inl, inr, ⊎-elim}
+use mathlib.Core.Logic.{_⊎_, inl, inr}
 use mathlib.Core.Bool.{Bool, true, false, cond}
-use mathlib.Core.List.{List, [], _∷_, _++_, List·Memᴰ as In, List·Memᴰ·head as first, List·Memᴰ·tail as later, List·Memᴰ·not-nil as not-in, List·Memᴰ·cases-cons as in-cons}
-use Prim.Native.Nat.{ℕ, zero, suc, _-_, _/_, _≤_, _<_}
+use mathlib.Core.List.{List, [], _∷_, _++_, append-nil, append-assoc, List·Memᴰ as In, List·Memᴰ·head as here, List·Memᴰ·tail as later, List·Memᴰ·append-cases as in-cases, List·Memᴰ·eq-of-singleton as eq-of-singleton, Memᴰ·append-left as in-left, Memᴰ·append-right as in-right, Memᴰ·cast}
+use Prim.Native.Nat.{ℕ, zero, suc, _+_, _-_, _/_, _≤_, _<_}
 use native.Mathlib.Omega.{arith}
-use native.Mathlib.Decide.{ℕ-discrete}
-use lib.ListN.{length, getD}
-use Rattle.connectivity.specs.Plan.{plan, graph}
-use Rattle.connectivity.specs.Graph.{Graph, Joins}
-use Rattle.connectivity.specs.Walk.{Leg, Walk, last, then, far, froms}
+use lib.Dec.{eqb}
+use lib.ListN.{length, length-append}
+use borrow.Author.Tests.{eq-eqb, ne-eqb}
+use Rattle.connectivity.specs.Plan.{plan, graph, limits}
+use Rattle.connectivity.specs.Graph.{Graph}
+use Rattle.connectivity.specs.Walk.{Leg, froms}
+use Rattle.connectivity.specs.Lists.{Distinct}
 use Rattle.connectivity.proofs.Reach.{joins-sym}
-use Rattle.connectivity.proofs.Legs.{far-is}
+use Rattle.connectivity.proofs.Legs.{leg}
+use Rattle.connectivity.proofs.Distinct.{apart-distinct}
+use Rattle.graph.specs.Marks.{read}
 use Rattle.graph.proofs.Joined.{joins-below, joins-edge}
-use Rattle.record.specs.Step.{Path, there, up}
-use Rattle.record.specs.Opening.{farEnd, Rises, leg}
+use Rattle.record.specs.Ways.{Path, there, up, Way, Rises, nextUp}
+use Rattle.record.proofs.Climbing.{far-end}
 
--- the far end, as the code has it
-far-same : (n : ℕ) (ends : List ℕ) (e v : ℕ) → far (graph (plan n ends)) e v ≡ farEnd ends e v
-unfolding far graph
-far-same n ends e v = refl
-
-pub far-end : (n : ℕ) (ends : List ℕ) (e v p : ℕ) → Joins (graph (plan n ends)) e v p → farEnd ends e v ≡ p
-far-end n ends e v p j = sym (far-same n ends e v) ∙ far-is j
+pub froms-append : (l r : List Leg) → froms (l ++ r) ≡ froms l ++ froms r
+froms-append [] r = refl
+froms-append (k ∷ l) r = ap (λ (m : List ℕ). k .from ∷ m) (froms-append l r)
 
 -- the next leg of a way up that is not at its end
 pub record OneUp (n : ℕ) (ends marks : List ℕ) (v : ℕ) (legs : List Leg) (stop : ℕ) : Type 0 where
   pub rest : List Leg
-  pub same : legs ≡ leg (getD marks v 0 - 1) v ∷ rest
-  pub seen : 1 ≤ getD marks v 0
-  pub edge : getD marks v 0 - 1 < length ends / 2
-  pub below : v < n
-  pub path : Path (graph (plan n ends)) marks (farEnd ends (getD marks v 0 - 1) v) rest stop
+  pub same : legs ≡ leg (read marks v - 1) v ∷ rest
+  pub rises : v < n
+  pub seen : 1 ≤ read marks v
+  pub edge : read marks v - 1 < length ends / 2
+  pub leads : nextUp ends marks v < n
+  pub path : Path (graph (plan n ends)) (read marks) (nextUp ends marks v) rest stop
 
-pub one-up : {n v stop : ℕ} {ends marks : List ℕ} {legs : List Leg} → Path (graph (plan n ends)) marks v legs stop → (v ≡ stop → ⊥)
+one-up : {n v stop : ℕ} {ends marks : List ℕ} {legs : List Leg} → Path (graph (plan n ends)) (read marks) v legs stop → (v ≡ stop → ⊥)
     → OneUp n ends marks v legs stop
 one-up there d = absurd (d refl)
-one-up {n = n} {ends = ends} {marks = marks} (up {v = v} {p = p} {w = w} {legs = legs} h j k) d = record {
-  rest = legs;
-  same = refl;
-  seen = h;
-  edge = joins-edge n ends _ v p j;
-  below = joins-below n ends _ p v (joins-sym j);
-  path = subst (λ (x : ℕ). Path (graph (plan n ends)) marks x legs w) (sym (far-end n ends _ v p j)) k;
-}
+one-up {n = n} {ends = ends} {marks = marks} (up {v = v} {p = p} {w = w} {legs = legs} h j k) d =
+    let q = far-end n ends _ v p j in
+    record {
+      rest = legs;
+      same = refl;
+      rises = joins-below n ends _ p v (joins-sym j);
+      seen = h;
+      edge = joins-edge n ends _ v p j;
+      leads = subst (λ (x : ℕ). x < n) (sym q) (joins-below n ends _ v p j);
+      path = subst (λ (x : ℕ). Path (graph (plan n ends)) (read marks) x legs w) (sym q) k;
+    }
 
-pub rises : {n v stop : ℕ} {ends marks : List ℕ} {legs : List Leg} → n ≤ length marks → OneUp n ends marks v legs stop → Rises ends marks v
-rises l o = record { long = omega (arith, l, o .below); seen = o .seen; edge = o .edge }
-
--- parted at a vertex on it
-pub record Parted (g : Graph) (marks : List ℕ) (v : ℕ) (legs : List Leg) (stop y : ℕ) : Type 0 where
-  pub low : List Leg
-  pub high : List Leg
-  pub parts : legs ≡ low ++ high
-  pub path-low : Path g marks v low y
-  pub path-high : Path g marks y high stop
-
--- parted at the first vertex on it that has a mark
-pub record FirstOn (g : Graph) (marks found : List ℕ) (v : ℕ) (legs : List Leg) (stop : ℕ) : Type 0 where
-  pub to : ℕ
-  pub low : List Leg
-  pub high : List Leg
-  pub parts : legs ≡ low ++ high
-  pub path-low : Path g marks v low to
-  pub plain : (u : ℕ) → In u (froms low) → getD found u 0 ≡ 0
-  pub met : getD found to 0 ≡ 0 → ⊥
-  pub on : In to (froms legs) ⊎ (to ≡ stop)
-
-module _ {g : Graph} {marks : List ℕ} where
+module _ {g : Graph} {mark : ℕ → ℕ} where
   -- no leg is left at the end
-  pub path-over : {v stop : ℕ} {legs : List Leg} → Path g marks v legs stop → v ≡ stop → (In stop (froms legs) → ⊥) → legs ≡ []
+  path-over : {v stop : ℕ} {legs : List Leg} → Path g mark v legs stop → v ≡ stop → (In stop (froms legs) → ⊥) → legs ≡ []
   path-over there p n = refl
-  path-over (up h j k) p n = absurd (n (first (sym p)))
+  path-over (up h j k) p n = absurd (n (here (sym p)))
 
-  -- it is a walk, before a last leg and after a first one
-  pub path-walk : {v w x e : ℕ} {legs : List Leg} → Path g marks v legs w → Joins g e w x → Walk g v (legs ++ (leg e w ∷ [])) x
-  path-walk there j = last _ j
-  path-walk (up h i k) j = then _ i (path-walk k j)
+  -- it begins with its first leg, or is at its end
+  path-start : {v stop : ℕ} {legs : List Leg} → Path g mark v legs stop → In v (froms legs) ⊎ (v ≡ stop)
+  path-start there = inr refl
+  path-start (up h j k) = inl (here refl)
 
-  pub walk-path : {v w x e : ℕ} {legs : List Leg} → Joins g e x v → Path g marks v legs w → Walk g x (leg e x ∷ legs) w
-  walk-path j there = last _ j
-  walk-path j (up h i k) = then _ j (walk-path i k)
-
-  pub part-at : {v stop y : ℕ} {legs : List Leg} → Path g marks v legs stop → In y (froms legs) ⊎ (y ≡ stop) → Parted g marks v legs stop y
-  part-at {y = y} there i = elim i [
-    | inl m ↦ absurd (not-in m)
-    | inr p ↦ record { low = []; high = []; parts = refl; path-low = subst (λ (x : ℕ). Path g marks x [] y) p there; path-high = subst (λ (x : ℕ). Path g marks y [] x) p there }
-  ]
-  part-at {y = y} (up {v = v} {w = w} {legs = legs} h j k) i = elim (ℕ-discrete v y) [
-    | yes p ↦ record {
-      low = [];
-      high = leg (getD marks v 0 - 1) v ∷ legs;
-      parts = refl;
-      path-low = subst (λ (x : ℕ). Path g marks v [] x) p there;
-      path-high = subst (λ (x : ℕ). Path g marks x (leg (getD marks v 0 - 1) v ∷ legs) w) p (up h j k);
-    }
-    | no d ↦
-        let q = part-at k (⊎-elim (λ m. ⊎-elim (λ s. absurd (d (sym s))) (λ s. inl s) (in-cons m)) (λ m. inr m) i) in
-        record {
-          low = leg (getD marks v 0 - 1) v ∷ q .low;
-          high = q .high;
-          parts = ap (λ (l : List Leg). leg (getD marks v 0 - 1) v ∷ l) (q .parts);
-          path-low = up h j (q .path-low);
-          path-high = q .path-high;
-        }
-  ]
-
-  pub first-on : {v stop : ℕ} {legs : List Leg} (found : List ℕ) → Path g marks v legs stop → (getD found stop 0 ≡ 0 → ⊥) → FirstOn g marks found v legs stop
-  first-on found (there {w = w}) n = record { to = w; low = []; high = []; parts = refl; path-low = there; plain = λ u i. absurd (not-in i); met = n; on = inr refl }
-  first-on found (up {v = v} {w = w} {legs = legs} h j k) n = elim (ℕ-discrete (getD found v 0) 0) [
-    | no d ↦ record {
-      to = v;
-      low = [];
-      high = leg (getD marks v 0 - 1) v ∷ legs;
-      parts = refl;
-      path-low = there;
-      plain = λ u i. absurd (not-in i);
-      met = d;
-      on = inl (first refl);
-    }
-    | yes z ↦
-        let q = first-on found k n in
-        record {
-          to = q .to;
-          low = leg (getD marks v 0 - 1) v ∷ q .low;
-          high = q .high;
-          parts = ap (λ (l : List Leg). leg (getD marks v 0 - 1) v ∷ l) (q .parts);
-          path-low = up h j (q .path-low);
-          plain = λ u i. ⊎-elim (λ s. ap (λ (x : ℕ). getD found x 0) s ∙ z) (q .plain u) (in-cons i);
-          met = q .met;
-          on = ⊎-elim (λ m. inl (later m)) (λ m. inr m) (q .on);
-        }
-  ]
+path-below : (n : ℕ) (ends marks : List ℕ) {v w : ℕ} {legs : List Leg} → Path (graph (plan n ends)) (read marks) v legs w → w < n → v < n
+path-below n ends marks there l = l
+path-below n ends marks (up {v = v} {p = p} h j k) l = joins-below n ends _ p v (joins-sym j)
 
 -- How many legs it takes to a vertex that passes a test, by a count that ends.
 
@@ -148,14 +79,100 @@ steps-on : (done : ℕ → Bool) (next : ℕ → ℕ) (k v : ℕ) → done v ≡
 unfolding steps
 steps-on done next k v p = rw p
 
--- the vertex above v
-abbrev pub nextUp : List ℕ → List ℕ → ℕ → ℕ
-nextUp ends marks v = farEnd ends (getD marks v 0 - 1) v
-
-pub steps-path : (n : ℕ) (ends : List ℕ) {v stop : ℕ} {marks : List ℕ} {legs : List Leg} (done : ℕ → Bool) (k : ℕ) → Path (graph (plan n ends)) marks v legs stop
+steps-path : (n : ℕ) (ends marks : List ℕ) {v stop : ℕ} {legs : List Leg} (done : ℕ → Bool) (k : ℕ) → Path (graph (plan n ends)) (read marks) v legs stop
     → ((u : ℕ) → In u (froms legs) → done u ≡ false) → done stop ≡ true → length legs ≤ k → steps done (nextUp ends marks) k v ≡ length legs
-steps-path n ends {v = v} {marks = marks} done k there f t l = steps-done done (nextUp ends marks) k v t
-steps-path n ends done zero (up h j q) f t l = absurd (omega (arith, l))
-steps-path n ends {marks = marks} done (suc k) (up {v = v} {p = p} {legs = legs} h j q) f t l =
-    steps-on done (nextUp ends marks) k v (f v (first refl))
-    ∙ ap suc (ap (steps done (nextUp ends marks) k) (far-end n ends _ v p j) ∙ steps-path n ends done k q (λ u i. f u (later i)) t (omega (arith, l)))
+steps-path n ends marks {v = v} done k there f t l = steps-done done (nextUp ends marks) k v t
+steps-path n ends marks done zero (up h j q) f t l = absurd (omega (arith, l))
+steps-path n ends marks done (suc k) (up {v = v} {p = p} {legs = legs} h j q) f t l =
+    steps-on done (nextUp ends marks) k v (f v (here refl))
+    ∙ ap suc (ap (steps done (nextUp ends marks) k) (far-end n ends _ v p j) ∙ steps-path n ends marks done k q (λ u i. f u (later i)) t (omega (arith, l)))
+
+-- how many legs are left to a vertex that passes a test
+abbrev pub ahead : List ℕ → List ℕ → (ℕ → Bool) → ℕ → ℕ
+ahead ends first test at = steps test (nextUp ends first) (limits .vertices) at
+
+-- and to `stop`
+abbrev pub left : List ℕ → List ℕ → ℕ → ℕ → ℕ
+left ends first stop at = ahead ends first (λ u. eqb u stop) at
+
+-- The legs up to `at` are done, those from there on are left.
+pub record Onward {ends first : List ℕ} {v stop : ℕ} (w : Way ends first v stop) (at : ℕ) : Type 0 where
+  pub done : List Leg
+  pub rest : List Leg
+  pub whole : w .legs ≡ done ++ rest
+  pub path : Path (graph (plan (w .n) ends)) (read first) at rest stop
+
+abbrev pub onward-start : {ends first : List ℕ} {v stop : ℕ} (w : Way ends first v stop) → Onward w v
+onward-start w = record { done = []; rest = w .legs; whole = refl; path = w .path }
+
+module _ {ends first : List ℕ} {v stop at : ℕ} {w : Way ends first v stop} (o : Onward w at) where
+  on-whole : froms (w .legs) ≡ froms (o .done) ++ froms (o .rest)
+  on-whole = ap froms (o .whole) ∙ froms-append (o .done) (o .rest)
+
+  pub done-on : {u : ℕ} → In u (froms (o .done)) → In u (froms (w .legs))
+  done-on {u} i = rw on-whole (in-left (froms (o .rest)) i)
+
+  rest-on : {u : ℕ} → In u (froms (o .rest)) → In u (froms (w .legs))
+  rest-on {u} i = rw on-whole (in-right (froms (o .done)) i)
+
+  pub onward-sum : length (w .legs) ≡ length (o .done) + length (o .rest)
+  onward-sum = ap length (o .whole) ∙ length-append (o .done) (o .rest)
+
+  pub onward-below : at < w .n
+  onward-below = path-below (w .n) ends first (o .path) (w .to)
+
+  -- it is at a vertex that a leg leaves, or at the end
+  pub onward-at : In at (froms (w .legs)) ⊎ (at ≡ stop)
+  onward-at = elim (path-start (o .path)) [ inl i ↦ inl (rest-on i) | inr p ↦ inr p ]
+
+  -- where it is, it has not been
+  pub onward-new : In at (froms (o .done)) → ⊥
+  onward-new i = elim (path-start (o .path)) [
+    | inl j ↦ apart-distinct (froms (o .done)) (subst Distinct on-whole (w .once)) i j
+    | inr p ↦ w .apart (done-on (Memᴰ·cast (sym p) i))
+  ]
+
+  -- at the end all legs are done
+  pub onward-end : at ≡ stop → w .legs ≡ o .done
+  onward-end p =
+      o .whole ∙ ap (λ (l : List Leg). o .done ++ l) (path-over (o .path) p (λ i. w .apart (rest-on i))) ∙ append-nil (o .done)
+
+  -- what one leg more has left
+  pub step-cases : {u : ℕ} → In u (froms (o .done ++ (leg (read first at - 1) at ∷ []))) → In u (froms (o .done)) ⊎ (u ≡ at)
+  step-cases {u} i = elim (in-cases (froms (o .done)) (subst (In u) (froms-append (o .done) (leg (read first at - 1) at ∷ [])) i)) [ inl j ↦ inl j | inr j ↦ inr (eq-of-singleton j) ]
+
+  pub step-done : {u : ℕ} → In u (froms (o .done)) ⊎ (u ≡ at) → In u (froms (o .done ++ (leg (read first at - 1) at ∷ [])))
+  step-done {u} c = rw (froms-append (o .done) (leg (read first at - 1) at ∷ [])) (elim c [ inl i ↦ in-left (at ∷ []) i | inr p ↦ in-right (froms (o .done)) (here p) ])
+
+  -- one leg more
+  module _ (d : at ≡ stop → ⊥) where
+    pub onward-next : OneUp (w .n) ends first at (o .rest) stop
+    onward-next = one-up (o .path) d
+
+    pub onward-rises : Rises ends first at
+    onward-rises = record { long = omega (arith, w .long, onward-next .rises); seen = onward-next .seen; edge = onward-next .edge }
+
+    pub onward-few : length (o .done) + 1 ≤ length (w .legs)
+    onward-few = omega (arith, onward-sum, ap length (onward-next .same))
+
+    abbrev pub onward-step : Onward w (nextUp ends first at)
+    onward-step = record {
+      done = o .done ++ (leg (read first at - 1) at ∷ []);
+      rest = onward-next .rest;
+      whole = o .whole ∙ ap (λ (l : List Leg). o .done ++ l) (onward-next .same) ∙ sym (append-assoc (o .done) (leg (read first at - 1) at ∷ []) (onward-next .rest));
+      path = onward-next .path;
+    }
+
+  -- how many legs are left, if a test tells the end
+  ahead-is : (test : ℕ → Bool) → ((u : ℕ) → In u (froms (w .legs)) → test u ≡ false) → test stop ≡ true → ahead ends first test at ≡ length (o .rest)
+  ahead-is test f t = steps-path (w .n) ends first test (limits .vertices) (o .path) (λ u i. f u (rest-on i)) t (omega (arith, w .short, onward-sum))
+
+pub ahead-less : {ends first : List ℕ} {v stop at : ℕ} {w : Way ends first v stop} (o : Onward w at) (test : ℕ → Bool)
+    → ((u : ℕ) → In u (froms (w .legs)) → test u ≡ false) → test stop ≡ true → (at ≡ stop → ⊥)
+    → ahead ends first test (nextUp ends first at) < ahead ends first test at
+ahead-less o test f t d = omega (arith, ahead-is o test f t, ahead-is (onward-step o d) test f t, ap length (onward-next o d .same))
+
+pub left-less : {ends first : List ℕ} {v stop at : ℕ} {w : Way ends first v stop} (o : Onward w at) → (at ≡ stop → ⊥)
+    → left ends first stop (nextUp ends first at) < left ends first stop at
+left-less {stop = stop} {w = w} o d =
+    ahead-less o (λ u. eqb u stop) (λ u i. ne-eqb u stop (λ p. w .apart (Memᴰ·cast (sym p) i))) (eq-eqb stop stop refl) d

@@ -1,177 +1,177 @@
--- The rows of the first three walks: a climb and one row more, before or after it, and the three steps one behind the other.
-use mathlib.Core.Path.{_≡_, refl, sym, _∙_, subst}
-use mathlib.Core.List.{List, [], _∷_, _++_}
-use Prim.Native.Nat.{ℕ, _+_, _*_, _-_, _≤_}
+-- The rows of the first three walks, one behind the other.
+use mathlib.Core.Path.{_≡_, refl, sym, ap, _∙_, subst}
+use mathlib.Core.List.{List, [], _∷_, _++_, append-nil}
+use Prim.Native.Nat.{ℕ, _+_, _*_, _-_, _/_, _≤_, _<_}
 use native.Mathlib.Omega.{arith}
 use lib.ListN.{length, take, drop, length-append}
-use Rattle.connectivity.specs.Plan.{limits}
-use Rattle.connectivity.specs.Walk.{Leg}
-use Rattle.connectivity.specs.Mader.{stepRows, rows}
-use Rattle.record.specs.Step.{Written, Climbing, Climbed}
-use Rattle.record.specs.Opening.{withRow, leg, OneMore, UpOver, OverUp, Three, threeWalks}
-use Rattle.record.proofs.Written.{rows-length, rows-append, written-none, written-row, written-length, part-long, written-part}
+use Rattle.connectivity.specs.Lists.{Distinct}
+use Rattle.connectivity.specs.Plan.{plan, graph, limits}
+use Rattle.connectivity.specs.Graph.{Graph, edges}
+use Rattle.connectivity.specs.Walk.{Leg, edgesOf, allEdges}
+use Rattle.connectivity.specs.Mader.{stepRows, rows, Steps}
+use Rattle.connectivity.specs.Admission.{Admitted}
+use Rattle.connectivity.proofs.Admission.{admitted-edges}
+use Rattle.connectivity.proofs.Build.{steps-edges}
+use Rattle.connectivity.proofs.Degree.{part-length}
+use Rattle.connectivity.proofs.Legs.{leg}
+use Rattle.connectivity.proofs.Search.{edges-are}
+use Rattle.tree.specs.Tree.{Pointers, Child, Climb}
+use Rattle.tree.specs.State.{Along}
+use Rattle.tree.proofs.Above.{parent-vertex}
+use Rattle.tree.proofs.Begin.{meeting-child}
+use Rattle.tree.proofs.Opening.{to-root, along-begin}
+use Rattle.graph.proofs.Joined.{vertex-below, joins-below, joins-edge}
+use Rattle.record.specs.Ways.{Written, Way, OneMore, OverUp}
+use Rattle.record.specs.Standing.{treeOf}
+use Rattle.record.specs.Opening.{Climbs, threeWalks, Rowed}
+use Rattle.record.proofs.Climbing.{climb-way}
+use Rattle.record.proofs.Written.{rows-length, written-length, part-long, written-part}
 
--- the same climb where there is more room
-abbrev pub roomier : {ends marks : List ℕ} {v stop : ℕ} (less more : ℕ) → less ≤ more → Climbing ends marks v stop less → Climbing ends marks v stop more
-roomier less more h c = record {
-  n = c .n;
-  admitted = c .admitted;
-  long = c .long;
-  legs = c .legs;
-  path = c .path;
-  apart = c .apart;
-  fits = omega (arith, c .fits, h);
-  short = c .short;
-}
+legs-edges : (l : List Leg) → length (edgesOf l) ≡ length l
+legs-edges [] = refl
+legs-edges (k ∷ l) = omega (arith, legs-edges l)
 
--- Up to r, and over edge 0.
+-- steps over different edges have no more than the plan
+steps-few : {n : ℕ} {ends : List ℕ} {done : List (List Leg)} → Admitted limits (plan n ends) → Steps (graph (plan n ends)) done → Distinct (allEdges done)
+    → length (allEdges done) ≤ length ends / 2
+steps-few {n} {ends} {done} a s d = omega (
+  arith,
+  part-length (graph (plan n ends)) (allEdges done) (edges (graph (plan n ends))) d (λ e i. edges-are (graph (plan n ends)) e .1 (steps-edges s i)),
+  admitted-edges a,
+)
 
-module _ {ends marks : List ℕ} {y r : ℕ} (before now : List ℕ) (count : ℕ) (c : Climbing ends marks y r (length before - 3)) (h : 3 ≤ length before)
-    (u : Climbed ends marks y r 0 before now count) where
-  abbrev rise : Climbing ends marks y r (length before)
-  rise = roomier (length before - 3) (length before) (omega arith) c
+-- The walks.
 
-  pub up-room : 3 * count + 3 ≤ length now
-  up-room =
-      let w = u rise in
-      omega (arith, w .1, c .fits, h, written-length (stepRows 0 (c .legs)) before now (w .0) (omega (arith, rows-length 0 (c .legs), c .fits, h)))
+module _ {n root : ℕ} {ends first : List ℕ} {rank : ℕ → ℕ} {x f w d u : ℕ} (c : Climbs n root ends first rank x f w d u) where
+  abbrev g : Graph
+  g = graph (plan n ends)
 
-  pub up-few : count ≤ limits .vertices
-  up-few = omega (arith, u rise .1, c .short)
+  abbrev t : Pointers
+  t = treeOf n ends root first rank
 
-  pub up-over : Written (stepRows 0 (c .legs ++ (leg 0 r ∷ []))) before (withRow now count 0 0 r) × (count + 1 ≡ length (c .legs) + 1)
-  up-over =
-      let w = u rise in (
-        subst (λ (k : List ℕ). Written k before (withRow now count 0 0 r)) (sym (rows-append 0 (c .legs) (leg 0 r ∷ [])))
-            (written-row (stepRows 0 (c .legs)) before now count 0 0 r (w .0) (omega (arith, rows-length 0 (c .legs), w .1)) (omega (arith, w .1, c .fits, h))),
-        omega (arith, w .1),
-      )
+  pub x-child : Child g t x
+  x-child = meeting-child (c .rooted .tree) (c .child) (c .one) (c .other) (c .meets)
 
--- Over e, and up to y.
+  pub x-below : x < n
+  x-below = vertex-below n ends x (x-child .vertex)
 
-module _ {ends marks : List ℕ} {k y : ℕ} (before : List ℕ) (e x step : ℕ) (c : Climbing ends marks k y (length before - 3)) (h : 3 ≤ length before) where
-  abbrev pub opened : List ℕ
-  opened = withRow before 0 step e x
+  pub root-below : root < n
+  root-below = vertex-below n ends root (c .rooted .tree .start)
 
-  pub open-row : Written (step ∷ (e ∷ (x ∷ []))) before opened
-  open-row = written-row [] before before 0 step e x (written-none before) refl (omega (arith, h))
+  pub parent-below : t .parent x < n
+  parent-below = vertex-below n ends _ (parent-vertex (c .rooted .tree) x-child)
 
-  pub long : length opened ≡ length before
-  long = written-length (step ∷ (e ∷ (x ∷ []))) before opened open-row (omega (arith, h))
+  pub w-below : w < n
+  w-below = joins-below n ends f root w (c .one .back .joins)
 
-  abbrev pub onward : Climbing ends marks k y (length (take (length opened - 3) (drop 3 opened)))
-  onward = roomier (length before - 3) (length (take (length opened - 3) (drop 3 opened))) (omega (arith, part-long opened 3, long)) c
+  pub u-below : u < n
+  u-below = joins-below n ends d root u (c .other .back .joins)
 
-  pub over-few : (part : List ℕ) (count : ℕ) → Climbed ends marks k y step (take (length opened - 3) (drop 3 opened)) part count → count ≤ limits .vertices
-  over-few part count u = omega (arith, u onward .1, c .short)
+  pub f-below : f < length ends / 2
+  f-below = joins-edge n ends f root w (c .one .back .joins)
 
-  pub over-up : (part : List ℕ) (count : ℕ) → Climbed ends marks k y step (take (length opened - 3) (drop 3 opened)) part count
-      → Written (stepRows step (leg e x ∷ c .legs)) before (take 3 opened ++ (part ++ drop (length opened - 3) (drop 3 opened)))
-      × (count + 1 ≡ length (c .legs) + 1)
-  over-up part count u =
-      let w = u onward in
-      (written-part (step ∷ (e ∷ (x ∷ []))) (stepRows step (c .legs)) before opened part 3 open-row refl (w .0), omega (arith, w .1))
+  pub d-below : d < length ends / 2
+  d-below = joins-edge n ends d root u (c .other .back .joins)
 
--- The three steps.
+  pub e-below : t .first x < length ends / 2
+  e-below = joins-edge n ends _ x _ (c .rooted .tree .joins x x-child)
 
-module _ {ends marks : List ℕ} {r k l y : ℕ} (before : List ℕ) (c : Three ends marks r k l y (length before)) where
-  abbrev pub high-climb : Climbing ends marks y r (length before - 3)
-  high-climb = record {
-    n = c .n;
-    admitted = c .admitted;
-    long = c .long;
-    legs = c .high;
-    path = c .path-high;
-    apart = c .apart-high;
-    fits = omega (arith, c .fits);
-    short = c .short-high;
-  }
+  pub along : Along g t (threeWalks root x f (t .first x) d (c .low) (c .high) (c .side))
+  along = along-begin (c .rooted .tree) (c .child) (c .one) (c .other) (c .differ) (c .meets) (c .to-x)
+      (to-root (c .rooted .tree) (c .child) (c .one) (c .other) (c .differ) (c .meets) (c .to-x) (c .up))
 
-  pub high-room : OneMore ends marks y r (length before)
-  high-room = (high-climb, omega (arith, c .fits))
+  three-few : length (allEdges (threeWalks root x f (t .first x) d (c .low) (c .high) (c .side))) ≤ length ends / 2
+  three-few = steps-few (c .rooted .admitted) (along .steps) (along .once)
 
-  module _ (one : List ℕ) (a : ℕ) (u : UpOver ends marks y r before one a) where
-    abbrev pub first-walk : List Leg
-    first-walk = c .high ++ (leg 0 r ∷ [])
+three-count : (root x f e d : ℕ) (low high side : List Leg)
+    → length (allEdges (threeWalks root x f e d low high side)) ≡ length high + length low + length side + 3
+three-count root x f e d low high side =
+    length-append (edgesOf (leg d root ∷ side)) (edgesOf (leg f root ∷ low) ++ (edgesOf (leg e x ∷ high) ++ []))
+    ∙ omega (
+      arith,
+      length-append (edgesOf (leg f root ∷ low)) (edgesOf (leg e x ∷ high) ++ []),
+      ap length (append-nil (edgesOf (leg e x ∷ high))),
+      legs-edges high,
+      legs-edges low,
+      legs-edges side,
+    )
 
-    pub first-long : length (stepRows 0 first-walk) ≡ 3 * a
-    first-long = rows-length 0 first-walk ∙ omega (arith, length-append (c .high) (leg 0 r ∷ []), u high-climb .1)
+-- Their rows.
+
+module _ {ends first : List ℕ} {root x e p f w d u : ℕ} (before : List ℕ) (c : Rowed ends first root x e p f w d u (length before)) where
+  abbrev b : Climbs (c .n) root ends first (c .rank) x f w d u
+  b = c .climbs
+
+  pub fits : 3 * (length (b .high) + length (b .low) + length (b .side) + 3) ≤ length before
+  fits = omega (arith, three-few b, three-count root x f (treeOf (c .n) ends root first (c .rank) .first x) d (b .low) (b .high) (b .side), c .fits)
+
+  few : length (b .high) + length (b .low) + length (b .side) + 3 ≤ limits .edges
+  few = omega (arith, three-few b, three-count root x f (treeOf (c .n) ends root first (c .rank) .first x) d (b .low) (b .high) (b .side), b .rooted .admitted .edges)
+
+  abbrev pub high-way : Way ends first p root
+  high-way = climb-way (b .rooted)
+      (subst (λ (y : ℕ). Climb (graph (plan (c .n) ends)) (treeOf (c .n) ends root first (c .rank)) (λ v. v ≡ root) y (b .high) root) (sym (c .parent)) (b .up))
+      (subst (λ (y : ℕ). y < c .n) (sym (c .parent)) (parent-below b))
+
+  abbrev pub high-room : OneMore ends first p root (length before)
+  high-room = record { way = high-way; fits = omega (arith, fits) }
+
+  module _ (one : List ℕ) (i : ℕ) (h : OverUp ends first e x p root 0 before one i) where
+    abbrev first-walk : List Leg
+    first-walk = leg e x ∷ b .high
+
+    first-long : length (stepRows 0 first-walk) ≡ 3 * i
+    first-long = rows-length 0 first-walk ∙ omega (arith, h high-room .1)
 
     pub one-long : length one ≡ length before
-    one-long = written-length (stepRows 0 first-walk) before one (u high-climb .0) (omega (arith, first-long, u high-climb .1, c .fits))
+    one-long = written-length (stepRows 0 first-walk) before one (h high-room .0) (omega (arith, first-long, h high-room .1, fits))
 
-    pub high-is : a ≡ length (c .high) + 1
-    high-is = u high-climb .1
+    pub one-fits : (3 * i ≤ length one) × (i ≤ limits .edges)
+    one-fits = (omega (arith, one-long, h high-room .1, fits), omega (arith, h high-room .1, few))
 
-    pub high-fits : 3 * a ≤ length one
-    high-fits = omega (arith, one-long, high-is, c .fits)
+    abbrev behind : List ℕ
+    behind = take (length one - 3 * i) (drop (3 * i) one)
 
-    abbrev pub behind : List ℕ
-    behind = take (length one - 3 * a) (drop (3 * a) one)
+    abbrev pub low-room : OneMore ends first w x (length behind)
+    low-room = record { way = climb-way (b .rooted) (b .to-x) (w-below b); fits = omega (arith, fits, part-long one (3 * i), one-long, h high-room .1) }
 
-    abbrev pub low-climb : Climbing ends marks k y (length behind - 3)
-    low-climb = record {
-      n = c .n;
-      admitted = c .admitted;
-      long = c .long;
-      legs = c .low;
-      path = c .path-low;
-      apart = c .apart-low;
-      fits = omega (arith, c .fits, part-long one (3 * a), one-long, high-is);
-      short = c .short-low;
-    }
+    module _ (part : List ℕ) (j : ℕ) (m : OverUp ends first f root w x 1 behind part j) where
+      abbrev two : List ℕ
+      two = take (3 * i) one ++ (part ++ drop (length one - 3 * i) (drop (3 * i) one))
 
-    pub low-room : OneMore ends marks k y (length behind)
-    low-room = (low-climb, omega (arith, c .fits, part-long one (3 * a), one-long, high-is))
+      abbrev both : List ℕ
+      both = stepRows 0 first-walk ++ stepRows 1 (leg f root ∷ b .low)
 
-    module _ (e x b : ℕ) (part : List ℕ) (v : OverUp ends marks e x k y 1 behind part b) where
-      abbrev pub two : List ℕ
-      two = take (3 * a) one ++ (part ++ drop (length one - 3 * a) (drop (3 * a) one))
+      two-written : Written both before two
+      two-written = written-part (stepRows 0 first-walk) (stepRows 1 (leg f root ∷ b .low)) before one part (3 * i) (h high-room .0) first-long (m low-room .0)
 
-      abbrev pub both : List ℕ
-      both = stepRows 0 first-walk ++ stepRows 1 (leg e x ∷ c .low)
-
-      pub two-written : Written both before two
-      two-written = written-part (stepRows 0 first-walk) (stepRows 1 (leg e x ∷ c .low)) before one part (3 * a) (u high-climb .0) first-long (v low-climb .0)
-
-      pub low-is : b ≡ length (c .low) + 1
-      low-is = v low-climb .1
-
-      pub both-long : length both ≡ 3 * (a + b)
-      both-long = length-append (stepRows 0 first-walk) (stepRows 1 (leg e x ∷ c .low)) ∙ omega (arith, first-long, rows-length 1 (leg e x ∷ c .low), low-is)
+      both-long : length both ≡ 3 * (i + j)
+      both-long = length-append (stepRows 0 first-walk) (stepRows 1 (leg f root ∷ b .low))
+          ∙ omega (arith, first-long, rows-length 1 (leg f root ∷ b .low), m low-room .1)
 
       pub two-long : length two ≡ length before
-      two-long = written-length both before two two-written (omega (arith, both-long, high-is, low-is, c .fits))
+      two-long = written-length both before two two-written (omega (arith, both-long, h high-room .1, m low-room .1, fits))
 
-      pub low-fits : 3 * (a + b) ≤ length two
-      low-fits = omega (arith, two-long, high-is, low-is, c .fits)
+      pub two-fits : (3 * (i + j) ≤ length two) × (i + j ≤ limits .edges)
+      two-fits = (omega (arith, two-long, h high-room .1, m low-room .1, fits), omega (arith, h high-room .1, m low-room .1, few))
 
-      abbrev pub last : List ℕ
-      last = take (length two - 3 * (a + b)) (drop (3 * (a + b)) two)
+      abbrev rest : List ℕ
+      rest = take (length two - 3 * (i + j)) (drop (3 * (i + j)) two)
 
-      abbrev pub side-climb : Climbing ends marks l y (length last - 3)
-      side-climb = record {
-        n = c .n;
-        admitted = c .admitted;
-        long = c .long;
-        legs = c .side;
-        path = c .path-side;
-        apart = c .apart-side;
-        fits = omega (arith, c .fits, part-long two (3 * (a + b)), two-long, high-is, low-is);
-        short = c .short-side;
+      abbrev pub side-room : OneMore ends first u x (length rest)
+      side-room = record {
+        way = climb-way (b .rooted) (b .meets) (u-below b);
+        fits = omega (arith, fits, part-long two (3 * (i + j)), two-long, h high-room .1, m low-room .1);
       }
 
-      pub side-room : OneMore ends marks l y (length last)
-      side-room = (side-climb, omega (arith, c .fits, part-long two (3 * (a + b)), two-long, high-is, low-is))
+      module _ (last : List ℕ) (k : ℕ) (s : OverUp ends first d root u x 2 rest last k) where
+        pub three-fits : i + j + k ≤ limits .edges
+        three-fits = omega (arith, h high-room .1, m low-room .1, s side-room .1, few)
 
-      module _ (d q : ℕ) (rest : List ℕ) (w : OverUp ends marks d x l y 2 last rest q) where
-        pub side-is : q ≡ length (c .side) + 1
-        side-is = w side-climb .1
-
-        pub three-written : Written (rows (threeWalks r x e d (c .high) (c .low) (c .side))) before
-            (take (3 * (a + b)) two ++ (rest ++ drop (length two - 3 * (a + b)) (drop (3 * (a + b)) two)))
-            × (a + b + q ≡ length (c .high) + length (c .low) + length (c .side) + 3)
+        pub three-written : Written (rows (threeWalks root x f e d (b .low) (b .high) (b .side))) before
+            (take (3 * (i + j)) two ++ (last ++ drop (length two - 3 * (i + j)) (drop (3 * (i + j)) two)))
+            × (i + j + k ≡ length (allEdges (threeWalks root x f e d (b .low) (b .high) (b .side))))
         three-written = (
-          written-part both (stepRows 2 (leg d x ∷ c .side)) before two rest (3 * (a + b)) two-written both-long (w side-climb .0),
-          omega (arith, high-is, low-is, side-is),
+          written-part both (stepRows 2 (leg d root ∷ b .side)) before two last (3 * (i + j)) two-written both-long (s side-room .0),
+          omega (arith, h high-room .1, m low-room .1, s side-room .1, three-count root x f e d (b .low) (b .high) (b .side)),
         )

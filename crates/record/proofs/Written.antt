@@ -7,8 +7,7 @@ use lib.ListN.{length, getD, set, take, drop, length-append, length-drop, drop-o
 use lib.Seq.{drop-cons, set-at, take-at, drop-at, drop-drop, take-all}
 use Rattle.connectivity.specs.Walk.{Leg}
 use Rattle.connectivity.specs.Mader.{stepRows}
-use Rattle.record.specs.Step.{Written}
-use Rattle.record.specs.Opening.{withRow}
+use Rattle.record.specs.Ways.{Written, withRow}
 
 pub rows-length : (s : ℕ) (legs : List Leg) → length (stepRows s legs) ≡ 3 * length legs
 rows-length s [] = refl

@@ -1,111 +1,279 @@
-// Walk after walk, until every edge is built.
-use crate::ear;
+// The tables, and walk after walk, until every edge is built.
+use crate::number;
+use crate::step;
+use crate::step::Stage;
 use crate::theta;
 use graph::Graph;
 ghost use mathlib.Core.Path.{_≡_};
-ghost use Prim.Native.Nat.{_/_};
+ghost use Prim.Native.Nat.{_<_};
 ghost use lib.ListN.{length};
-ghost use Rattle.record.specs.Step.{Sturdy};
-ghost use Rattle.record.specs.Record.{Adding, Added, Edging, Edged, Rowing, Rowed, Recorded, Continuing, Continued};
+ghost use Rattle.graph.specs.Marks.{read};
+ghost use Rattle.record.specs.Recording.{Sturdy, Recorded};
+ghost use Rattle.record.specs.Progress.{Adding, AddedBy, Finishing, FinishedBy, Ready, AllBuilt};
+ghost use Rattle.record.specs.Tabling.{Searched, Numbering, StandsBy};
 
-// Writes the record at the front of `rows`: three walks, then Mader-paths until every edge is built. What stands behind stays.
-pub(crate) fn build_record(vertices: u16, ends: &[u16], edges: u16, rows: &mut [u16])
-    requires { ⌜ (edges ≡ length (now ends) / 2) × Sturdy vertices (now ends) (length (now rows)) ⌝ }
-    ensures { λ _. ⌜ Recorded vertices (now (ends .entry)) (now (rows .entry)) (now (rows .exit)) ⌝ }
-{
-    let mut degree = [0u16; Graph::MAX_VERTICES];
-    let mut used = [0u8; Graph::MAX_EDGES];
-    let mut sums = [0u32; Graph::MAX_VERTICES];
-    let mut built: u16 = 0;
-    let mut row = theta::first_walks(vertices, ends, rows);
-    let mut step: u16 = 3;
-    while row < edges {
-        let count = add_ear(
-            vertices,
-            ends,
-            built,
-            row,
-            step,
-            &mut degree,
-            &mut used,
-            &mut sums,
-            rows,
-        );
-        built = row;
-        row += count;
-        step += 1;
-    }
-}
-
-// The rows from `built` on and below `row` come to count as built, and the next Mader-path is written behind them; how many rows it has.
-fn add_ear(
-    vertices: u16,
-    ends: &[u16],
-    built: u16,
+// How many rows are written, how many steps they are, and the next free place.
+struct Progress {
     row: u16,
     step: u16,
-    degree: &mut [u16; Graph::MAX_VERTICES],
-    used: &mut [u8; Graph::MAX_EDGES],
-    sums: &mut [u32; Graph::MAX_VERTICES],
-    rows: &mut [u16],
-) -> u16
-    requires { ⌜ Continuing vertices (now ends) built row step (now degree) (now used) (now sums) (now rows) ⌝ }
-    ensures { λ r. ⌜ Continued vertices (now (ends .entry)) built row step (now (degree .entry)) (now (used .entry)) (now (sums .entry)) (now (rows .entry)) (now (degree .exit)) (now (used .exit)) (now (sums .exit)) (now (rows .exit)) r ⌝ }
-{
-    build_rows(ends, rows, built, row, degree, used, sums);
-    let next = 3 * (row as usize);
-    ear::next_ear(vertices, ends, degree, used, sums, step, &mut rows[next..])
+    next: u16,
 }
 
-// The edges of the rows from `first` on and below `end` count as built.
-fn build_rows(
+// Writes the record at the front of `rows`, over the tables by vertex and the search of the lowest cut. What stands behind stays.
+pub(crate) fn build_record(
+    vertices: u16,
     ends: &[u16],
-    list: &[u16],
-    first: u16,
-    end: u16,
-    degree: &mut [u16; Graph::MAX_VERTICES],
-    used: &mut [u8; Graph::MAX_EDGES],
-    sums: &mut [u32; Graph::MAX_VERTICES],
+    incident: &[u16],
+    begins: &[u16],
+    first: &[u16],
+    order: &[u16],
+    rows: &mut [u16],
 )
-    requires { ⌜ Rowing (now ends) (now list) first end (now degree) (now used) (now sums) ⌝ }
-    ensures { λ _. ⌜ Rowed (now (ends .entry)) (now (list .entry)) first end (now (degree .entry)) (now (used .entry)) (now (sums .entry)) (now (degree .exit)) (now (used .exit)) (now (sums .exit)) ⌝ }
+    requires { ⌜ Sturdy vertices (now ends) (length (now rows)) × Searched vertices (now ends) (now incident) (now begins) (now first) (now order) ⌝ }
+    ensures { λ _. ⌜ Recorded vertices (now (ends .entry)) (now (rows .entry)) (now (rows .exit)) ⌝ }
 {
-    let mut k = end;
-    while first < k {
-        k -= 1;
-        build_edge(ends, list[3 * (k as usize) + 1], degree, used, sums);
+    let mut number = [0u16; Graph::MAX_VERTICES];
+    let mut last = [0u16; Graph::MAX_VERTICES];
+    let mut depth = [0u16; Graph::MAX_VERTICES];
+    let mut over = [0u16; Graph::MAX_EDGES];
+    look_below(
+        vertices,
+        ends,
+        incident,
+        begins,
+        first,
+        order,
+        &mut number,
+        &mut last,
+        &mut depth,
+        &mut over,
+    );
+    let mut places = [0u16; Graph::MAX_VERTICES];
+    let mut below = [0u16; Graph::MAX_VERTICES];
+    let mut tops = [0u16; Graph::MAX_VERTICES + 2];
+    let mut bottoms = [0u16; Graph::MAX_VERTICES + 2];
+    let mut used = [0u8; Graph::MAX_EDGES];
+    build_all(
+        ends,
+        incident,
+        begins,
+        first,
+        order,
+        &number,
+        &last,
+        &depth,
+        &over,
+        &mut places,
+        &mut below,
+        &mut tops,
+        &mut bottoms,
+        &mut used,
+        rows,
+    );
+}
+
+// The numbers of the vertices, and what lies below each.
+fn look_below(
+    vertices: u16,
+    ends: &[u16],
+    incident: &[u16],
+    begins: &[u16],
+    first: &[u16],
+    order: &[u16],
+    number: &mut [u16],
+    last: &mut [u16],
+    depth: &mut [u16],
+    over: &mut [u16],
+)
+    requires { ⌜ Numbering vertices (now ends) (now incident) (now begins) (now first) (now order) (now over) (length (now number)) (length (now last)) (length (now depth)) ⌝ }
+    ensures { λ _. ⌜ StandsBy vertices (now (ends .entry)) (now (incident .entry)) (now (begins .entry)) (now (first .entry)) (now (order .entry)) (now (number .entry)) (now (last .entry)) (now (depth .entry)) (now (over .entry)) (now (number .exit)) (now (last .exit)) (now (over .exit)) ⌝ }
+{
+    number::number_all(vertices, order, number, last);
+    number::deepen(vertices, ends, first, order, depth);
+    number::lower_all(
+        vertices,
+        ends,
+        incident,
+        begins,
+        first,
+        order,
+        number,
+        last,
+        over,
+    );
+}
+
+// Writes and builds the first three walks, and goes on.
+fn build_all(
+    ends: &[u16],
+    incident: &[u16],
+    begins: &[u16],
+    first: &[u16],
+    order: &[u16],
+    number: &[u16],
+    last: &[u16],
+    depth: &[u16],
+    over: &[u16],
+    places: &mut [u16],
+    below: &mut [u16],
+    tops: &mut [u16],
+    bottoms: &mut [u16],
+    used: &mut [u8],
+    rows: &mut [u16],
+)
+    requires { ⌜ Ready (now ends) (now incident) (now begins) (now first) (now order) (now number) (now last) (now depth) (now over) (now places) (now below) (now tops) (now bottoms) (now used) (length (now rows)) ⌝ }
+    ensures { λ _. ⌜ AllBuilt (now (ends .entry)) (now (incident .entry)) (now (begins .entry)) (now (first .entry)) (now (order .entry)) (now (number .entry)) (now (last .entry)) (now (depth .entry)) (now (over .entry)) (now (places .entry)) (now (below .entry)) (now (tops .entry)) (now (bottoms .entry)) (now (used .entry)) (now (rows .entry)) (now (rows .exit)) ⌝ }
+{
+    let begun = theta::first_walks(
+        ends,
+        incident,
+        begins,
+        first,
+        order,
+        number,
+        last,
+        places,
+        below,
+        tops,
+        bottoms,
+        used,
+        rows,
+    );
+    let done = Progress {
+        row: begun.rows,
+        step: 3,
+        next: begun.next,
+    };
+    finish(
+        ends,
+        incident,
+        begins,
+        first,
+        order,
+        number,
+        last,
+        depth,
+        over,
+        done,
+        places,
+        below,
+        tops,
+        bottoms,
+        used,
+        rows,
+    );
+}
+
+// Adds Mader-paths until every edge is built.
+fn finish(
+    ends: &[u16],
+    incident: &[u16],
+    begins: &[u16],
+    first: &[u16],
+    order: &[u16],
+    number: &[u16],
+    last: &[u16],
+    depth: &[u16],
+    over: &[u16],
+    begun: Progress,
+    places: &mut [u16],
+    below: &mut [u16],
+    tops: &mut [u16],
+    bottoms: &mut [u16],
+    used: &mut [u8],
+    rows: &mut [u16],
+)
+    requires { ⌜ Finishing (now ends) (now incident) (now begins) (now first) (now order) (now number) (now last) (now depth) (now over) (now places) (now below) (now tops) (now bottoms) (now used) (now rows) (begun .row) (begun .step) (begun .next) ⌝ }
+    ensures { λ _. ⌜ FinishedBy (now (ends .entry)) (now (incident .entry)) (now (begins .entry)) (now (first .entry)) (now (order .entry)) (now (number .entry)) (now (last .entry)) (now (depth .entry)) (now (over .entry)) (now (places .entry)) (now (below .entry)) (now (tops .entry)) (now (bottoms .entry)) (now (used .entry)) (now (rows .entry)) (begun .row) (begun .step) (begun .next) (now (rows .exit)) ⌝ }
+{
+    let edges = (ends.len() / 2) as u16;
+    let mut done = begun;
+    let mut stage = first_stage(begins, order);
+    while done.row < edges {
+        stage = step::next_edge(
+            ends,
+            incident,
+            begins,
+            first,
+            order,
+            number,
+            last,
+            over,
+            places,
+            below,
+            tops,
+            bottoms,
+            used,
+            done.next,
+            stage,
+        );
+        done = add_rows(
+            ends,
+            first,
+            number,
+            depth,
+            stage.edge,
+            done,
+            places,
+            below,
+            tops,
+            bottoms,
+            used,
+            rows,
+        );
     }
 }
 
-fn build_edge(
-    ends: &[u16],
-    e: u16,
-    degree: &mut [u16; Graph::MAX_VERTICES],
-    used: &mut [u8; Graph::MAX_EDGES],
-    sums: &mut [u32; Graph::MAX_VERTICES],
-)
-    requires { ⌜ Edging (now ends) e (now degree) (now used) (now sums) ⌝ }
-    ensures { λ _. ⌜ Edged (now (ends .entry)) e (now (degree .entry)) (now (used .entry)) (now (sums .entry)) (now (degree .exit)) (now (used .exit)) (now (sums .exit)) ⌝ }
+// Before any vertex, and any link.
+fn first_stage(begins: &[u16], order: &[u16]) -> Stage
+    requires { ⌜ (0 < length (now order)) × (read (now order) 0 < length (now begins)) ⌝ }
+    ensures { λ r. ⌜ (r .empty ≡ 2) × (r .at ≡ 0) × (r .slot ≡ read (now (begins .entry)) (read (now (order .entry)) 0)) ⌝ }
 {
-    used[e as usize] = 1;
-    let k = 2 * (e as usize);
-    let l = ends[k];
-    let r = ends[k + 1];
-    add_end(l, r, degree, sums);
-    add_end(r, l, degree, sums);
+    Stage {
+        empty: 2,
+        at: 0,
+        slot: begins[order[0] as usize],
+        edge: 0,
+    }
 }
 
-// One built edge more at `v`, to `w`.
-fn add_end(
-    v: u16,
-    w: u16,
-    degree: &mut [u16; Graph::MAX_VERTICES],
-    sums: &mut [u32; Graph::MAX_VERTICES],
-)
-    requires { ⌜ Adding (now degree) (now sums) v w ⌝ }
-    ensures { λ _. ⌜ Added (now (degree .entry)) (now (sums .entry)) v w (now (degree .exit)) (now (sums .exit)) ⌝ }
+// Writes and builds the Mader-path over `f` behind the rows so far.
+fn add_rows(
+    ends: &[u16],
+    first: &[u16],
+    number: &[u16],
+    depth: &[u16],
+    f: u16,
+    done: Progress,
+    places: &mut [u16],
+    below: &mut [u16],
+    tops: &mut [u16],
+    bottoms: &mut [u16],
+    used: &mut [u8],
+    rows: &mut [u16],
+) -> Progress
+    requires { ⌜ Adding (now ends) (now first) (now number) (now depth) f (done .row) (done .step) (done .next) (now places) (now below) (now tops) (now bottoms) (now used) (now rows) ⌝ }
+    ensures { λ r. ⌜ AddedBy (now (ends .entry)) (now (first .entry)) (now (number .entry)) (now (depth .entry)) f (done .row) (done .step) (done .next) (now (places .entry)) (now (below .entry)) (now (tops .entry)) (now (bottoms .entry)) (now (used .entry)) (now (rows .entry)) (now (places .exit)) (now (below .exit)) (now (tops .exit)) (now (bottoms .exit)) (now (used .exit)) (now (rows .exit)) (r .row) (r .step) (r .next) ⌝ }
 {
-    let k = v as usize;
-    degree[k] = degree[k] + 1;
-    sums[k] = sums[k] + (w as u32);
+    let from = 3 * (done.row as usize);
+    let added = step::add_path(
+        ends,
+        first,
+        number,
+        depth,
+        f,
+        done.step,
+        done.next,
+        places,
+        below,
+        tops,
+        bottoms,
+        used,
+        &mut rows[from..],
+    );
+    Progress {
+        row: done.row + added.count,
+        step: done.step + 1,
+        next: added.next,
+    }
 }

@@ -9,10 +9,14 @@ ghost use lib.ListN.{length};
 ghost use Rattle.connectivity.specs.Plan.{plan, limits};
 ghost use Rattle.record.specs.Answered.{Answered};
 
-mod walk; // walk.rt: rows along first edges
+mod build; // build.rt: the tables, and walk after walk, until every edge is built
+mod exit; // exit.rt: a way out of a link
+mod link; // link.rt: the places of built vertices, and the links
+mod number; // number.rt: numbers along the order, and what lies below each vertex
+mod open; // open.rt: which link or edge is next
+mod step; // step.rt: one Mader-path more
 mod theta; // theta.rt: the first three walks
-mod ear; // ear.rt: the next Mader-path
-mod build; // build.rt: walk after walk, until every edge is built
+mod walk; // walk.rt: the ways up along first edges
 
 // The plan's own 1 to 5; 6 unless `rows` has three numbers for each edge; then its lowest cut of at most two edges, or that it has none,
 // with the record at the front of `rows`.
@@ -22,12 +26,24 @@ pub fn write_record(vertices: u16, ends: &[u16], rows: &mut [u16]) -> Lightest
     if rows.len() / 3 < ends.len() / 2 {
         return no_room(vertices, ends);
     }
-    let found = cuts::lowest_cut(vertices, ends);
+    let mut incident = [0u16; 2 * Graph::MAX_EDGES];
+    let mut begins = [0u16; Graph::MAX_VERTICES + 1];
+    let mut first = [0u16; Graph::MAX_VERTICES];
+    let mut order = [0u16; Graph::MAX_VERTICES];
+    let found = cuts::lowest_cut(
+        vertices,
+        ends,
+        &mut incident,
+        &mut begins,
+        &mut first,
+        &mut order,
+    );
     let Lightest::NoCut = found else {
         return found;
     };
-    let edges = (ends.len() / 2) as u16;
-    build::build_record(vertices, ends, edges, rows);
+    // The last group ends where the table does.
+    begins[vertices as usize] = ends.len() as u16;
+    build::build_record(vertices, ends, &incident, &begins, &first, &order, rows);
     Lightest::NoCut
 }
 

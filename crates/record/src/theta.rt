@@ -1,157 +1,236 @@
-// The first three walks: over edge 0, and over two other edges at one of its ends.
+// The first three walks, between the root and a vertex x: from x up to the root, and over each of two edges from the root to below its first child
+// and up to x.
+use crate::link;
 use crate::walk;
-use graph::Graph;
-ghost use Prim.Native.Nat.{_<_};
 ghost use lib.ListN.{length};
+ghost use Rattle.graph.specs.Marks.{read};
 ghost use Rattle.graph.specs.Tells.{Tells};
-ghost use Rattle.record.specs.Step.{Sturdy, Opened};
-ghost use Rattle.record.specs.Opening.{Around, Rooted, Searched, OpenedBy, IsDoor, DoorFits, DoorsFit, NextDoor, Way, MarkedUp, Meets, Met, OneMore, UpOver, OverUp, Three, ThreeWritten};
+ghost use Rattle.record.specs.Recording.{Beginning, BegunBy};
+ghost use Rattle.record.specs.Opening.{Door, DoorFits, Doors, NextDoorBy, Meets, Met, Rowed, RowedBy, Raw, RaisedBy, Threefold, ThreeBy};
 
-// The rows of the first three walks at the front of `rows`; how many there are.
-pub(crate) fn first_walks(vertices: u16, ends: &[u16], rows: &mut [u16]) -> u16
-    requires { ⌜ Sturdy vertices (now ends) (length (now rows)) ⌝ }
-    ensures { λ r. ⌜ Opened vertices (now (ends .entry)) (now (rows .entry)) (now (rows .exit)) r ⌝ }
-{
-    let mut first = [0u16; Graph::MAX_VERTICES];
-    search_around(vertices, ends, ends[0], ends[1], &mut first);
-    three_walks(ends, &first, rows)
+// How many rows the first three walks have, and the next free place.
+pub(crate) struct Begun {
+    pub(crate) rows: u16,
+    pub(crate) next: u16,
 }
 
-// The same after the search from one end of edge 0 around the other.
-fn three_walks(ends: &[u16], first: &[u16], rows: &mut [u16]) -> u16
-    requires { ⌜ Searched (now ends) (now first) (length (now rows)) ⌝ }
-    ensures { λ q. ⌜ OpenedBy (now (ends .entry)) (now (first .entry)) (now (rows .entry)) (now (rows .exit)) q ⌝ }
+// Writes and builds the first three walks.
+pub(crate) fn first_walks(
+    ends: &[u16],
+    incident: &[u16],
+    begins: &[u16],
+    first: &[u16],
+    order: &[u16],
+    number: &[u16],
+    last: &[u16],
+    places: &mut [u16],
+    below: &mut [u16],
+    tops: &mut [u16],
+    bottoms: &mut [u16],
+    used: &mut [u8],
+    rows: &mut [u16],
+) -> Begun
+    requires { ⌜ Beginning (now ends) (now incident) (now begins) (now first) (now order) (now number) (now last) (now places) (now below) (now tops) (now bottoms) (now used) (length (now rows)) ⌝ }
+    ensures { λ r. ⌜ BegunBy (now (ends .entry)) (now (incident .entry)) (now (begins .entry)) (now (first .entry)) (now (order .entry)) (now (number .entry)) (now (last .entry)) (now (places .entry)) (now (below .entry)) (now (tops .entry)) (now (bottoms .entry)) (now (used .entry)) (now (rows .entry)) (now (places .exit)) (now (below .exit)) (now (tops .exit)) (now (bottoms .exit)) (now (used .exit)) (now (rows .exit)) (r .rows) (r .next) ⌝ }
 {
-    let r = ends[0];
-    let x = ends[1];
-    let edges = (ends.len() / 2) as u16;
-    let e2 = next_door(ends, first, x, 0, edges);
-    let e3 = next_door(ends, first, x, e2, edges);
-    let k2 = walk::other_end(ends, e2, x);
-    let k3 = walk::other_end(ends, e3, x);
-    let y = meeting(ends, first, k2, k3, r);
-    write_walks(ends, first, r, x, e2, k2, e3, k3, y, rows)
+    let r = order[0];
+    let end = last[order[1] as usize];
+    let j = next_door(ends, incident, first, number, end, r, begins[r as usize]);
+    let k = next_door(ends, incident, first, number, end, r, j + 1);
+    let f = incident[j as usize];
+    let d = incident[k as usize];
+    let w = walk::other_end(ends, f, r);
+    let u = walk::other_end(ends, d, r);
+    let x = meeting(ends, first, w, u, r, places);
+    three_walks(
+        ends,
+        first,
+        r,
+        x,
+        f,
+        w,
+        d,
+        u,
+        places,
+        below,
+        tops,
+        bottoms,
+        used,
+        rows,
+    )
 }
 
-// Searches from `r`; `x` is not passed through.
-fn search_around(vertices: u16, ends: &[u16], r: u16, x: u16, first: &mut [u16])
-    requires { ⌜ Around vertices (now ends) r x (now first) ⌝ }
-    ensures { λ _. ⌜ Rooted vertices (now (ends .entry)) r x (now (first .exit)) ⌝ }
+// The first place from `from` on of an edge at the root `r` that is not in the tree and leads to a vertex whose number is at most `end`.
+fn next_door(
+    ends: &[u16],
+    incident: &[u16],
+    first: &[u16],
+    number: &[u16],
+    end: u16,
+    r: u16,
+    from: u16,
+) -> u16
+    requires { ⌜ Doors (now ends) (now incident) (now first) (now number) end r from ⌝ }
+    ensures { λ k. ⌜ NextDoorBy (now (ends .entry)) (now (incident .entry)) (now (first .entry)) (now (number .entry)) end r from k ⌝ }
 {
-    let mut roles = [0u8; Graph::MAX_VERTICES];
-    roles[r as usize] = 1;
-    roles[x as usize] = 2;
-    let dead = [0u8; Graph::MAX_EDGES];
-    let mut order = [0u16; Graph::MAX_VERTICES];
-    search::explore(vertices, ends, &roles, &dead, first, &mut order);
-}
-
-// The lowest edge above `after` between `x` and a vertex that was seen, or `edges` for none.
-fn next_door(ends: &[u16], first: &[u16], x: u16, after: u16, edges: u16) -> u16
-    requires { ⌜ DoorsFit (now ends) (now first) edges × (after < edges) ⌝ }
-    ensures { λ r. ⌜ NextDoor (now (ends .entry)) (now (first .entry)) x after edges r ⌝ }
-{
-    let mut e = after + 1;
-    while e < edges {
-        if is_door(ends, first, x, e) {
-            return e;
+    let mut k = from;
+    loop {
+        let e = incident[k as usize];
+        if is_door(first, number, end, e, walk::other_end(ends, e, r)) {
+            return k;
         }
-        e += 1;
+        k += 1;
     }
-    edges
 }
 
-// Whether `e` joins `x` and a vertex that was seen.
-fn is_door(ends: &[u16], first: &[u16], x: u16, e: u16) -> bool
-    requires { ⌜ DoorFits (now ends) (now first) e ⌝ }
-    ensures { λ r. ⌜ Tells r (IsDoor (now (ends .entry)) (now (first .entry)) x e) ⌝ }
+fn is_door(first: &[u16], number: &[u16], end: u16, e: u16, w: u16) -> bool
+    requires { ⌜ DoorFits e w (length (now first)) (length (now number)) ⌝ }
+    ensures { λ b. ⌜ Tells b (Door (read (now (first .entry))) (read (now (number .entry))) end e w) ⌝ }
 {
-    let v = walk::other_end(ends, e, x);
-    // From `v` the edge leads back to `x` only if `x` is an end of it.
-    if walk::other_end(ends, e, v) != x {
+    if first[w as usize] == e + 1 {
         return false;
     }
-    0 < first[v as usize]
+    number[w as usize] <= end
 }
 
-// The first vertex on the way up from `k3` to `r` that is also on the way from `k2`.
-fn meeting(ends: &[u16], first: &[u16], k2: u16, k3: u16, r: u16) -> u16
-    requires { ⌜ Meets (now ends) (now first) k2 k3 r ⌝ }
-    ensures { λ y. ⌜ Met (now (ends .entry)) (now (first .entry)) k2 k3 r y ⌝ }
+// The first vertex on the way up from `u` that is also on the way up from `w`. No mark is set, before and after.
+fn meeting(ends: &[u16], first: &[u16], w: u16, u: u16, r: u16, marks: &mut [u16]) -> u16
+    requires { ⌜ Meets (now ends) (now first) w u r (now marks) ⌝ }
+    ensures { λ x. ⌜ Met (now (ends .entry)) (now (first .entry)) w u r (now (marks .entry)) (now (marks .exit)) x ⌝ }
 {
-    let mut marks = [0u8; Graph::MAX_VERTICES];
-    mark_climb(ends, first, k2, r, &mut marks);
-    walk::first_marked(ends, first, &marks, k3)
+    walk::mark_up(ends, first, w, r, 1, marks);
+    let x = walk::first_marked(ends, first, marks, u);
+    walk::mark_up(ends, first, w, r, 0, marks);
+    x
 }
 
-// Marks the vertices from `v` up to `stop`.
-fn mark_climb(ends: &[u16], first: &[u16], v: u16, stop: u16, marks: &mut [u8])
-    requires { ⌜ Way (now ends) (now first) v stop (length (now marks)) ⌝ }
-    ensures { λ _. ⌜ MarkedUp (now (ends .entry)) (now (first .entry)) v stop (now (marks .entry)) (now (marks .exit)) ⌝ }
+// Writes and builds the walks from `x` up to `r`, from `r` over `f` to `w` and up to `x`, and from `r` over `d` to `u` and up to `x`.
+fn three_walks(
+    ends: &[u16],
+    first: &[u16],
+    r: u16,
+    x: u16,
+    f: u16,
+    w: u16,
+    d: u16,
+    u: u16,
+    places: &mut [u16],
+    below: &mut [u16],
+    tops: &mut [u16],
+    bottoms: &mut [u16],
+    used: &mut [u8],
+    rows: &mut [u16],
+) -> Begun
+    requires { ⌜ Threefold (now ends) (now first) r x f w d u (now places) (now below) (now tops) (now bottoms) (now used) (length (now rows)) ⌝ }
+    ensures { λ q. ⌜ ThreeBy (now (ends .entry)) (now (first .entry)) r x f w d u (now (places .entry)) (now (below .entry)) (now (tops .entry)) (now (bottoms .entry)) (now (used .entry)) (now (rows .entry)) (now (places .exit)) (now (below .exit)) (now (tops .exit)) (now (bottoms .exit)) (now (used .exit)) (now (rows .exit)) (q .rows) (q .next) ⌝ }
 {
-    let mut at = v;
-    while at != stop {
-        marks[at as usize] = 1;
-        at = walk::above(ends, first, at);
+    let e = first[x as usize] - 1;
+    let p = walk::other_end(ends, e, x);
+    let count = write_walks(ends, first, r, x, e, p, f, w, d, u, rows);
+    let next = build_walks(
+        ends,
+        first,
+        r,
+        x,
+        e,
+        p,
+        f,
+        w,
+        d,
+        u,
+        places,
+        below,
+        tops,
+        bottoms,
+        used,
+    );
+    Begun {
+        rows: count,
+        next: next,
     }
-    marks[stop as usize] = 1;
 }
 
-// Writes the rows of the three walks, each behind those before it; how many there are.
+// Writes their rows, each behind those before it; how many there are. `e` leads from `x` to its parent `p`.
 fn write_walks(
     ends: &[u16],
     first: &[u16],
     r: u16,
     x: u16,
-    e2: u16,
-    k2: u16,
-    e3: u16,
-    k3: u16,
-    y: u16,
+    e: u16,
+    p: u16,
+    f: u16,
+    w: u16,
+    d: u16,
+    u: u16,
     rows: &mut [u16],
 ) -> u16
-    requires { ⌜ Three (now ends) (now first) r k2 k3 y (length (now rows)) ⌝ }
-    ensures { λ q. ⌜ ThreeWritten (now (ends .entry)) (now (first .entry)) r x e2 k2 e3 k3 y (now (rows .entry)) (now (rows .exit)) q ⌝ }
+    requires { ⌜ Rowed (now ends) (now first) r x e p f w d u (length (now rows)) ⌝ }
+    ensures { λ q. ⌜ RowedBy (now (ends .entry)) (now (first .entry)) r x e p f w d u (now (rows .entry)) (now (rows .exit)) q ⌝ }
 {
-    let a = up_over(ends, first, y, r, rows);
-    let b = over_up(ends, first, e2, x, k2, y, 1, &mut rows[3 * (a as usize)..]);
-    let c = over_up(
+    let a = walk::write_walk(ends, first, e, x, p, r, 0, rows);
+    let b = walk::write_walk(ends, first, f, r, w, x, 1, &mut rows[3 * (a as usize)..]);
+    let c = walk::write_walk(
         ends,
         first,
-        e3,
+        d,
+        r,
+        u,
         x,
-        k3,
-        y,
         2,
         &mut rows[3 * ((a + b) as usize)..],
     );
     a + b + c
 }
 
-// Writes the rows of step 0: from `y` up to `r`, and over edge 0; how many there are.
-fn up_over(ends: &[u16], first: &[u16], y: u16, r: u16, rows: &mut [u16]) -> u16
-    requires { ⌜ OneMore (now ends) (now first) y r (length (now rows)) ⌝ }
-    ensures { λ q. ⌜ UpOver (now (ends .entry)) (now (first .entry)) y r (now (rows .entry)) (now (rows .exit)) q ⌝ }
-{
-    let count = walk::climb(ends, first, y, r, 0, rows);
-    walk::write_row(rows, count, 0, 0, r);
-    count + 1
-}
-
-// Writes the rows of step `step`: from `x` over `e` to `k`, and up to `y`; how many there are.
-fn over_up(
+// Builds them; the next free place then. The walk from `x` comes first: from then on what is above a built vertex is built.
+fn build_walks(
     ends: &[u16],
     first: &[u16],
-    e: u16,
+    r: u16,
     x: u16,
-    k: u16,
-    y: u16,
-    step: u16,
-    rows: &mut [u16],
+    e: u16,
+    p: u16,
+    f: u16,
+    w: u16,
+    d: u16,
+    u: u16,
+    places: &mut [u16],
+    below: &mut [u16],
+    tops: &mut [u16],
+    bottoms: &mut [u16],
+    used: &mut [u8],
 ) -> u16
-    requires { ⌜ OneMore (now ends) (now first) k y (length (now rows)) ⌝ }
-    ensures { λ q. ⌜ OverUp (now (ends .entry)) (now (first .entry)) e x k y step (now (rows .entry)) (now (rows .exit)) q ⌝ }
+    requires { ⌜ Raw (now ends) (now first) r x e p f w d u (now places) (now below) (now tops) (now bottoms) (now used) ⌝ }
+    ensures { λ q. ⌜ RaisedBy (now (ends .entry)) (now (first .entry)) r x e p f w d u (now (places .entry)) (now (below .entry)) (now (tops .entry)) (now (bottoms .entry)) (now (used .entry)) (now (places .exit)) (now (below .exit)) (now (tops .exit)) (now (bottoms .exit)) (now (used .exit)) q ⌝ }
 {
-    walk::write_row(rows, 0, step, e, x);
-    walk::climb(ends, first, k, y, step, &mut rows[3..]) + 1
+    places[r as usize] = 1;
+    places[x as usize] = 1;
+    below[p as usize] = x + 1;
+    let one = link::build_walk(ends, first, e, p, r, 2, places, below, tops, bottoms, used);
+    let two = link::build_walk(
+        ends,
+        first,
+        f,
+        w,
+        x,
+        one,
+        places,
+        below,
+        tops,
+        bottoms,
+        used,
+    );
+    link::build_walk(
+        ends,
+        first,
+        d,
+        u,
+        x,
+        two,
+        places,
+        below,
+        tops,
+        bottoms,
+        used,
+    )
 }

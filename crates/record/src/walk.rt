@@ -1,9 +1,8 @@
-// Rows along first edges, as a search leaves them.
-ghost use Rattle.record.specs.Step.{Climbing, Climbed};
-ghost use Rattle.record.specs.Opening.{withRow, farEnd, Rises, Toward, MetFirst};
-ghost use Prim.Native.Nat.{_+_, _*_, _/_, _-_, _≤_, _<_};
+// The ways up along first edges, as a search leaves them.
 ghost use mathlib.Core.Path.{_≡_};
-ghost use lib.ListN.{length, getD};
+ghost use Prim.Native.Nat.{_+_, _*_, _/_, _≤_, _<_};
+ghost use lib.ListN.{length};
+ghost use Rattle.record.specs.Ways.{withRow, farEnd, nextUp, Rises, Climbing, Climbed, OneMore, OverUp, Marking, MarkedUp, Toward, MetFirst, Raising, RaisedUp};
 
 // Writes the rows of step `step` from `v` up to `stop` along first edges at the front of `rows`; how many there are.
 pub(crate) fn climb(
@@ -55,13 +54,13 @@ pub(crate) fn other_end(ends: &[u16], e: u16, v: u16) -> u16
 // Where the first edge of `v` leads.
 pub(crate) fn above(ends: &[u16], first: &[u16], v: u16) -> u16
     requires { ⌜ Rises (now ends) (now first) v ⌝ }
-    ensures { λ r. ⌜ r ≡ farEnd (now (ends .entry)) (getD (now (first .entry)) v 0 - 1) v ⌝ }
+    ensures { λ r. ⌜ r ≡ nextUp (now (ends .entry)) (now (first .entry)) v ⌝ }
 {
     other_end(ends, first[v as usize] - 1, v)
 }
 
 // The first marked vertex from `v` up.
-pub(crate) fn first_marked(ends: &[u16], first: &[u16], marks: &[u8], v: u16) -> u16
+pub(crate) fn first_marked(ends: &[u16], first: &[u16], marks: &[u16], v: u16) -> u16
     requires { ⌜ Toward (now ends) (now first) (now marks) v ⌝ }
     ensures { λ r. ⌜ MetFirst (now (ends .entry)) (now (first .entry)) (now (marks .entry)) v r ⌝ }
 {
@@ -70,4 +69,59 @@ pub(crate) fn first_marked(ends: &[u16], first: &[u16], marks: &[u8], v: u16) ->
         at = above(ends, first, at);
     }
     at
+}
+
+// Sets the marks of the vertices from `v` up to `stop`.
+pub(crate) fn mark_up(ends: &[u16], first: &[u16], v: u16, stop: u16, mark: u16, marks: &mut [u16])
+    requires { ⌜ Marking (now ends) (now first) v stop (length (now marks)) ⌝ }
+    ensures { λ _. ⌜ MarkedUp (now (ends .entry)) (now (first .entry)) v stop mark (now (marks .entry)) (now (marks .exit)) ⌝ }
+{
+    let mut at = v;
+    while at != stop {
+        marks[at as usize] = mark;
+        at = above(ends, first, at);
+    }
+    marks[stop as usize] = mark;
+}
+
+// Builds the edges from `v` up to `stop`: marks them in `used`, and notes each vertex below its parent. The last vertex before `stop`.
+pub(crate) fn build_up(
+    ends: &[u16],
+    first: &[u16],
+    v: u16,
+    stop: u16,
+    below: &mut [u16],
+    used: &mut [u8],
+) -> u16
+    requires { ⌜ Raising (now ends) (now first) v stop (length (now below)) (length (now used)) ⌝ }
+    ensures { λ r. ⌜ RaisedUp (now (ends .entry)) (now (first .entry)) v stop (now (below .entry)) (now (used .entry)) (now (below .exit)) (now (used .exit)) r ⌝ }
+{
+    let mut at = v;
+    let mut top = v;
+    while at != stop {
+        let e = first[at as usize] - 1;
+        used[e as usize] = 1;
+        top = at;
+        at = other_end(ends, e, top);
+        below[at as usize] = top + 1;
+    }
+    top
+}
+
+// Writes the rows of step `step`: from `from` over `e` to `v`, and up to `stop`; how many there are.
+pub(crate) fn write_walk(
+    ends: &[u16],
+    first: &[u16],
+    e: u16,
+    from: u16,
+    v: u16,
+    stop: u16,
+    step: u16,
+    rows: &mut [u16],
+) -> u16
+    requires { ⌜ OneMore (now ends) (now first) v stop (length (now rows)) ⌝ }
+    ensures { λ r. ⌜ OverUp (now (ends .entry)) (now (first .entry)) e from v stop step (now (rows .entry)) (now (rows .exit)) r ⌝ }
+{
+    write_row(rows, 0, step, e, from);
+    climb(ends, first, v, stop, step, &mut rows[3..]) + 1
 }

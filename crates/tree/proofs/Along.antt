@@ -5,11 +5,10 @@ use mathlib.Core.List.{List, _∷_, _++_, List·Memᴰ as In}
 use Prim.Native.Nat.{ℕ, _+_}
 use native.Mathlib.Omega.{arith}
 use native.Mathlib.Decide.{ℕ-discrete, decLe}
-use Rattle.connectivity.specs.Lists.{Distinct}
 use Rattle.connectivity.specs.Graph.{Graph, Edge, Joins}
 use Rattle.connectivity.specs.Reach.{ThreeEdgeConnected}
 use Rattle.connectivity.specs.Walk.{Leg, froms, inner, edgesOf, allEdges, degree, Built, Branch}
-use Rattle.connectivity.specs.Mader.{MaderPath, Steps, mader, Builds, rows}
+use Rattle.connectivity.specs.Mader.{MaderPath, mader, Builds, rows}
 use Rattle.connectivity.proofs.Degree.{degree-append, start-degree, stop-degree, on-inner, inner-most, inner-least}
 use Rattle.connectivity.proofs.Stage.{Stage}
 use Rattle.connectivity.proofs.Sound.{stage}
@@ -17,15 +16,9 @@ use Rattle.connectivity.proofs.Link.{degree-two}
 use Rattle.connectivity.proofs.Grow.{next-edge, all-branches}
 use Rattle.tree.specs.Tree.{Pointers, Tree, Back, Climb, Held}
 use Rattle.tree.specs.Filed.{Filed}
+use Rattle.tree.specs.State.{Along, Places}
 use Rattle.tree.proofs.Step.{step, step-once, step-held}
-use Rattle.tree.proofs.Filing.{Places}
 use Rattle.tree.proofs.Splitting.{filed-map}
-
--- the steps so far, over different edges, and held along the tree
-pub record Along (g : Graph) (t : Pointers) (walks : List (List Leg)) : Type 0 where
-  pub steps : Steps g walks
-  pub once : Distinct (allEdges walks)
-  pub held : Held g t (allEdges walks)
 
 pub along-stage : {g : Graph} {t : Pointers} {walks : List (List Leg)} → Along g t walks → Stage g (allEdges walks)
 along-stage a = stage (a .steps) (a .once)

@@ -14,7 +14,7 @@ use Rattle.connectivity.proofs.Legs.{leg}
 use Rattle.tree.specs.Tree.{Pointers, Child, Above, same, higher, Tree, Passing, Highest, Overs, there, on}
 use Rattle.tree.proofs.Above.{above-cases}
 use Rattle.tree.proofs.Step.{step}
-use Rattle.tree.proofs.Along.{Along}
+use Rattle.tree.specs.State.{Along}
 use Rattle.tree.proofs.Opening.{along-begin}
 
 abbrev bond : Graph
@@ -71,7 +71,7 @@ bond-overs = record {
       highest = λ d s w k. elim (above-cases (k .above)) [ inl p ↦ subst (Above bond stem 0) (sym p) same | inr r ↦ absurd (r .0 .other refl) ];
     }
 
--- the first three walks: over edge 1, over edge 0, over edge 2
-pub bond-along : Along bond stem (step 2 0 [] ∷ (leg 0 1 ∷ []) ∷ step 1 0 [] ∷ [])
+-- the first three walks: over edge 0, over edge 1, over edge 2
+pub bond-along : Along bond stem (step 2 0 [] ∷ step 1 0 [] ∷ (leg 0 1 ∷ []) ∷ [])
 bond-along = along-begin bond-tree one-child (past 1 (omega arith) (λ p. omega (arith, p))) (past 2 (omega arith) (λ p. omega (arith, p)))
     (λ p. omega (arith, p)) (there same) (there refl) (on one-child (λ p. omega (arith, p)) (there refl))

@@ -15,14 +15,10 @@ use Rattle.connectivity.proofs.Stage.{Stage, Bare, bare-edge}
 use Rattle.connectivity.proofs.Link.{link-bare}
 use Rattle.connectivity.proofs.Grow.{Inside}
 use Rattle.tree.specs.Tree.{Pointers, Above, same, higher, Tree, Back, Overs, Climb, Held}
-use Rattle.tree.specs.Filed.{Filed}
+use Rattle.tree.specs.State.{Places}
 use Rattle.tree.proofs.Inside.{bare-ends, bare-first}
 use Rattle.tree.proofs.Leaving.{exit-law}
 use Rattle.tree.proofs.Step.{step, step-ear, step-at}
-
--- the places of what is built
-abbrev pub Places : Graph → Pointers → List ℕ → (ℕ → ℕ) → Type 0
-Places g t built place = Filed g t (λ v. Built g built v) (λ v. Branch g built v) place
 
 module _ {g : Graph} {t : Pointers} {built : List ℕ} {place : ℕ → ℕ} (tree : Tree g t) (held : Held g t built) (filed : Places g t built place) where
   -- a built vertex that is no branch lies inside a link

@@ -8,12 +8,12 @@ use Rattle.tree.specs.Tree.{Pointers, Child, Above, Preorder}
 use Rattle.tree.proofs.Above.{above-child}
 
 pub preorder-from : {g : Graph} {t : Pointers} {last : ℕ → ℕ}
-    → ((u v w : ℕ) → Vertex g v → Above g t u w → t .rank u ≤ t .rank v → t .rank v ≤ t .rank w → Above g t u v)
+    → ((u v w : ℕ) → Vertex g u → Vertex g v → Above g t u w → t .rank u ≤ t .rank v → t .rank v ≤ t .rank w → Above g t u v)
     → ((c : ℕ) → Vertex g c → (z : ℕ) × Above g t c z × (last c ≡ t .rank z))
     → ((c w : ℕ) → Above g t c w → Vertex g c → t .rank w ≤ last c) → Preorder g t last
 preorder-from between some most = record {
   within = most;
-  below = λ c w hc hw low high. let (z, a, p) = some c hc in between c w z hw a low (omega (arith, high, p));
+  below = λ c w hc hw low high. let (z, a, p) = some c hc in between c w z hc hw a low (omega (arith, high, p));
 }
 
 -- the last number below c, from its own and those of its children

@@ -1,89 +1,35 @@
 -- The first three walks in the order in which they are written, and their places.
 use mathlib.Core.Path.{_≡_, refl, sym, _∙_, subst}
 use mathlib.Core.Logic.{_⊎_, inl, inr, ⊎-swap}
-use mathlib.Core.List.{List, [], _∷_, _++_, List·Memᴰ as In, List·Memᴰ·head as first, List·Memᴰ·tail as later, List·Memᴰ·not-nil as not-in, List·Memᴰ·cases-cons as in-cons, List·Memᴰ·append-cases as in-cases, Memᴰ·append-left as in-left, Memᴰ·append-right as in-right, Memᴰ·cast}
+use mathlib.Core.List.{List, [], _∷_, List·Memᴰ as In, List·Memᴰ·head as first, List·Memᴰ·tail as later, List·Memᴰ·cases-cons as in-cons, Memᴰ·append-left as in-left, Memᴰ·append-right as in-right, Memᴰ·cast}
 use Prim.Native.Nat.{ℕ, _≤_}
 use native.Mathlib.Omega.{arith}
 use native.Mathlib.Decide.{ℕ-discrete, decLe}
-use Rattle.connectivity.specs.Lists.{Distinct, no-member}
+use Rattle.connectivity.specs.Lists.{Distinct}
 use Rattle.connectivity.specs.Graph.{Graph, Joins}
 use Rattle.connectivity.specs.Walk.{Leg, Between, froms, inner, edgesOf, allInner, allEdges, hits, degree, Built, Branch}
 use Rattle.connectivity.specs.Mader.{Theta, theta}
-use Rattle.connectivity.proofs.Distinct.{tail-distinct, left-distinct, right-distinct, apart-distinct, join-distinct}
+use Rattle.connectivity.proofs.Distinct.{tail-distinct, left-distinct, right-distinct, apart-distinct}
 use Rattle.connectivity.proofs.Degree.{degree-append, hits-from, hits-on, in-degree, on-inner, inner-most}
 use Rattle.connectivity.proofs.Stage.{AllBetween, all-degree, all-inner}
 use Rattle.connectivity.proofs.Legs.{leg}
-use Rattle.tree.specs.Tree.{Pointers, Child, Above, Tree, Passing, Climb, on, Held}
+use Rattle.tree.specs.Tree.{Pointers, Child, Above, Tree, Passing, Climb, on}
 use Rattle.tree.specs.Filed.{Filed}
 use Rattle.tree.proofs.Above.{not-over, climb-new, climb-as, climb-on, climb-child, climb-first}
 use Rattle.tree.proofs.Step.{step}
 use Rattle.tree.proofs.Begin.{built-edge, climb-start, climb-ends, meeting-below, meeting-child, round, beside, begin-theta, begin-once, begun, in-p, cases, first-x, first-r, first-q, root-branch, begin-held}
-use Rattle.tree.proofs.Filing.{Places}
+use Rattle.tree.specs.State.{Along, Places}
 use Rattle.tree.proofs.Splitting.{filed-map}
-use Rattle.tree.proofs.Along.{Along}
 
--- The order of the last two.
-
-in-swap : {x : ℕ} (r q p : List ℕ) → In x (r ++ (q ++ (p ++ []))) → In x (r ++ (p ++ (q ++ [])))
-in-swap r q p i = elim (in-cases r i) [
-  | inl j ↦ in-left (p ++ (q ++ [])) j
-  | inr j ↦ in-right r (elim (in-cases q j) [
-    | inl k ↦ in-right p (in-left [] k)
-    | inr k ↦ elim (in-cases p k) [ inl l ↦ in-left (q ++ []) l | inr l ↦ absurd (not-in l) ]
-  ])
-]
-
-distinct-swap : (r q p : List ℕ) → Distinct (r ++ (q ++ (p ++ []))) → Distinct (r ++ (p ++ (q ++ [])))
-distinct-swap r q p d = let e = right-distinct r d in
-    join-distinct r (left-distinct r (q ++ (p ++ [])) d)
-    (join-distinct p (left-distinct p [] (right-distinct q e)) (join-distinct q (left-distinct q (p ++ []) e) no-member (λ x i j. not-in j))
-    (λ x i j. elim (in-cases q j) [ inl k ↦ apart-distinct q e k (in-left [] i) | inr k ↦ not-in k ]))
-    (λ x i j. apart-distinct r d i (right-swap x j))
-  where
-    right-swap : (x : ℕ) → In x (p ++ (q ++ [])) → In x (q ++ (p ++ []))
-    right-swap x j = in-swap [] p q j
-
-theta-swap : {g : Graph} {a b : ℕ} {r q p : List Leg} → Theta g a b (r ∷ q ∷ p ∷ []) → Theta g a b (r ∷ p ∷ q ∷ [])
-theta-swap {a = a} {b = b} {r = r} {q = q} {p = p} t = record {
-  three = refl;
-  between = λ legs i. t .between legs (elim (in-cons i) [
-    | inl h ↦ first h
-    | inr j ↦ elim (in-cons j) [
-      | inl h ↦ later (later (first h))
-      | inr k ↦ elim (in-cons k) [ inl h ↦ later (first h) | inr l ↦ absurd (not-in l) ]
-    ]
-  ]);
-  simple = distinct-swap (a ∷ b ∷ inner r) (inner q) (inner p) (t .simple);
-}
-
-pub degree-swap : (g : Graph) (r q p : List Leg) (v : ℕ) → degree g (allEdges (r ∷ q ∷ p ∷ [])) v ≡ degree g (allEdges (r ∷ p ∷ q ∷ [])) v
-degree-swap g r q p v = omega (
-  arith,
-  degree-append g (edgesOf r) (edgesOf q ++ (edgesOf p ++ [])) v,
-  degree-append g (edgesOf q) (edgesOf p ++ []) v,
-  degree-append g (edgesOf p) [] v,
-  degree-append g (edgesOf r) (edgesOf p ++ (edgesOf q ++ [])) v,
-  degree-append g (edgesOf p) (edgesOf q ++ []) v,
-  degree-append g (edgesOf q) [] v,
-)
-
-held-swap : {g : Graph} {t : Pointers} (r q p : List Leg) → Held g t (allEdges (r ∷ q ∷ p ∷ [])) → Held g t (allEdges (r ∷ p ∷ q ∷ []))
-held-swap {g} {t} r q p h = record {
-  edges = λ e i. h .edges e (in-swap (edgesOf r) (edgesOf p) (edgesOf q) i);
-  rooted = omega (arith, h .rooted, degree-swap g r q p (t .root));
-  upwards = λ v c b. in-swap (edgesOf r) (edgesOf q) (edgesOf p) (h .upwards v c (omega (arith, b, degree-swap g r q p v)));
-  hung = λ f s w b i. omega (arith, h .hung f s w b (in-swap (edgesOf r) (edgesOf p) (edgesOf q) i), degree-swap g r q p s);
-}
-
--- over f and up to x, from x up to the root, over d and up to x
+-- from x up to the root, over f and up to x, over d and up to x
 pub along-begin : {g : Graph} {t : Pointers} {c f d w u x : ℕ} {p q r : List Leg} → Tree g t → Child g t c
     → Passing g t c f (t .root) w → Passing g t c d (t .root) u → (f ≡ d → ⊥)
     → Climb g t (λ v. Above g t v w) u r x → Climb g t (λ v. v ≡ x) w q x → Climb g t (λ v. v ≡ t .root) x p (t .root)
-    → Along g t (step d (t .root) r ∷ p ∷ step f (t .root) q ∷ [])
-along-begin {t = t} {f = f} {d = d} {p = p} {q = q} {r = r} tree h one other n m k l = record {
-  steps = theta (theta-swap (begin-theta tree h one other n m k l));
-  once = distinct-swap (edgesOf (step d (t .root) r)) (edgesOf (step f (t .root) q)) (edgesOf p) (begin-once tree h one other n m k l);
-  held = held-swap (step d (t .root) r) (step f (t .root) q) p (begin-held tree h one other n m k l);
+    → Along g t (step d (t .root) r ∷ step f (t .root) q ∷ p ∷ [])
+along-begin tree h one other n m k l = record {
+  steps = theta (begin-theta tree h one other n m k l);
+  once = begin-once tree h one other n m k l;
+  held = begin-held tree h one other n m k l;
 }
 
 -- The places.
@@ -94,7 +40,7 @@ Ends t x v = (v ≡ t .root) ⊎ (v ≡ x)
 
 -- and what the three climbs leave
 abbrev pub OnWalks : Pointers → ℕ → List Leg → List Leg → List Leg → ℕ → Type 0
-OnWalks t x q p r v = ((Ends t x v ⊎ In v (froms q)) ⊎ In v (froms p)) ⊎ In v (froms r)
+OnWalks t x p q r v = ((Ends t x v ⊎ In v (froms p)) ⊎ In v (froms q)) ⊎ In v (froms r)
 
 ends-dec : (t : Pointers) (x v : ℕ) → Dec (Ends t x v)
 ends-dec t x v = elim (ℕ-discrete v (t .root)) [
@@ -160,22 +106,25 @@ module _ {g : Graph} {t : Pointers} {c f d w u x : ℕ} {p q r : List Leg} (tree
 
   -- The three climbs, each to what is filed before it.
 
-  pub climb-one : Climb g t (λ v. Ends t x v) w q x
-  climb-one = climb-as to-x (inr refl) (λ v i e. elim e [ inl h ↦ climb-child tree to-x i .other h | inr h ↦ climb-new to-x i h ])
-
-  pub climb-two : Climb g t (λ v. Ends t x v ⊎ In v (froms q)) (t .parent x) p (t .root)
-  climb-two = climb-as up (inl (inl refl)) (λ v i e. elim e [
-    | inl (inl h) ↦ climb-child tree up i .other h
-    | inl (inr h) ↦ not-over tree x-child (subst (λ (y : ℕ). Above g t y (t .parent x)) h (climb-on tree up i))
-    | inr j ↦ apart-distinct (froms q) (tail-distinct (round tree child one-door other-door differ meets to-x to-root)) j (later i)
+  pub climb-one : Climb g t (λ v. Ends t x v) (t .parent x) p (t .root)
+  climb-one = climb-as up (inl refl) (λ v i e. elim e [
+    | inl h ↦ climb-child tree up i .other h
+    | inr h ↦ not-over tree x-child (subst (λ (y : ℕ). Above g t y (t .parent x)) h (climb-on tree up i))
   ])
 
-  pub climb-three : Climb g t (λ v. (Ends t x v ⊎ In v (froms q)) ⊎ In v (froms p)) u r x
+  pub climb-two : Climb g t (λ v. Ends t x v ⊎ In v (froms p)) w q x
+  climb-two = climb-as to-x (inl (inr refl)) (λ v i e. elim e [
+    | inl (inl h) ↦ climb-child tree to-x i .other h
+    | inl (inr h) ↦ climb-new to-x i h
+    | inr j ↦ apart-distinct (froms q) (tail-distinct (round tree child one-door other-door differ meets to-x to-root)) i (later j)
+  ])
+
+  pub climb-three : Climb g t (λ v. (Ends t x v ⊎ In v (froms p)) ⊎ In v (froms q)) u r x
   climb-three = climb-as meets (inl (inl (inr refl))) (λ v i e. beside tree child one-door other-door differ meets to-x to-root v i (elim e [
     | inl (inl (inl h)) ↦ first h
     | inl (inl (inr h)) ↦ later (in-right (froms q) (first h))
-    | inl (inr j) ↦ later (in-left (x ∷ froms p) j)
-    | inr j ↦ later (in-right (froms q) (later j))
+    | inl (inr j) ↦ later (in-right (froms q) (later j))
+    | inr j ↦ later (in-left (x ∷ froms p) j)
   ]))
 
   -- What they have built.
@@ -183,23 +132,23 @@ module _ {g : Graph} {t : Pointers} {c f d w u x : ℕ} {p q r : List Leg} (tree
   abbrev Begun : List ℕ
   Begun = begun tree child one-door other-door differ meets to-x to-root
 
-  at-climb-q : {v : ℕ} → In v (froms q) ⊎ (v ≡ x) → OnWalks t x q p r v
-  at-climb-q (inl i) = inl (inl (inr i))
+  at-climb-q : {v : ℕ} → In v (froms q) ⊎ (v ≡ x) → OnWalks t x p q r v
+  at-climb-q (inl i) = inl (inr i)
   at-climb-q (inr h) = inl (inl (inl (inr h)))
 
-  at-climb-r : {v : ℕ} → In v (froms r) ⊎ (v ≡ x) → OnWalks t x q p r v
+  at-climb-r : {v : ℕ} → In v (froms r) ⊎ (v ≡ x) → OnWalks t x p q r v
   at-climb-r (inl i) = inr i
   at-climb-r (inr h) = inl (inl (inl (inr h)))
 
-  at-climb-p : {v : ℕ} → In v (x ∷ froms p) ⊎ (v ≡ t .root) → OnWalks t x q p r v
-  at-climb-p (inl i) = elim (in-cons i) [ inl h ↦ inl (inl (inl (inr h))) | inr j ↦ inl (inr j) ]
+  at-climb-p : {v : ℕ} → In v (x ∷ froms p) ⊎ (v ≡ t .root) → OnWalks t x p q r v
+  at-climb-p (inl i) = elim (in-cons i) [ inl h ↦ inl (inl (inl (inr h))) | inr j ↦ inl (inl (inr j)) ]
   at-climb-p (inr h) = inl (inl (inl (inl h)))
 
-  from-root : {e y v : ℕ} → Joins g e (t .root) y → hits g e v ≡ 1 → (v ≡ y → OnWalks t x q p r v) → OnWalks t x q p r v
+  from-root : {e y v : ℕ} → Joins g e (t .root) y → hits g e v ≡ 1 → (v ≡ y → OnWalks t x p q r v) → OnWalks t x p q r v
   from-root {e} {y} {v} j h n = elim (hits-on v j (omega (arith, h))) [ inl p ↦ inl (inl (inl (inl p))) | inr p ↦ n p ]
 
-  built-on : (v : ℕ) → Built g Begun v → OnWalks t x q p r v
-  built-on v h = let (e, i, m) = built-edge g v Begun h in elim (cases tree child one-door other-door differ meets to-x to-root i) [
+  pub begun-on : (v : ℕ) → Built g Begun v → OnWalks t x p q r v
+  begun-on v h = let (e, i, m) = built-edge g v Begun h in elim (cases tree child one-door other-door differ meets to-x to-root i) [
     | inl (inl a) ↦ from-root (other-door .back .joins) (subst (λ (z : ℕ). hits g z v ≡ 1) a m)
         (λ b. at-climb-r (elim (climb-start tree meets) [ inl o ↦ inl (Memᴰ·cast b o) | inr o ↦ inr (b ∙ o) ]))
     | inl (inr a) ↦ from-root (one-door .back .joins) (subst (λ (z : ℕ). hits g z v ≡ 1) a m)
@@ -212,12 +161,12 @@ module _ {g : Graph} {t : Pointers} {c f d w u x : ℕ} {p q r : List Leg} (tree
   first-built : {v : ℕ} → Child g t v → In (t .first v) Begun → Built g Begun v
   first-built {v} k i = in-degree g v i (hits-from (tree .joins v k))
 
-  on-built : (v : ℕ) → OnWalks t x q p r v → Built g Begun v
-  on-built v (inl (inl (inl (inl h)))) = subst (Built g Begun) (sym h) (omega (arith, root-branch tree child one-door other-door differ meets to-x to-root))
-  on-built v (inl (inl (inl (inr h)))) = subst (Built g Begun) (sym h) (first-built x-child (first-x tree child one-door other-door differ meets to-x to-root))
-  on-built v (inl (inl (inr i))) = first-built (climb-child tree to-x i) (first-q tree child one-door other-door differ meets to-x to-root (inl i))
-  on-built v (inl (inr i)) = first-built (climb-child tree up i) (in-p tree child one-door other-door differ meets to-x to-root (later (climb-first tree up i)))
-  on-built v (inr i) = first-built (climb-child tree meets i) (first-r tree child one-door other-door differ meets to-x to-root (inl i))
+  pub on-begun : (v : ℕ) → OnWalks t x p q r v → Built g Begun v
+  on-begun v (inl (inl (inl (inl h)))) = subst (Built g Begun) (sym h) (omega (arith, root-branch tree child one-door other-door differ meets to-x to-root))
+  on-begun v (inl (inl (inl (inr h)))) = subst (Built g Begun) (sym h) (first-built x-child (first-x tree child one-door other-door differ meets to-x to-root))
+  on-begun v (inl (inl (inr i))) = first-built (climb-child tree up i) (in-p tree child one-door other-door differ meets to-x to-root (later (climb-first tree up i)))
+  on-begun v (inl (inr i)) = first-built (climb-child tree to-x i) (first-q tree child one-door other-door differ meets to-x to-root (inl i))
+  on-begun v (inr i) = first-built (climb-child tree meets i) (first-r tree child one-door other-door differ meets to-x to-root (inl i))
 
   the-theta : Theta g (t .root) x (step d (t .root) r ∷ step f (t .root) q ∷ (leg (t .first x) x ∷ p) ∷ [])
   the-theta = begin-theta tree child one-door other-door differ meets to-x to-root
@@ -240,19 +189,7 @@ module _ {g : Graph} {t : Pointers} {c f d w u x : ℕ} {p q r : List Leg} (tree
     all-degree {g = g} {a = x} {b = t .root} (step d (t .root) r ∷ step f (t .root) q ∷ (leg (t .first x) x ∷ p) ∷ []) (λ l i. ⊎-swap (the-theta .between l i)),
   ))
 
-  abbrev written : List ℕ
-  written = allEdges (step d (t .root) r ∷ (leg (t .first x) x ∷ p) ∷ step f (t .root) q ∷ [])
-
-  same-degree : (v : ℕ) → degree g Begun v ≡ degree g written v
-  same-degree v = degree-swap g (step d (t .root) r) (step f (t .root) q) (leg (t .first x) x ∷ p) v
-
-  pub on-begun : (v : ℕ) → OnWalks t x q p r v → Built g written v
-  on-begun v o = omega (arith, on-built v o, same-degree v)
-
-  pub begun-on : (v : ℕ) → Built g written v → OnWalks t x q p r v
-  begun-on v b = built-on v (omega (arith, b, same-degree v))
-
   -- their insides filed, the places are those of what is built
-  pub places-begin : {place : ℕ → ℕ} → Filed g t (λ v. OnWalks t x q p r v) (λ v. Ends t x v) place
-      → Places g t (allEdges (step d (t .root) r ∷ (leg (t .first x) x ∷ p) ∷ step f (t .root) q ∷ [])) place
-  places-begin h = filed-map on-begun begun-on (λ v e. omega (arith, end-branch v e, same-degree v)) (λ v b. branch-end v (omega (arith, b, same-degree v))) h
+  pub places-begin : {place : ℕ → ℕ} → Filed g t (λ v. OnWalks t x p q r v) (λ v. Ends t x v) place
+      → Places g t (allEdges (step d (t .root) r ∷ step f (t .root) q ∷ (leg (t .first x) x ∷ p) ∷ [])) place
+  places-begin h = filed-map on-begun begun-on end-branch branch-end h

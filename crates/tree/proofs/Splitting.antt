@@ -153,12 +153,16 @@ module _ {g : Graph} {t : Pointers} {B K : ℕ → Type 0} {place after : ℕ �
         s .away y (λ z. n (sym o ∙ z)) ∙ o ∙ sym r
   ]
 
-  split-line : (u w : ℕ) → 2 ≤ after u → after u ≡ after w → Above g t u w ⊎ Above g t w u
-  split-line u w h e = f .line u w (before-two h) (elim (twin h e) [
+  -- two at one place afterwards were at one place
+  pub split-before : {u w : ℕ} → 2 ≤ after u → after u ≡ after w → place u ≡ place w
+  split-before h e = elim (twin h e) [
     | uppers p q m l r ↦ p ∙ sym q
     | lowers p q m l r ↦ p ∙ sym q
     | aways n p r ↦ p
-  ])
+  ]
+
+  split-line : (u w : ℕ) → 2 ≤ after u → after u ≡ after w → Above g t u w ⊎ Above g t w u
+  split-line u w h e = f .line u w (before-two h) (split-before h e)
 
   pub filed-split : Filed g t B (λ y. K y ⊎ (y ≡ v)) after
   filed-split = record {

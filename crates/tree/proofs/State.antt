@@ -9,19 +9,14 @@ use Rattle.connectivity.specs.Walk.{Leg, froms, allEdges, Built, Branch}
 use Rattle.connectivity.specs.Mader.{MaderPath}
 use Rattle.connectivity.proofs.Legs.{leg}
 use Rattle.tree.specs.Tree.{Pointers, Child, Above, Tree, Back, Passing, Climb}
+use Rattle.tree.specs.State.{State}
 use Rattle.tree.specs.Filed.{Filed, Split, Marked, already, parted, Grown, Noted, Belows}
 use Rattle.tree.proofs.Above.{climb-end}
 use Rattle.tree.proofs.Inside.{built-up}
 use Rattle.tree.proofs.Step.{step}
-use Rattle.tree.proofs.Filing.{Places}
 use Rattle.tree.proofs.Splitting.{filed-already, filed-split, filed-grown, belows-split, belows-grown}
-use Rattle.tree.proofs.Along.{Along, along-stage, along-step, ear-built, built-ear-is, places-step}
+use Rattle.tree.proofs.Along.{along-stage, along-step, ear-built, built-ear-is, places-step}
 use Rattle.tree.proofs.Opening.{Ends, OnWalks, to-root, along-begin, begun-on, on-begun, places-begin}
-
-pub record State (g : Graph) (t : Pointers) (walks : List (List Leg)) (place below : ℕ → ℕ) : Type 0 where
-  pub along : Along g t walks
-  pub filed : Places g t (allEdges walks) place
-  pub belows : Belows g t (λ v. Built g (allEdges walks) v) place below
 
 -- the same places under another name
 filed-same : {g : Graph} {t : Pointers} {B K : ℕ → Type 0} {place after : ℕ → ℕ} → ((y : ℕ) → after y ≡ place y) → Filed g t B K place → Filed g t B K after
@@ -80,8 +75,8 @@ state-step {g} {t} {walks} {s = s} {x = x} tree st b n k r mark-s mark-x grown n
 pub state-begin : {g : Graph} {t : Pointers} {place below : ℕ → ℕ} {c f d w u x : ℕ} {p q r : List Leg} → Tree g t → Child g t c
     → Passing g t c f (t .root) w → Passing g t c d (t .root) u → (f ≡ d → ⊥)
     → Climb g t (λ v. Above g t v w) u r x → Climb g t (λ v. v ≡ x) w q x → Climb g t (λ v. v ≡ t .root) (t .parent x) p (t .root)
-    → Filed g t (λ v. OnWalks t x q p r v) (λ v. Ends t x v) place → Belows g t (λ v. OnWalks t x q p r v) place below
-    → State g t (step d (t .root) r ∷ (leg (t .first x) x ∷ p) ∷ step f (t .root) q ∷ []) place below
+    → Filed g t (λ v. OnWalks t x p q r v) (λ v. Ends t x v) place → Belows g t (λ v. OnWalks t x p q r v) place below
+    → State g t (step d (t .root) r ∷ step f (t .root) q ∷ (leg (t .first x) x ∷ p) ∷ []) place below
 state-begin tree h one other n m k l filed belows = record {
   along = along-begin tree h one other n m k (to-root tree h one other n m k l);
   filed = places-begin tree h one other n m k l filed;

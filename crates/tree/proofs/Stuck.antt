@@ -15,13 +15,14 @@ use Rattle.connectivity.proofs.Stage.{Stage}
 use Rattle.connectivity.proofs.Link.{some-link}
 use Rattle.connectivity.proofs.Grow.{Inside, inside-built}
 use Rattle.tree.specs.Tree.{Pointers, Above, Tree, Back, Overs, Climb, Held}
+use Rattle.tree.specs.State.{Along, Places}
 use Rattle.tree.specs.Filed.{Tips, Belows}
 use Rattle.tree.proofs.Inside.{inside-dec, built-up, climb-built}
 use Rattle.tree.proofs.Leaving.{exit-law}
 use Rattle.tree.proofs.Step.{step, step-at, over-back, exit-ear, branch-ear}
-use Rattle.tree.proofs.Filing.{Places, exit-places, exit-place-ear}
+use Rattle.tree.proofs.Filing.{exit-places, exit-place-ear}
 use Rattle.tree.proofs.Under.{ends-below, from-below}
-use Rattle.tree.proofs.Along.{Along, along-stage, along-more}
+use Rattle.tree.proofs.Along.{along-stage, along-more}
 
 -- Where no step along the tree is an ear, every edge is built.
 

@@ -11,7 +11,7 @@ use Rattle.tree.specs.Tree.{Pointers, Child, Above, same, higher, Tree, 
 use Rattle.tree.specs.Filed.{Filed, Tips, Belows}
 use Rattle.tree.proofs.Above.{same-suc, above-trans, above-cases, above-child, not-over, UpClosed, up-closed, climb-to, climb-end, climb-above, climb-below, climb-last}
 
-module _ {g : Graph} {t : Pointers} {B K : ℕ → Type 0} {place below : ℕ → ℕ} {m top bottom : ℕ} (tree : Tree g t) (up : UpClosed g t B)
+module _ {g : Graph} {t : Pointers} {B K : ℕ → Type 0} {place below : ℕ → ℕ} {m top bottom : ℕ} (tree : Tree g t)
     (f : Filed g t B K place) (h : Belows g t B place below) (tips : Tips g t place m top bottom) (large : 2 ≤ m) where
   -- Along the link: from a vertex that is not its top to its parent, from one that is not its bottom to the child that is noted.
 
@@ -32,12 +32,14 @@ module _ {g : Graph} {t : Pointers} {B K : ℕ → Type 0} {place below : ℕ �
       noted : {c : ℕ} → Child g t c → B c → t .parent c ≡ y → place y ≡ m → below y ≡ suc c
       noted {c} k b p e = subst (λ (v : ℕ). below v ≡ suc c) p (h .only c k b (subst (λ (v : ℕ). 2 ≤ place v) (sym p) (omega (arith, e, large))))
 
+module _ {g : Graph} {t : Pointers} {B K : ℕ → Type 0} {place below : ℕ → ℕ} {m top bottom : ℕ} (tree : Tree g t) (up : UpClosed g t B)
+    (f : Filed g t B K place) (h : Belows g t B place below) (tips : Tips g t place m top bottom) (large : 2 ≤ m) where
   -- a built child, not in the link, of a vertex in it hangs on its bottom
   at-bottom : {c y : ℕ} → Child g t c → B c → t .parent c ≡ y → place y ≡ m → (place c ≡ m → ⊥) → y ≡ bottom
   at-bottom {c} {y} k b p e n = elim (ℕ-discrete y bottom) [
     | yes q ↦ q
     | no o ↦
-        let (d, _, _, in-d, inside) = link-down e o in
+        let (d, _, _, in-d, inside) = link-down tree f h tips large e o in
         let in-c : below y ≡ suc c = subst (λ (v : ℕ). below v ≡ suc c) p (h .only c k b (subst (λ (v : ℕ). 2 ≤ place v) (sym p) (omega (arith, e, large)))) in
         absurd (n (subst (λ (v : ℕ). place v ≡ m) (same-suc (sym in-d ∙ in-c)) inside))
   ]

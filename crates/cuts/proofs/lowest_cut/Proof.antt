@@ -1,84 +1,72 @@
--- `lowest_cut` meets its contract: the plan's refusal, or what the lowest cut is called.
-use mathlib.Core.Path.{ap, _∙_}
+-- `lowest_cut` meets its contract: a refusal, and all tables stay; or the lowest cut, and the tables by vertex and the search.
+use Prim.Native.Nat.{_≤_}
+use lib.ListN.{length}
+use Rattle.incidence.proofs.Filled.{filled-tabled}
+use Rattle.cuts.proofs.Serving.{answers-short, answers-refused, answers-served}
 use borrow.Author.Needs.{needs}
-use Rattle.cuts.specs.Verdict.{handed}
-use Rattle.cuts.proofs.Answers.{answers-refused, answers-admitted, answers-spaces, answers-cut}
 use Rattle.cuts.proofs.lowest_cut.Statement.{statement}
 use Rattle.cuts.proofs.lowest_cut.Tie as tie
 
-slice-aggregate-fill : tie.Need-slice-aggregate-fill
-slice-aggregate-fill c = search needs
+-- there is a mark and a place in the order for each vertex
+roomy : (c : tie.Else1) → let a = c .before .before .before .before .before .before .before .args in (a .vertices ≤ length (a .first .now)) × (a .vertices ≤ length (a .order .now))
+roomy c = rw (c .if1 .left) at (c .before .is-short .ensures)
 
-slice-aggregate-fill-2 : tie.Need-slice-aggregate-fill-2
-slice-aggregate-fill-2 c = search needs
+is-short-requires : tie.Need-is-short-requires
+is-short-requires c κs = search needs
+
+no-room-requires : tie.Need-no-room-requires
+no-room-requires c κs = search needs
+
+returns : tie.Need-returns
+returns c = answers-short _ _ _ _ _ (c .no-room .ensures) (rw (c .before .if1 .taken) at (c .before .before .is-short .ensures))
 
 fill-requires : tie.Need-fill-requires
 fill-requires c κs = search needs
 
-returns : tie.Need-returns
-returns c = answers-refused _ _ (c .before .before .before .before .fill .ensures) (c .if1 .taken)
+same-length : tie.Need-same-length
+same-length c = search needs
 
-slice-aggregate-lowest-over : tie.Need-slice-aggregate-lowest-over
-slice-aggregate-lowest-over c = search needs
-
-slice-aggregate-lowest-over-2 : tie.Need-slice-aggregate-lowest-over-2
-slice-aggregate-lowest-over-2 c = search needs
-
-slice-aggregate-lowest-over-3 : tie.Need-slice-aggregate-lowest-over-3
-slice-aggregate-lowest-over-3 c = search needs
-
-slice-aggregate-lowest-over-4 : tie.Need-slice-aggregate-lowest-over-4
-slice-aggregate-lowest-over-4 c = search needs
-
-slice-aggregate-lowest-over-5 : tie.Need-slice-aggregate-lowest-over-5
-slice-aggregate-lowest-over-5 c = search needs
-
-slice-aggregate-lowest-over-6 : tie.Need-slice-aggregate-lowest-over-6
-slice-aggregate-lowest-over-6 c = search needs
-
-slice-aggregate-lowest-over-7 : tie.Need-slice-aggregate-lowest-over-7
-slice-aggregate-lowest-over-7 c = search needs
-
-slice-aggregate-lowest-over-8 : tie.Need-slice-aggregate-lowest-over-8
-slice-aggregate-lowest-over-8 c = search needs
-
-slice-aggregate-lowest-over-9 : tie.Need-slice-aggregate-lowest-over-9
-slice-aggregate-lowest-over-9 c = search needs
-
-slice-aggregate-lowest-over-10 : tie.Need-slice-aggregate-lowest-over-10
-slice-aggregate-lowest-over-10 c = search needs
-
-slice-aggregate-lowest-over-11 : tie.Need-slice-aggregate-lowest-over-11
-slice-aggregate-lowest-over-11 c = search needs
-
-lowest-over-requires : tie.Need-lowest-over-requires
-lowest-over-requires c κs = answers-spaces _ _ (c .before .before .before .before .before .before .before .before .before .before .before .before .before .before .before .fill .ensures) (c .before .before .before .before .before .before .before .before .before .before .before .if1 .left)
-
-told-requires : tie.Need-told-requires
-told-requires c κs = search needs
+same-length-2 : tie.Need-same-length-2
+same-length-2 c = search needs
 
 returns-2 : tie.Need-returns-2
-returns-2 c = ap handed (c .told .ensures) ∙ answers-cut _ _ _ (answers-admitted _ _ (c .before .before .before .before .before .before .before .before .before .before .before .before .before .before .before .before .before .before .before .before .before .before .before .before .before .before .fill .ensures) (c .before .before .before .before .before .before .before .before .before .before .before .before .before .before .before .before .before .before .before .before .before .before .if1 .left)) (c .before .before .before .before .before .before .before .before .before .before .lowest-over .ensures)
+returns-2 c = let e = roomy (c .before .before .before .before .before .before .before .before .before) in answers-refused _ _ _ _ _ (e .0) (e .1) (c .before .before .before .before .before .before .fill .ensures) (c .if2 .taken)
+
+lowest-filled-requires : tie.Need-lowest-filled-requires
+lowest-filled-requires c κs = let e = roomy (c .before .before .before .before .before .before .before .before .before .before .before .before .before) in (filled-tabled (c .before .before .before .before .before .before .before .before .before .before .fill .ensures) (c .before .before .before .before .if2 .left), e .0, e .1)
+
+same-length-3 : tie.Need-same-length-3
+same-length-3 c = search needs
+
+same-length-4 : tie.Need-same-length-4
+same-length-4 c = search needs
+
+same-length-5 : tie.Need-same-length-5
+same-length-5 c = search needs
+
+same-length-6 : tie.Need-same-length-6
+same-length-6 c = search needs
+
+returns-3 : tie.Need-returns-3
+returns-3 c =
+    let e = roomy (c .before .before .before .before .before .before .before .before .before .before .before .before .before .before .before .before .before .before) in
+    let l = c .before .before .before .before .lowest-filled .ensures in
+    answers-served _ _ _ _ _ (e .0) (e .1) (c .before .before .before .before .before .before .before .before .before .before .before .before .before .before .before .fill .ensures) (c .before .before .before .before .before .before .before .before .before .if2 .left) _ (l .0) (l .1)
 
 pub lowest-cut-spec : {M : Type 1} → statement M
 lowest-cut-spec =
     tie.close
     (tie.spec
-    slice-aggregate-fill
-    slice-aggregate-fill-2
-    fill-requires
+    is-short-requires
+    no-room-requires
     returns
-    slice-aggregate-lowest-over
-    slice-aggregate-lowest-over-2
-    slice-aggregate-lowest-over-3
-    slice-aggregate-lowest-over-4
-    slice-aggregate-lowest-over-5
-    slice-aggregate-lowest-over-6
-    slice-aggregate-lowest-over-7
-    slice-aggregate-lowest-over-8
-    slice-aggregate-lowest-over-9
-    slice-aggregate-lowest-over-10
-    slice-aggregate-lowest-over-11
-    lowest-over-requires
-    told-requires
-    returns-2)
+    fill-requires
+    same-length
+    same-length-2
+    returns-2
+    lowest-filled-requires
+    same-length-3
+    same-length-4
+    same-length-5
+    same-length-6
+    returns-3)

@@ -1,12 +1,15 @@
 -- `write_record` meets its contract: where there is room, the plan's refusal or its lowest cut, or none and the record written.
-use mathlib.Core.Path.{refl}
+use mathlib.Core.Path.{_≡_, refl}
 use Prim.Native.Nat.{_*_, _/_, _≤_}
 use native.Mathlib.Omega.{arith}
 use lib.ListN.{length}
 use borrow.Author.Needs.{needs}
 use Rattle.connectivity.specs.Plan.{plan, limits}
 use Rattle.connectivity.specs.Admission.{Admitted}
+use Rattle.cuts.specs.Verdict.{handed, lowestHanded}
+use Rattle.record.specs.Recording.{Sturdy}
 use Rattle.record.proofs.Answering.{answers-cut, answers-firm, uncut-admitted, sturdy}
+use Rattle.record.proofs.Tabling.{cut-own, searched}
 use Rattle.record.proofs.write_record.Statement.{statement}
 use Rattle.record.proofs.write_record.Tie as tie
 
@@ -14,18 +17,40 @@ use Rattle.record.proofs.write_record.Tie as tie
 enough : (c : tie.Else1) → let a = c .before .before .before .args in 3 * (length (a .ends .now) / 2) ≤ length (a .rows .now)
 enough c = omega (arith, c .if1 .left)
 
--- a plan without a cut is admitted
-admitted : (c : tie.After-enum-told) → let a = c .before .before .before .before .before .before .args in Admitted limits (plan (a .vertices) (a .ends .now))
+-- what is said of the cuts
+told : (o : tie.After-lowest-cut) → let a = o .before .before .before .before .before .before .before .before .args in handed (o .lowest-cut .result) ≡ lowestHanded limits (plan (a .vertices) (a .ends .now))
+told o = cut-own (o .lowest-cut .result) (o .lowest-cut .ensures)
+
+-- a plan without a cut is admitted, and sturdy
+admitted : (c : tie.After-enum-told) → let a = c .before .before .before .before .before .before .before .before .before .before .before .before .before .before .args in Admitted limits (plan (a .vertices) (a .ends .now))
 admitted c =
-    let cut = c .before .before in
-    let a = cut .before .before .before .before .args in
-    uncut-admitted (a .vertices) (a .ends .now) (a .rows .now) (enough (cut .before)) (cut .lowest-cut .ensures) (c .enum-told .given .1)
+    let o = c .before .before .before .before .before .before in
+    let a = o .before .before .before .before .before .before .before .before .args in
+    uncut-admitted (a .vertices) (a .ends .now) (a .rows .now) (enough (o .before .before .before .before .before)) (told o) (c .enum-told .given .1)
+
+strong : (c : tie.After-enum-told) → let a = c .before .before .before .before .before .before .before .before .before .before .before .before .before .before .args in Sturdy (a .vertices) (a .ends .now) (length (a .rows .now))
+strong c =
+    let o = c .before .before .before .before .before .before in
+    let a = o .before .before .before .before .before .before .before .before .args in
+    sturdy (a .vertices) (a .ends .now) (a .rows .now) (admitted c) (enough (o .before .before .before .before .before)) (told o) (c .enum-told .given .1)
 
 no-room-requires : tie.Need-no-room-requires
 no-room-requires c κs = search needs
 
 returns : tie.Need-returns
 returns c = c .no-room .ensures _ (omega (arith, c .before .if1 .taken))
+
+slice-aggregate-lowest-cut : tie.Need-slice-aggregate-lowest-cut
+slice-aggregate-lowest-cut c = search needs
+
+slice-aggregate-lowest-cut-2 : tie.Need-slice-aggregate-lowest-cut-2
+slice-aggregate-lowest-cut-2 c = search needs
+
+slice-aggregate-lowest-cut-3 : tie.Need-slice-aggregate-lowest-cut-3
+slice-aggregate-lowest-cut-3 c = search needs
+
+slice-aggregate-lowest-cut-4 : tie.Need-slice-aggregate-lowest-cut-4
+slice-aggregate-lowest-cut-4 c = search needs
 
 lowest-cut-requires : tie.Need-lowest-cut-requires
 lowest-cut-requires c κs = search needs
@@ -35,29 +60,44 @@ enum-told c = search needs
 
 returns-2 : tie.Need-returns-2
 returns-2 c =
-    let cut = c .before in
-    let a = cut .before .before .before .before .args in
-    answers-cut (a .vertices) (a .ends .now) (a .rows .now) (enough (cut .before)) (cut .lowest-cut .result) (cut .lowest-cut .ensures) (c .match .keys2)
+    let o = c .before .before .before .before .before in
+    let a = o .before .before .before .before .before .before .before .before .args in
+    answers-cut (a .vertices) (a .ends .now) (a .rows .now) (enough (o .before .before .before .before .before)) (o .lowest-cut .result) (told o) (c .match .keys2)
 
-cast-edges : tie.Need-cast-edges
-cast-edges c = let a = admitted c in omega (arith, a .edges)
+cast-begins : tie.Need-cast-begins
+cast-begins c = let a = admitted c in record { fits = omega (arith, a .edges) }
+
+mul-begins : tie.Need-mul-begins
+mul-begins c = search needs
+
+array-write-begins : tie.Need-array-write-begins
+array-write-begins c = let a = admitted c in omega (arith, a .vertices)
+
+slice-aggregate-build-record : tie.Need-slice-aggregate-build-record
+slice-aggregate-build-record c = search needs
+
+slice-aggregate-build-record-2 : tie.Need-slice-aggregate-build-record-2
+slice-aggregate-build-record-2 c = search needs
+
+slice-aggregate-build-record-3 : tie.Need-slice-aggregate-build-record-3
+slice-aggregate-build-record-3 c = search needs
+
+slice-aggregate-build-record-4 : tie.Need-slice-aggregate-build-record-4
+slice-aggregate-build-record-4 c = search needs
 
 build-record-requires : tie.Need-build-record-requires
 build-record-requires c κs =
-    let told = c .before in
-    let cut = told .before .before in
-    let a = cut .before .before .before .before .args in
-    (refl, sturdy (a .vertices) (a .ends .now) (a .rows .now) (admitted told) (enough (cut .before)) (cut .lowest-cut .ensures) (told .enum-told .given .1))
+    let n = c .before .before .before .before .before in
+    (strong n, searched (c .before .before .before .before .before .before .before .before .before .before .before .lowest-cut .ensures) (n .enum-told .given .1) (strong n))
 
 same-length : tie.Need-same-length
-same-length c = c .before .before .build-record .kept .1 .1 .1 .0
+same-length c = search needs
 
 returns-3 : tie.Need-returns-3
 returns-3 c =
-    let built = c .before .before in
-    let told = built .before .before in
-    let cut = told .before .before in
-    answers-firm _ _ _ (admitted told) (enough (cut .before)) (cut .lowest-cut .ensures) (told .enum-told .given .1) (built .build-record .ensures) refl
+    let n = c .before .before .before .before .before .before .before .before in
+    let o = n .before .before .before .before .before .before in
+    answers-firm _ _ _ (admitted n) (enough (o .before .before .before .before .before)) (told o) (n .enum-told .given .1) (c .before .before .build-record .ensures) refl
 
 pub write-record-spec : {M : Type 1} → statement M
 write-record-spec =
@@ -65,10 +105,20 @@ write-record-spec =
     (tie.spec
     no-room-requires
     returns
+    slice-aggregate-lowest-cut
+    slice-aggregate-lowest-cut-2
+    slice-aggregate-lowest-cut-3
+    slice-aggregate-lowest-cut-4
     lowest-cut-requires
     enum-told
     returns-2
-    cast-edges
+    cast-begins
+    mul-begins
+    array-write-begins
+    slice-aggregate-build-record
+    slice-aggregate-build-record-2
+    slice-aggregate-build-record-3
+    slice-aggregate-build-record-4
     build-record-requires
     same-length
     returns-3)

@@ -1,78 +1,84 @@
--- `build_record` meets its contract: after each turn the rows so far are those of Mader's steps.
-use mathlib.Core.Path.{_∙_}
-use Prim.Native.Nat.{_-_}
-use native.Mathlib.Omega.{arith}
-use lib.ListN.{length}
-use Rattle.record.specs.Step.{Sturdy}
-use Rattle.record.specs.Record.{Recording, Continuing}
-use Rattle.record.proofs.Counting.{tables-none}
-use Rattle.record.proofs.Recording.{opened-long, sturdy-still, recording-start, recorded-from, recording-most, recording-long, recording-steps, recording-end}
+-- `build_record` meets its contract: over tables of which nothing is set.
+use borrow.Author.Needs.{needs}
+use Rattle.record.proofs.Tabling.{numbering, ready}
 use Rattle.record.proofs.build.build_record.Statement.{statement}
 use Rattle.record.proofs.build.build_record.Tie as tie
 
-abbrev Inv-loop : tie.InvT-loop
-Inv-loop vertices ends edges rows₀ degree₀ used₀ sums₀ built₀ row₀ step₀ rows degree used sums built row step =
-    Sturdy vertices ends (length rows₀) × Recording vertices ends rows₀ rows degree used sums built row step
+slice-aggregate-look-below : tie.Need-slice-aggregate-look-below
+slice-aggregate-look-below c = search needs
 
-abbrev μ-loop : tie.MeasureT-loop
-μ-loop vertices ends edges rows₀ degree₀ used₀ sums₀ built₀ row₀ step₀ rows degree used sums built row step = edges - row
+slice-aggregate-look-below-2 : tie.Need-slice-aggregate-look-below-2
+slice-aggregate-look-below-2 c = search needs
 
--- an edge is left
-abbrev continuing : (c : tie.In-loop Inv-loop μ-loop) → let l = c .before in let a = l .before .before .before .before .before .before .before .args in
-    Continuing (a .vertices) (a .ends .now) (l .loop .built) (l .loop .row) (l .loop .step) (l .loop .degree) (l .loop .used) (l .loop .sums) (l .loop .rows)
-continuing c =
-    let l = c .before in
-    record { before = _; sturdy = l .loop .inv .0; recording = l .loop .inv .1; left = omega (arith, c .loop-test .taken, l .before .before .before .before .before .before .before .pre .0) }
+slice-aggregate-look-below-3 : tie.Need-slice-aggregate-look-below-3
+slice-aggregate-look-below-3 c = search needs
 
-first-walks-requires : tie.Need-first-walks-requires Inv-loop μ-loop
-first-walks-requires c κs = c .before .before .before .pre .1
+slice-aggregate-look-below-4 : tie.Need-slice-aggregate-look-below-4
+slice-aggregate-look-below-4 c = search needs
 
-loop-holds : tie.Need-loop-holds Inv-loop μ-loop
-loop-holds c =
-    let f = c .before .before in
-    let p = f .before .before .before .before .pre .1 in
-    (sturdy-still p (f .first-walks .ensures), recording-start p (f .first-walks .ensures) (tables-none _ _))
+look-below-requires : tie.Need-look-below-requires
+look-below-requires c κs = let s = c .before .before .before .before .before .before .before .before .before .before .pre in numbering (s .0) (s .1)
 
-add-ear-requires : tie.Need-add-ear-requires Inv-loop μ-loop
-add-ear-requires c κs = continuing (c .before .before .before .before)
+slice-aggregate-build-all : tie.Need-slice-aggregate-build-all
+slice-aggregate-build-all c = search needs
 
-add-row : tie.Need-add-row Inv-loop μ-loop
-add-row c = let x = c .before .before in omega (arith, x .add-ear .ensures (continuing (x .before .before .before .before .before)) .1, x .before .before .before .before .before .before .loop .inv .0 .admitted .edges)
+slice-aggregate-build-all-2 : tie.Need-slice-aggregate-build-all-2
+slice-aggregate-build-all-2 c = search needs
 
-add-step : tie.Need-add-step Inv-loop μ-loop
-add-step c = let l = c .before .before .before .before .before .before .before .before .loop .inv in omega (arith, recording-steps (l .0) (l .1), recording-most (l .0) (l .1), l .0 .admitted .edges)
+slice-aggregate-build-all-3 : tie.Need-slice-aggregate-build-all-3
+slice-aggregate-build-all-3 c = search needs
 
-loop-less : tie.Need-loop-less Inv-loop μ-loop
-loop-less c = let x = c .before .before in let i = x .before .before .before .before .before in omega (arith, x .add-ear .ensures (continuing i) .2, i .loop-test .taken)
+slice-aggregate-build-all-4 : tie.Need-slice-aggregate-build-all-4
+slice-aggregate-build-all-4 c = search needs
 
-loop-again : tie.Need-loop-again Inv-loop μ-loop
-loop-again c = let x = c .before .before in let i = x .before .before .before .before .before in (i .before .loop .inv .0, x .add-ear .ensures (continuing i) .0)
+slice-aggregate-build-all-5 : tie.Need-slice-aggregate-build-all-5
+slice-aggregate-build-all-5 c = search needs
 
-same-length : tie.Need-same-length Inv-loop μ-loop
-same-length c =
-    let l = c .before .loop .inv in
-    let f = c .before .before .before .before in
-    recording-long (l .0) (l .1) ∙ opened-long (f .before .before .before .before .pre .1) (f .first-walks .ensures)
+slice-aggregate-build-all-6 : tie.Need-slice-aggregate-build-all-6
+slice-aggregate-build-all-6 c = search needs
 
-returns : tie.Need-returns Inv-loop μ-loop
+slice-aggregate-build-all-7 : tie.Need-slice-aggregate-build-all-7
+slice-aggregate-build-all-7 c = search needs
+
+slice-aggregate-build-all-8 : tie.Need-slice-aggregate-build-all-8
+slice-aggregate-build-all-8 c = search needs
+
+slice-aggregate-build-all-9 : tie.Need-slice-aggregate-build-all-9
+slice-aggregate-build-all-9 c = search needs
+
+build-all-requires : tie.Need-build-all-requires
+build-all-requires c κs =
+    let k = c .before .before .before .before .before .before .before .before .before .before .before .before .before .before in
+    let s = k .before .before .before .before .before .before .before .before .before .before .before .pre in
+    ready (s .0) (s .1) (k .look-below .last .1 .1 .1 .1 .1 .1 .1 .1 .0) (k .look-below .ensures (numbering (s .0) (s .1))) (k .look-below .kept .1 .1 .1 .1 .1 .1 .1 .1 .0)
+
+same-length : tie.Need-same-length
+same-length c = search needs
+
+returns : tie.Need-returns
 returns c =
-    let l = c .before .loop .inv in
-    let f = c .before .before .before .before in
-    let s = f .before .before .before .before in
-    recorded-from (s .pre .1) (f .first-walks .ensures) (recording-end (l .0) (l .1) (omega (arith, c .loop-test .left, s .pre .0)))
+    let k = c .before .before .before .before .before .before .before .before .before .before .before .before .before .before .before .before .before .before .before .before .before .before in
+    let s = k .before .before .before .before .before .before .before .before .before .before .before .pre in
+    c .before .before .before .before .before .before .before .build-all .ensures (ready (s .0) (s .1) (k .look-below .last .1 .1 .1 .1 .1 .1 .1 .1 .0) (k .look-below .ensures (numbering (s .0) (s .1))) (k .look-below .kept .1 .1 .1 .1 .1 .1 .1 .1 .0))
 
 pub build-record-spec : {M : Type 1} → statement M
 build-record-spec =
     tie.close
     (tie.spec
-    Inv-loop
-    μ-loop
-    first-walks-requires
-    loop-holds
-    add-ear-requires
-    add-row
-    add-step
-    loop-less
-    loop-again
+    slice-aggregate-look-below
+    slice-aggregate-look-below-2
+    slice-aggregate-look-below-3
+    slice-aggregate-look-below-4
+    look-below-requires
+    slice-aggregate-build-all
+    slice-aggregate-build-all-2
+    slice-aggregate-build-all-3
+    slice-aggregate-build-all-4
+    slice-aggregate-build-all-5
+    slice-aggregate-build-all-6
+    slice-aggregate-build-all-7
+    slice-aggregate-build-all-8
+    slice-aggregate-build-all-9
+    build-all-requires
     same-length
     returns)

@@ -1,38 +1,56 @@
--- `is_door` meets its contract: the edge leads from x and back, and the other end was seen.
-use Rattle.record.proofs.Doors.{far-fits, door-off, door-on}
+-- `is_door` meets its contract.
+use mathlib.Core.Path.{_≡_, refl}
+use mathlib.Core.Bool.{Bool, true, false}
+use Prim.Native.Nat.{ℕ, _≤_}
+use native.Mathlib.Omega.{arith}
+use lib.Dec.{leb}
 use borrow.Author.Needs.{needs}
+use borrow.Author.Tests.{leb-true, leb-false}
+use Rattle.graph.specs.Marks.{read}
+use Rattle.graph.specs.Tells.{Tells}
+use Rattle.record.specs.Opening.{Door}
 use Rattle.record.proofs.theta.is_door.Statement.{statement}
 use Rattle.record.proofs.theta.is_door.Tie as tie
 
-other-end-requires : tie.Need-other-end-requires
-other-end-requires c κs = search needs
+-- a test of two numbers, and a fact that goes with it
+tells-most : {P : Type 0} (a b : ℕ) → (a ≤ b → P) → (P → a ≤ b) → Tells (leb a b) P
+tells-most {P} a b f h = go (leb a b) refl
+  where
+    go : (t : Bool) → leb a b ≡ t → Tells t P
+    go true e = f (leb-true a b e)
+    go false e = λ p. omega (arith, leb-false a b e, h p)
 
-other-end-requires-2 : tie.Need-other-end-requires-2
-other-end-requires-2 c κs = search needs
+mul-if1 : tie.Need-mul-if1
+mul-if1 c = search needs
+
+shared-slice-read-if1 : tie.Need-shared-slice-read-if1
+shared-slice-read-if1 c = search needs
+
+add-if1 : tie.Need-add-if1
+add-if1 c = search needs
 
 returns : tie.Need-returns
-returns c = let v = c .before .before in door-off _ (v .before .before .before .pre) (rw (← v .other-end .ensures, ← c .before .other-end2 .ensures) (c .if1 .taken))
-
-cast-result : tie.Need-cast-result
-cast-result c = search needs
+returns c = λ d. d .off (c .if1 .taken)
 
 mul-result : tie.Need-mul-result
 mul-result c = search needs
 
 shared-slice-read-result : tie.Need-shared-slice-read-result
-shared-slice-read-result c = let v = c .before .before .before in rw (v .other-end .ensures) (far-fits _ (v .before .before .before .pre))
+shared-slice-read-result c = search needs
 
 returns-2 : tie.Need-returns-2
-returns-2 c = let v = c .before .before .before in rw (v .other-end .ensures) (door-on _ (v .before .before .before .pre) (rw (← v .other-end .ensures, ← c .before .before .other-end2 .ensures) (c .before .if1 .left)))
+returns-2 c =
+    let a = c .before .before .before .args in
+    tells-most {P = Door (read (a .first .now)) (read (a .number .now)) (a .end) (a .e) (a .w)} _ _ (λ h. record { off = c .before .if1 .left; low = h }) (λ d. d .low)
 
 pub is-door-spec : {M : Type 1} → statement M
 is-door-spec =
     tie.close
     (tie.spec
-    other-end-requires
-    other-end-requires-2
+    mul-if1
+    shared-slice-read-if1
+    add-if1
     returns
-    cast-result
     mul-result
     shared-slice-read-result
     returns-2)

@@ -1,48 +1,43 @@
--- `meeting` meets its contract: the first way's vertices are marked, the second is followed to the first mark.
-use Prim.Native.Nat.{ℕ}
+-- `meeting` meets its contract: the first way's vertices are marked, the second is followed to the first mark, and the marks are taken back.
 use native.Mathlib.Omega.{arith}
-use lib.ListN.{length, replicate, length-replicate}
-use Rattle.graph.proofs.Tally.{zeros}
-use Rattle.record.proofs.Meeting.{way-of, toward-of, meeting-at}
 use borrow.Author.Needs.{needs}
+use Rattle.record.proofs.TwoWays.{marking, toward, meeting-at, unmarked}
 use Rattle.record.proofs.theta.meeting.Statement.{statement}
 use Rattle.record.proofs.theta.meeting.Tie as tie
 
-slice-aggregate-mark-climb : tie.Need-slice-aggregate-mark-climb
-slice-aggregate-mark-climb c = search needs
-
-mark-climb-requires : tie.Need-mark-climb-requires
-mark-climb-requires c κs =
-    let start = c .before .before .before in
-    let thousand = length-replicate {A = ℕ} 1000 0 in
-    way-of (length {A = ℕ} (replicate 1000 0)) (start .pre) (omega (arith, start .pre .admitted .vertices))
-
-slice-aggregate-first-marked : tie.Need-slice-aggregate-first-marked
-slice-aggregate-first-marked c = search needs
+mark-up-requires : tie.Need-mark-up-requires
+mark-up-requires c κs = let s = c .before .before .before .before in marking (s .pre) _ (s .pre .room)
 
 first-marked-requires : tie.Need-first-marked-requires
 first-marked-requires c κs =
-    let mark = c .before .before in
-    let start = mark .before .before .before .before in
-    let thousand = length-replicate {A = ℕ} 1000 0 in
-    let m = mark .mark-climb .ensures (way-of (length {A = ℕ} (replicate 1000 0)) (start .pre) (omega (arith, start .pre .admitted .vertices))) in
-    toward-of (start .pre) m (omega (arith, m .same-long, start .pre .admitted .vertices))
+    let k = c .before .before .before in
+    let s = k .before .before .before .before .before in
+    toward (s .pre) _ (k .mark-up .ensures .1 (marking (s .pre) _ (s .pre .room))) (omega (arith, k .mark-up .ensures .0, s .pre .room))
+
+mark-up-requires-2 : tie.Need-mark-up-requires-2
+mark-up-requires-2 c κs =
+    let k = c .before .before .before .before .before in
+    let s = k .before .before .before .before .before in
+    marking (s .pre) _ (omega (arith, k .mark-up .ensures .0, s .pre .room))
+
+same-length : tie.Need-same-length
+same-length c = search needs
 
 returns : tie.Need-returns
 returns c =
-    let mark = c .before .before .before in
-    let start = mark .before .before .before .before in
-    let thousand = length-replicate {A = ℕ} 1000 0 in
-    λ d.
-    let m = mark .mark-climb .ensures (way-of (length {A = ℕ} (replicate 1000 0)) d (omega (arith, d .admitted .vertices))) in
-    meeting-at d m (zeros 1000) (c .first-marked .ensures (toward-of d m (omega (arith, m .same-long, d .admitted .vertices))))
+    let l = c .before .before in
+    let f = l .before .before in
+    let k = f .before .before .before .before in
+    let found = k .mark-up .last .1 .1 .1 .1 .1 .0 in (
+      omega (arith, l .mark-up2 .ensures .0, k .mark-up .ensures .0),
+      λ d.
+          let m = k .mark-up .ensures .1 (marking d _ (d .room)) in (
+            unmarked d found m (l .mark-up2 .last .1 .1 .1 .1 .1 .0) (l .mark-up2 .ensures .1 (marking d _ (omega (arith, k .mark-up .ensures .0, d .room)))),
+            meeting-at d found m (f .first-marked .ensures (toward d found m (omega (arith, k .mark-up .ensures .0, d .room)))),
+          ),
+    )
 
 pub meeting-spec : {M : Type 1} → statement M
 meeting-spec =
     tie.close
-    (tie.spec
-    slice-aggregate-mark-climb
-    mark-climb-requires
-    slice-aggregate-first-marked
-    first-marked-requires
-    returns)
+    (tie.spec mark-up-requires first-marked-requires mark-up-requires-2 same-length returns)

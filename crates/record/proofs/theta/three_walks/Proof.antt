@@ -1,71 +1,68 @@
--- `three_walks` meets its contract: two doors, the place where their ways up meet, and three steps.
-use native.Mathlib.Omega.{arith}
-use Rattle.record.proofs.Opened.{has-edge, doors, below-one, below-two, meets, three-ready, opened}
+-- `three_walks` meets its contract: the three walks are written, then built.
 use borrow.Author.Needs.{needs}
+use Rattle.record.proofs.Beginning.{x-rises, rowed, raw, begun}
 use Rattle.record.proofs.theta.three_walks.Statement.{statement}
 use Rattle.record.proofs.theta.three_walks.Tie as tie
 
-shared-slice-read-r : tie.Need-shared-slice-read-r
-shared-slice-read-r c = omega (arith, has-edge (c .before .before .before .before .pre .sturdy))
+mul-e : tie.Need-mul-e
+mul-e c = search needs
 
-shared-slice-read-x : tie.Need-shared-slice-read-x
-shared-slice-read-x c = omega (arith, has-edge (c .before .before .before .before .before .pre .sturdy))
+shared-slice-read-e : tie.Need-shared-slice-read-e
+shared-slice-read-e c = x-rises (c .before .before .before .before .before .before .before .before .before .pre) .long
 
-cast-edges : tie.Need-cast-edges
-cast-edges c = search needs
-
-next-door-requires : tie.Need-next-door-requires
-next-door-requires c κs = let p = c .before .before .before .before .before .pre in (doors (p .sturdy) (p .rooted), has-edge (p .sturdy))
-
-next-door-requires-2 : tie.Need-next-door-requires-2
-next-door-requires-2 c κs = let p = c .before .before .before .before .before .before .pre in (doors (p .sturdy) (p .rooted), below-one (p .sturdy) (p .rooted) (c .next-door .ensures))
+sub-e : tie.Need-sub-e
+sub-e c = x-rises (c .before .before .before .before .before .before .before .before .before .pre) .seen
 
 other-end-requires : tie.Need-other-end-requires
-other-end-requires c κs = let p = c .before .before .before .before .before .before .before .pre in below-one (p .sturdy) (p .rooted) (c .before .next-door .ensures)
-
-other-end-requires-2 : tie.Need-other-end-requires-2
-other-end-requires-2 c κs =
-    let two = c .before in
-    let p = two .before .before .before .before .before .before .before .pre in
-    below-two (p .sturdy) (p .rooted) (two .before .next-door .ensures) (two .next-door2 .ensures)
-
-meeting-requires : tie.Need-meeting-requires
-meeting-requires c κs =
-    let two = c .before .before in
-    let p = two .before .before .before .before .before .before .before .pre in
-    meets (p .sturdy) (p .rooted) (two .before .next-door .ensures) (two .next-door2 .ensures) (c .before .other-end .ensures) (c .other-end2 .ensures)
+other-end-requires c κs = x-rises (c .before .before .before .before .before .before .before .before .before .pre) .edge
 
 write-walks-requires : tie.Need-write-walks-requires
-write-walks-requires c κs =
-    let far = c .before .before in
-    let two = far .before .before in
-    let s = two .before .before .before .before .before .before .before in
-    three-ready (s .args .rows .now) (s .pre .sturdy) (s .pre .rooted) (two .before .next-door .ensures) (two .next-door2 .ensures) (far .before .other-end .ensures) (far .other-end2 .ensures)
-    (c .before .meeting .ensures)
+write-walks-requires c κs = let o = c .before in rowed (o .before .before .before .before .before .before .before .before .before .before .pre) (o .other-end .ensures)
+
+build-walks-requires : tie.Need-build-walks-requires
+build-walks-requires c κs = let o = c .before .before .before .before .before .before .before .before .before in raw (o .before .before .before .before .before .before .before .before .before .before .pre) (o .other-end .ensures)
 
 same-length : tie.Need-same-length
-same-length c = c .before .before .write-walks .kept .1 .1 .1 .1 .1 .1 .1 .1 .1 .0
+same-length c = search needs
+
+same-length-2 : tie.Need-same-length-2
+same-length-2 c = search needs
+
+same-length-3 : tie.Need-same-length-3
+same-length-3 c = search needs
+
+same-length-4 : tie.Need-same-length-4
+same-length-4 c = search needs
+
+same-length-5 : tie.Need-same-length-5
+same-length-5 c = search needs
+
+same-length-6 : tie.Need-same-length-6
+same-length-6 c = search needs
 
 returns : tie.Need-returns
 returns c =
-    let write = c .before .before in
-    let far = write .before .before .before in
-    let two = far .before .before in
-    λ p. opened (two .before .before .before .before .before .before .before .args .rows .now) (p .sturdy) (p .rooted) (two .before .next-door .ensures) (two .next-door2 .ensures) (far .before .other-end .ensures) (far .other-end2 .ensures)
-    (write .before .before .meeting .ensures) (write .write-walks .last .1 .1 .1 .1 .1 .1 .1 .1 .1 .0) (write .write-walks .ensures)
+    let k = c .before .before .before .before .before .before .before .before .before .before in
+    let m = k .before .before .before .before .before .before .before .before in
+    let o = m .before .before in
+    λ q. begun (o .before .before .before .before .before .before .before .before .before .before .args .rows .now) q (o .other-end .ensures) (m .write-walks .last .1 .1 .1 .1 .1 .1 .1 .1 .1 .1 .0)
+    (k .build-walks .last .1 .1 .1 .1 .1 .1 .1 .1 .1 .1 .0) (k .build-walks .last .1 .1 .1 .1 .1 .1 .1 .1 .1 .1 .1 .0) (k .build-walks .last .1 .1 .1 .1 .1 .1 .1 .1 .1 .1 .1 .1 .0) (k .build-walks .last .1 .1 .1 .1 .1 .1 .1 .1 .1 .1 .1 .1 .1 .0) (k .build-walks .last .1 .1 .1 .1 .1 .1 .1 .1 .1 .1 .1 .1 .1 .1 .0)
+    (m .write-walks .ensures) (k .build-walks .ensures)
 
 pub three-walks-spec : {M : Type 1} → statement M
 three-walks-spec =
     tie.close
     (tie.spec
-    shared-slice-read-r
-    shared-slice-read-x
-    cast-edges
-    next-door-requires
-    next-door-requires-2
+    mul-e
+    shared-slice-read-e
+    sub-e
     other-end-requires
-    other-end-requires-2
-    meeting-requires
     write-walks-requires
+    build-walks-requires
     same-length
+    same-length-2
+    same-length-3
+    same-length-4
+    same-length-5
+    same-length-6
     returns)

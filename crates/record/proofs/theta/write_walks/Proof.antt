@@ -1,162 +1,136 @@
 -- `write_walks` meets its contract: three steps, each through the part of the list behind the rows before it.
-use Prim.Native.Nat.{_+_, _*_, _≤_}
+use mathlib.Core.List.{List, _++_}
+use Prim.Native.Nat.{ℕ, _+_, _-_, _*_, _≤_}
 use native.Mathlib.Omega.{arith}
-use lib.ListN.{length}
-use Rattle.record.proofs.ThreeRows.{high-room, high-is, high-fits, low-room, low-is, low-fits, side-room, side-is, three-written}
+use lib.ListN.{length, take, drop}
 use borrow.Author.Needs.{needs}
+use Rattle.connectivity.specs.Plan.{limits}
+use Rattle.record.proofs.ThreeRows.{high-room, one-fits, low-room, two-fits, side-room, three-fits, three-written}
 use Rattle.record.proofs.theta.write_walks.Statement.{statement}
 use Rattle.record.proofs.theta.write_walks.Tie as tie
 
--- the rows of the first step lie in the list
-first-fits : (up : tie.After-up-over) → 3 * up .up-over .result ≤ length (up .up-over .last .1 .1 .1 .1 .0)
-first-fits up =
-    let start = up .before .before .before .before .before in
-    high-fits (start .args .rows .now) (start .pre) (up .up-over .last .1 .1 .1 .1 .0) (up .up-over .result) (up .up-over .ensures)
+-- the rows of the first step lie in the list, and those of the first two
+one-long : (k : tie.After-write-walk) → (3 * k .write-walk .result ≤ length (k .write-walk .last .1 .1 .1 .1 .1 .1 .1 .0)) × (k .write-walk .result ≤ limits .edges)
+one-long k =
+    let s = k .before .before .before .before .before in
+    one-fits (s .args .rows .now) (s .pre) (k .write-walk .last .1 .1 .1 .1 .1 .1 .1 .0) (k .write-walk .result) (k .write-walk .ensures)
 
--- there are not many of them and of those of the second
-two-short : (over : tie.After-over-up) → over .before .before .before .before .up-over .result + over .over-up .result ≤ 2002
-two-short over =
-    let up = over .before .before .before .before in
-    let start = up .before .before .before .before .before in
-    let a = start .args in
-    omega (
-      arith,
-      high-is (a .rows .now) (start .pre) (up .up-over .last .1 .1 .1 .1 .0) (up .up-over .result) (up .up-over .ensures),
-      low-is (a .rows .now) (start .pre) (up .up-over .last .1 .1 .1 .1 .0) (up .up-over .result) (up .up-over .ensures)
-          (a .e2) (a .x) (over .over-up .result) (over .over-up .last .1 .1 .1 .1 .1 .1 .1 .0) (over .over-up .ensures),
-      start .pre .short-high,
-      start .pre .short-low,
-    )
+abbrev then : tie.After-write-walk2 → List ℕ
+then m =
+    let k = m .before .before .before .before in
+    let one = k .write-walk .last .1 .1 .1 .1 .1 .1 .1 .0 in
+    let i = k .write-walk .result in
+    take (3 * i) one ++ (m .write-walk2 .last .1 .1 .1 .1 .1 .1 .1 .0 ++ drop (length one - 3 * i) (drop (3 * i) one))
 
-up-over-requires : tie.Need-up-over-requires
-up-over-requires c κs = let start = c .before .before .before .before in high-room (start .args .rows .now) (start .pre)
+two-long : (m : tie.After-write-walk2)
+    → (3 * (m .before .before .before .before .write-walk .result + m .write-walk2 .result) ≤ length (then m))
+    × (m .before .before .before .before .write-walk .result + m .write-walk2 .result ≤ limits .edges)
+two-long m =
+    let k = m .before .before .before .before in
+    let s = k .before .before .before .before .before in
+    two-fits (s .args .rows .now) (s .pre) (k .write-walk .last .1 .1 .1 .1 .1 .1 .1 .0) (k .write-walk .result) (k .write-walk .ensures)
+    (m .write-walk2 .last .1 .1 .1 .1 .1 .1 .1 .0) (m .write-walk2 .result) (m .write-walk2 .ensures)
 
-cast-over-up : tie.Need-cast-over-up
-cast-over-up c = search needs
+write-walk-requires : tie.Need-write-walk-requires
+write-walk-requires c κs = let s = c .before .before .before .before in high-room (s .args .rows .now) (s .pre)
 
-mul-over-up : tie.Need-mul-over-up
-mul-over-up c = search needs
+cast-write-walk : tie.Need-cast-write-walk
+cast-write-walk c = search needs
 
-mul-over-up-2 : tie.Need-mul-over-up-2
-mul-over-up-2 c = search needs
+mul-write-walk : tie.Need-mul-write-walk
+mul-write-walk c = search needs
 
-sub-over-up : tie.Need-sub-over-up
-sub-over-up c = omega (arith, first-fits (c .before .before))
+mul-write-walk-2 : tie.Need-mul-write-walk-2
+mul-write-walk-2 c = search needs
 
-part-over-up-start : tie.Need-part-over-up-start
-part-over-up-start c = omega (arith, first-fits (c .before .before))
+sub-write-walk : tie.Need-sub-write-walk
+sub-write-walk c = omega (arith, one-long (c .before .before))
 
-part-over-up-end : tie.Need-part-over-up-end
-part-over-up-end c = search needs
+part-write-walk-start : tie.Need-part-write-walk-start
+part-write-walk-start c = omega (arith, one-long (c .before .before))
 
-over-up-requires : tie.Need-over-up-requires
-over-up-requires c κs =
-    let up = c .before .before .before in
-    let start = up .before .before .before .before .before in
-    let a = start .args in
-    low-room (a .rows .now) (start .pre) (up .up-over .last .1 .1 .1 .1 .0) (up .up-over .result) (up .up-over .ensures)
+part-write-walk-end : tie.Need-part-write-walk-end
+part-write-walk-end c = search needs
 
-add-over-up : tie.Need-add-over-up
-add-over-up c = omega (arith, two-short (c .before .before))
+write-walk-requires-2 : tie.Need-write-walk-requires-2
+write-walk-requires-2 c κs =
+    let k = c .before .before .before in
+    let s = k .before .before .before .before .before in
+    low-room (s .args .rows .now) (s .pre) (k .write-walk .last .1 .1 .1 .1 .1 .1 .1 .0) (k .write-walk .result) (k .write-walk .ensures)
 
-cast-over-up-2 : tie.Need-cast-over-up-2
-cast-over-up-2 c = search needs
+add-write-walk : tie.Need-add-write-walk
+add-write-walk c = omega (arith, two-long (c .before .before))
 
-mul-over-up-3 : tie.Need-mul-over-up-3
-mul-over-up-3 c = search needs
+cast-write-walk-2 : tie.Need-cast-write-walk-2
+cast-write-walk-2 c = search needs
 
-mul-over-up-4 : tie.Need-mul-over-up-4
-mul-over-up-4 c = search needs
+mul-write-walk-3 : tie.Need-mul-write-walk-3
+mul-write-walk-3 c = search needs
 
-sub-over-up-2 : tie.Need-sub-over-up-2
-sub-over-up-2 c =
-    let over = c .before .before in
-    let up = over .before .before .before .before in
-    let start = up .before .before .before .before .before in
-    let a = start .args in
-    omega (
-      arith,
-      low-fits (a .rows .now) (start .pre) (up .up-over .last .1 .1 .1 .1 .0) (up .up-over .result) (up .up-over .ensures)
-          (a .e2) (a .x) (over .over-up .result) (over .over-up .last .1 .1 .1 .1 .1 .1 .1 .0) (over .over-up .ensures),
-    )
+mul-write-walk-4 : tie.Need-mul-write-walk-4
+mul-write-walk-4 c = search needs
 
-part-over-up-start-2 : tie.Need-part-over-up-start-2
-part-over-up-start-2 c =
-    let over = c .before .before in
-    let up = over .before .before .before .before in
-    let start = up .before .before .before .before .before in
-    let a = start .args in
-    omega (
-      arith,
-      low-fits (a .rows .now) (start .pre) (up .up-over .last .1 .1 .1 .1 .0) (up .up-over .result) (up .up-over .ensures)
-          (a .e2) (a .x) (over .over-up .result) (over .over-up .last .1 .1 .1 .1 .1 .1 .1 .0) (over .over-up .ensures),
-    )
+sub-write-walk-2 : tie.Need-sub-write-walk-2
+sub-write-walk-2 c = omega (arith, two-long (c .before .before))
 
-part-over-up-end-2 : tie.Need-part-over-up-end-2
-part-over-up-end-2 c = search needs
+part-write-walk-start-2 : tie.Need-part-write-walk-start-2
+part-write-walk-start-2 c = omega (arith, two-long (c .before .before))
 
-over-up-requires-2 : tie.Need-over-up-requires-2
-over-up-requires-2 c κs =
-    let over = c .before .before .before in
-    let up = over .before .before .before .before in
-    let start = up .before .before .before .before .before in
-    let a = start .args in
-    side-room (a .rows .now) (start .pre) (up .up-over .last .1 .1 .1 .1 .0) (up .up-over .result) (up .up-over .ensures)
-    (a .e2) (a .x) (over .over-up .result) (over .over-up .last .1 .1 .1 .1 .1 .1 .1 .0) (over .over-up .ensures)
+part-write-walk-end-2 : tie.Need-part-write-walk-end-2
+part-write-walk-end-2 c = search needs
+
+write-walk-requires-3 : tie.Need-write-walk-requires-3
+write-walk-requires-3 c κs =
+    let m = c .before .before .before in
+    let k = m .before .before .before .before in
+    let s = k .before .before .before .before .before in
+    side-room (s .args .rows .now) (s .pre) (k .write-walk .last .1 .1 .1 .1 .1 .1 .1 .0) (k .write-walk .result) (k .write-walk .ensures)
+    (m .write-walk2 .last .1 .1 .1 .1 .1 .1 .1 .0) (m .write-walk2 .result) (m .write-walk2 .ensures)
 
 add-result : tie.Need-add-result
-add-result c = omega (arith, two-short (c .before .before .before .before .before .before))
+add-result c = omega (arith, two-long (c .before .before .before .before .before .before))
 
 add-result-2 : tie.Need-add-result-2
 add-result-2 c =
-    let last = c .before .before in
-    let over = last .before .before .before .before in
-    let up = over .before .before .before .before in
-    let start = up .before .before .before .before .before in
-    let a = start .args in
-    omega (
-      arith,
-      two-short over,
-      side-is (a .rows .now) (start .pre) (up .up-over .last .1 .1 .1 .1 .0) (up .up-over .result) (up .up-over .ensures)
-          (a .e2) (a .x) (over .over-up .result) (over .over-up .last .1 .1 .1 .1 .1 .1 .1 .0) (over .over-up .ensures)
-          (a .e3) (last .over-up2 .result) (last .over-up2 .last .1 .1 .1 .1 .1 .1 .1 .0) (last .over-up2 .ensures),
-      start .pre .short-side,
-    )
+    let l = c .before .before in
+    let m = l .before .before .before .before in
+    let k = m .before .before .before .before in
+    let s = k .before .before .before .before .before in
+    omega (arith, three-fits (s .args .rows .now) (s .pre) (k .write-walk .last .1 .1 .1 .1 .1 .1 .1 .0) (k .write-walk .result) (k .write-walk .ensures) (m .write-walk2 .last .1 .1 .1 .1 .1 .1 .1 .0) (m .write-walk2 .result) (m .write-walk2 .ensures) (l .write-walk3 .last .1 .1 .1 .1 .1 .1 .1 .0) (l .write-walk3 .result) (l .write-walk3 .ensures))
 
 same-length : tie.Need-same-length
 same-length c = search needs
 
 returns : tie.Need-returns
 returns c =
-    let last = c .before .before in
-    let over = last .before .before .before .before in
-    let up = over .before .before .before .before in
-    let start = up .before .before .before .before .before in
-    let a = start .args in
-    λ d. three-written (a .rows .now) d (up .up-over .last .1 .1 .1 .1 .0) (up .up-over .result) (up .up-over .ensures)
-    (a .e2) (a .x) (over .over-up .result) (over .over-up .last .1 .1 .1 .1 .1 .1 .1 .0) (over .over-up .ensures)
-    (a .e3) (last .over-up2 .result) (last .over-up2 .last .1 .1 .1 .1 .1 .1 .1 .0) (last .over-up2 .ensures)
+    let l = c .before .before in
+    let m = l .before .before .before .before in
+    let k = m .before .before .before .before in
+    let s = k .before .before .before .before .before in
+    λ q. three-written (s .args .rows .now) q (k .write-walk .last .1 .1 .1 .1 .1 .1 .1 .0) (k .write-walk .result) (k .write-walk .ensures)
+    (m .write-walk2 .last .1 .1 .1 .1 .1 .1 .1 .0) (m .write-walk2 .result) (m .write-walk2 .ensures)
+    (l .write-walk3 .last .1 .1 .1 .1 .1 .1 .1 .0) (l .write-walk3 .result) (l .write-walk3 .ensures)
 
 pub write-walks-spec : {M : Type 1} → statement M
 write-walks-spec =
     tie.close
     (tie.spec
-    up-over-requires
-    cast-over-up
-    mul-over-up
-    mul-over-up-2
-    sub-over-up
-    part-over-up-start
-    part-over-up-end
-    over-up-requires
-    add-over-up
-    cast-over-up-2
-    mul-over-up-3
-    mul-over-up-4
-    sub-over-up-2
-    part-over-up-start-2
-    part-over-up-end-2
-    over-up-requires-2
+    write-walk-requires
+    cast-write-walk
+    mul-write-walk
+    mul-write-walk-2
+    sub-write-walk
+    part-write-walk-start
+    part-write-walk-end
+    write-walk-requires-2
+    add-write-walk
+    cast-write-walk-2
+    mul-write-walk-3
+    mul-write-walk-4
+    sub-write-walk-2
+    part-write-walk-start-2
+    part-write-walk-end-2
+    write-walk-requires-3
     add-result
     add-result-2
     same-length

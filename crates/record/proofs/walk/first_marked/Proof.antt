@@ -1,7 +1,7 @@
 -- `first_marked` meets its contract. The loop's invariant: the first marked vertex is still ahead.
 use native.Mathlib.Omega.{arith}
-use Rattle.record.proofs.Paths.{rises}
-use Rattle.record.proofs.Marking.{HeadingAll, ahead, heading-start, heading-below, heading-next, heading-step, heading-less, heading-end}
+use Rattle.record.proofs.Paths.{onward-start}
+use Rattle.record.proofs.Meeting.{HeadingAll, toward, heading-below, heading-rises, heading-step, heading-less, heading-end}
 use Rattle.record.proofs.walk.first_marked.Statement.{statement}
 use Rattle.record.proofs.walk.first_marked.Tie as tie
 
@@ -9,43 +9,45 @@ abbrev Inv-loop : tie.InvT-loop
 Inv-loop ends first marks v at₀ at = HeadingAll ends first marks v at
 
 abbrev μ-loop : tie.MeasureT-loop
-μ-loop ends first marks v at₀ at = ahead ends first marks at
+μ-loop ends first marks v at₀ at = toward ends first marks at
 
 loop-holds : tie.Need-loop-holds Inv-loop μ-loop
-loop-holds c =
-    let a = c .before .before .before .args in
-    heading-start (a .ends .now) (a .first .now) (a .marks .now) (a .v)
+loop-holds c = λ d. onward-start (d .way)
 
 cast-if1 : tie.Need-cast-if1 Inv-loop μ-loop
 cast-if1 c =
     let pre = c .before .before .before .before .pre in
-    omega (arith, heading-below (c .loop .inv pre), pre .room)
+    omega (arith, heading-below pre (c .loop .inv pre))
+
+mul-if1 : tie.Need-mul-if1 Inv-loop μ-loop
+mul-if1 c =
+    let pre = c .before .before .before .before .pre in
+    omega (arith, heading-below pre (c .loop .inv pre))
 
 shared-slice-read-if1 : tie.Need-shared-slice-read-if1 Inv-loop μ-loop
 shared-slice-read-if1 c =
-    let l = c .before in
-    let pre = l .before .before .before .before .pre in
-    omega (arith, heading-below (l .loop .inv pre), pre .room)
+    let pre = c .before .before .before .before .before .pre in
+    heading-below pre (c .before .loop .inv pre)
 
 above-requires : tie.Need-above-requires Inv-loop μ-loop
 above-requires c κs =
     let l = c .before .before in
     let pre = l .before .before .before .before .pre in
-    rises (pre .long) (heading-next (l .loop .inv pre) (c .if1 .taken))
+    heading-rises pre (l .loop .inv pre) (c .if1 .taken)
 
 loop-less : tie.Need-loop-less Inv-loop μ-loop
 loop-less c =
     let l = c .before .before .before in
     let pre = l .before .before .before .before .pre in
-    rw (c .above .ensures) (heading-less (l .loop .inv pre) (c .before .if1 .taken))
+    rw (c .above .ensures) (heading-less pre (l .loop .inv pre) (c .before .if1 .taken))
 
 loop-again : tie.Need-loop-again Inv-loop μ-loop
 loop-again c =
     let l = c .before .before .before in
-    λ d. rw (c .above .ensures) (heading-step (l .loop .inv d) (c .before .if1 .taken))
+    λ d. rw (c .above .ensures) (heading-step d (l .loop .inv d) (c .before .if1 .taken))
 
 returns : tie.Need-returns Inv-loop μ-loop
-returns c = λ d. heading-end (c .before .before .loop .inv d) (c .if1 .left)
+returns c = λ d. heading-end d (c .before .before .loop .inv d) (c .if1 .left)
 
 pub first-marked-spec : {M : Type 1} → statement M
 first-marked-spec =
@@ -55,6 +57,7 @@ first-marked-spec =
     μ-loop
     loop-holds
     cast-if1
+    mul-if1
     shared-slice-read-if1
     above-requires
     loop-less

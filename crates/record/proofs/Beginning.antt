@@ -1,0 +1,149 @@
+-- From the tables of the tree to the first three walks: their doors, where the ways up meet, and what writing and building them asks.
+use mathlib.Core.Path.{_≡_, refl, sym, _∙_, subst}
+use mathlib.Core.List.{List}
+use Prim.Native.Nat.{ℕ, _+_, _-_, _/_, _≤_, _<_}
+use native.Mathlib.Omega.{arith}
+use lib.ListN.{length}
+use Rattle.connectivity.specs.Plan.{plan, graph}
+use Rattle.connectivity.specs.Graph.{Graph}
+use Rattle.tree.specs.Tree.{Pointers, Passing}
+use Rattle.tree.proofs.Above.{parent-vertex, climb-end}
+use Rattle.tree.proofs.Begin.{meeting-child}
+use Rattle.graph.specs.Marks.{read}
+use Rattle.graph.proofs.Joined.{vertex-below, joins-below, joins-edge}
+use Rattle.record.specs.Ways.{farEnd, nextUp, Rises}
+use Rattle.record.specs.Standing.{Listed, Ground, treeOf}
+use Rattle.record.specs.Recording.{Beginning, Begun}
+use Rattle.record.specs.Opening.{NextDoor, Meets, Meeting, Met, Climbs, threeWalks, Rowed, RowedBy, Raw, RaisedBy, Threefold}
+use Rattle.record.proofs.Climbing.{parent-is, child-rises}
+use Rattle.record.proofs.Doors.{eldest-child, root-below, doors-differ, one-leads, other-leads}
+use Rattle.record.proofs.TwoWays.{above-climb, root-climb}
+use Rattle.record.proofs.ThreeRows.{x-child}
+
+-- What `three_walks` asks is what its parts ask.
+
+module _ {ends first places below tops bottoms used : List ℕ} {root x f w d u room : ℕ} (c : Threefold ends first root x f w d u places below tops bottoms used room) where
+  pub x-rises : Rises ends first x
+  x-rises = child-rises (c .climbs .rooted) (x-child (c .climbs))
+
+  module _ {p : ℕ} (q : p ≡ nextUp ends first x) where
+    pub parent-of : p ≡ treeOf (c .n) ends root first (c .rank) .parent x
+    parent-of = q ∙ sym (parent-is (c .climbs .rooted) (x-child (c .climbs)))
+
+    abbrev pub rowed : Rowed ends first root x (read first x - 1) p f w d u room
+    rowed = record { n = c .n; rank = c .rank; climbs = c .climbs; edge = refl; parent = parent-of; fits = c .fits }
+
+    abbrev pub raw : Raw ends first root x (read first x - 1) p f w d u places below tops bottoms used
+    raw = record {
+      n = c .n;
+      rank = c .rank;
+      climbs = c .climbs;
+      edge = refl;
+      parent = parent-of;
+      places-blank = c .places-blank;
+      below-blank = c .below-blank;
+      used-blank = c .used-blank;
+      roomy = c .roomy;
+      used-long = c .used-long;
+    }
+
+pub begun : {ends first places below tops bottoms used : List ℕ} {root x f w d u p : ℕ} (before : List ℕ)
+    (c : Threefold ends first root x f w d u places below tops bottoms used (length before)) (q : p ≡ nextUp ends first x)
+    (after places' below' tops' bottoms' used' : List ℕ) {count next : ℕ} → RowedBy ends first root x (read first x - 1) p f w d u before after count
+    → RaisedBy ends first root x (read first x - 1) p f w d u places below tops bottoms used places' below' tops' bottoms' used' next
+    → Begun (c .n) root ends first (c .rank) before after places' below' tops' bottoms' used' count next
+begun {first = first} {root = root} {x = x} {f = f} {d = d} before c q after places' below' tops' bottoms' used' r b = record {
+  walks = threeWalks root x f (read first x - 1) d (c .climbs .low) (c .climbs .high) (c .climbs .side);
+  three = refl;
+  holds = b (raw c q);
+  written = r (rowed c q) .0;
+  count = r (rowed c q) .1;
+}
+
+-- The doors, and where the ways up meet.
+
+module _ {n root : ℕ} {ends incident begins first order number last over : List ℕ} (s : Ground n root ends incident begins first number last over)
+    (l : Listed n root order number) {i k : ℕ} (o : NextDoor ends incident begins first number (read last (read order 1)) root (read begins root) i)
+    (h : NextDoor ends incident begins first number (read last (read order 1)) root (i + 1) k) where
+  abbrev g : Graph
+  g = graph (plan n ends)
+
+  abbrev t : Pointers
+  t = treeOf n ends root first (read number)
+
+  pub one-edge : read incident i < length ends / 2
+  one-edge = joins-edge n ends _ root _ (one-leads s l o h .back .joins)
+
+  pub other-edge : read incident k < length ends / 2
+  other-edge = joins-edge n ends _ root _ (other-leads s l o h .back .joins)
+
+  pub one-place : i < length incident
+  one-place = omega (arith, o .most, s .grouped .inside root (root-below s l), s .grouped .long)
+
+  pub other-place : k < length incident
+  other-place = omega (arith, h .most, s .grouped .inside root (root-below s l), s .grouped .long)
+
+  module _ {w u : ℕ} (to-w : w ≡ farEnd ends (read incident i) root) (to-u : u ≡ farEnd ends (read incident k) root) where
+    pub one-passing : Passing g t (read order 1) (read incident i) root w
+    one-passing = subst (λ (y : ℕ). Passing g t (read order 1) (read incident i) root y) (sym to-w) (one-leads s l o h)
+
+    pub other-passing : Passing g t (read order 1) (read incident k) root u
+    other-passing = subst (λ (y : ℕ). Passing g t (read order 1) (read incident k) root y) (sym to-u) (other-leads s l o h)
+
+    abbrev pub meets : (places : List ℕ) → n ≤ length places → ((v : ℕ) → read places v ≡ 0) → Meets ends first w u root places
+    meets places long blank = record {
+      n = n;
+      rank = read number;
+      rooted = s .rooted;
+      one = joins-below n ends _ root w (one-passing .back .joins);
+      other = joins-below n ends _ root u (other-passing .back .joins);
+      room = long;
+      blank = blank;
+    }
+
+    pub climbs : {x : ℕ} → Meeting g t w u x → Climbs n root ends first (read number) x (read incident i) w (read incident k) u
+    climbs {x} m =
+        let (low, to-x) = above-climb (s .rooted) (climb-end (m .climb)) in
+        let (high, up) = root-climb (s .rooted) (vertex-below n ends _ (parent-vertex (s .rooted .tree)
+        (meeting-child (s .rooted .tree) (eldest-child s l) one-passing other-passing (m .climb)))) in
+        record {
+          rooted = s .rooted;
+          c = read order 1;
+          child = eldest-child s l;
+          one = one-passing;
+          other = other-passing;
+          differ = doors-differ s l o h;
+          low = low;
+          to-x = to-x;
+          high = high;
+          up = up;
+          side = m .legs;
+          meets = m .climb;
+        }
+
+module _ {ends incident begins first order number last places below tops bottoms used : List ℕ} {room : ℕ}
+    (c : Beginning ends incident begins first order number last places below tops bottoms used room) {i k w u x : ℕ}
+    (o : NextDoor ends incident begins first number (read last (read order 1)) (read order 0) (read begins (read order 0)) i)
+    (h : NextDoor ends incident begins first number (read last (read order 1)) (read order 0) (i + 1) k)
+    (to-w : w ≡ farEnd ends (read incident i) (read order 0)) (to-u : u ≡ farEnd ends (read incident k) (read order 0)) (places' : List ℕ)
+    (m : Met ends first w u (read order 0) places places' x) where
+  pub met : ((v : ℕ) → read places' v ≡ 0) × Meeting (graph (plan (c .n) ends)) (treeOf (c .n) ends (read order 0) first (read number)) w u x
+  met = m .1 (meets (c .ground) (c .listing) o h to-w to-u places (c .roomy .places-long) (c .places-blank))
+
+  abbrev pub threefold : Threefold ends first (read order 0) x (read incident i) w (read incident k) u places' below tops bottoms used room
+  threefold = record {
+    n = c .n;
+    rank = read number;
+    climbs = climbs (c .ground) (c .listing) o h to-w to-u (met .1);
+    places-blank = met .0;
+    below-blank = c .below-blank;
+    used-blank = c .used-blank;
+    roomy = record {
+      below-long = c .roomy .below-long;
+      places-long = omega (arith, m .0, c .roomy .places-long);
+      tops-long = c .roomy .tops-long;
+      bottoms-long = c .roomy .bottoms-long;
+    };
+    used-long = c .used-long;
+    fits = c .fits;
+  }

@@ -1,0 +1,69 @@
+-- A climb of the tree is a way up in the tables.
+use mathlib.Core.Path.{_≡_, refl, sym, _∙_}
+use mathlib.Core.List.{List}
+use Prim.Native.Nat.{ℕ, _+_, _≤_, _<_}
+use native.Mathlib.Omega.{arith}
+use lib.ListN.{length}
+use Rattle.connectivity.specs.Plan.{plan, graph, limits}
+use Rattle.connectivity.specs.Graph.{Joins}
+use Rattle.connectivity.specs.Walk.{Leg, far}
+use Rattle.connectivity.proofs.Legs.{far-is}
+use Rattle.tree.specs.Tree.{Child, Climb, there, on}
+use Rattle.tree.proofs.Above.{climb-once, climb-new, climb-end}
+use Rattle.graph.specs.Marks.{read}
+use Rattle.graph.proofs.Joined.{vertex-below, joins-below, joins-edge}
+use Rattle.record.specs.Ways.{Way, Path, there as path-there, up, Rises, farEnd, nextUp}
+use Rattle.record.specs.Standing.{Rooted, treeOf}
+
+-- the far end, as the code has it
+far-same : (n : ℕ) (ends : List ℕ) (e v : ℕ) → far (graph (plan n ends)) e v ≡ farEnd ends e v
+unfolding far graph
+far-same n ends e v = refl
+
+pub far-end : (n : ℕ) (ends : List ℕ) (e v p : ℕ) → Joins (graph (plan n ends)) e v p → farEnd ends e v ≡ p
+far-end n ends e v p j = sym (far-same n ends e v) ∙ far-is j
+
+module _ {n root : ℕ} {ends first : List ℕ} {rank : ℕ → ℕ} (r : Rooted n ends root first rank) where
+  -- the parent, as the code has it
+  pub parent-is : {v : ℕ} → Child (graph (plan n ends)) (treeOf n ends root first rank) v → (treeOf n ends root first rank) .parent v ≡ nextUp ends first v
+  parent-is {v} c = far-same n ends _ v
+
+  pub child-rises : {v : ℕ} → Child (graph (plan n ends)) (treeOf n ends root first rank) v → Rises ends first v
+  child-rises {v} c = record {
+    long = omega (arith, vertex-below n ends v (c .vertex), r .long);
+    seen = r .marked v c;
+    edge = joins-edge n ends _ v _ (r .tree .joins v c);
+  }
+
+  pub climb-path : {S : ℕ → Type 0} {v w : ℕ} {legs : List Leg} → Climb (graph (plan n ends)) (treeOf n ends root first rank) S v legs w → Path (graph (plan n ends)) (read first) v legs w
+  climb-path (there s) = path-there
+  climb-path (on {v = v} c m k) = up (r .marked v c) (r .tree .joins v c) (climb-path k)
+
+  -- ranks fall along a climb
+  climb-ranks : {S : ℕ → Type 0} {v w : ℕ} {legs : List Leg} → Climb (graph (plan n ends)) (treeOf n ends root first rank) S v legs w → length legs + rank w ≤ rank v
+  climb-ranks (there s) = omega arith
+  climb-ranks (on {v = v} c m k) = omega (arith, r .tree .falls v c, climb-ranks k)
+
+  climb-ranked : {S : ℕ → Type 0} {v w : ℕ} {legs : List Leg} → Climb (graph (plan n ends)) (treeOf n ends root first rank) S v legs w → length legs ≤ n
+  climb-ranked (there s) = omega arith
+  climb-ranked (on {v = v} c m k) = omega (arith, r .tree .falls v c, climb-ranks k, r .few v (c .vertex))
+
+  pub climb-short : {S : ℕ → Type 0} {v w : ℕ} {legs : List Leg} → Climb (graph (plan n ends)) (treeOf n ends root first rank) S v legs w → v < n → length legs ≤ limits .vertices
+  climb-short k h = omega (arith, climb-ranked k, r .admitted .vertices)
+
+  pub climb-to-below : {S : ℕ → Type 0} {v w : ℕ} {legs : List Leg} → Climb (graph (plan n ends)) (treeOf n ends root first rank) S v legs w → v < n → w < n
+  climb-to-below (there s) h = h
+  climb-to-below (on {v = v} c m k) h = climb-to-below k (joins-below n ends _ v _ (r .tree .joins v c))
+
+  abbrev pub climb-way : {S : ℕ → Type 0} {v w : ℕ} {legs : List Leg} → Climb (graph (plan n ends)) (treeOf n ends root first rank) S v legs w → v < n → Way ends first v w
+  climb-way {legs = legs} k h = record {
+    n = n;
+    admitted = r .admitted;
+    long = r .long;
+    to = climb-to-below k h;
+    legs = legs;
+    path = climb-path k;
+    once = climb-once (r .tree) k;
+    apart = λ i. climb-new k i (climb-end k);
+    short = climb-short k h;
+  }

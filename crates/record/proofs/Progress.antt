@@ -1,0 +1,230 @@
+-- How a record comes on: the rows of each step are written behind those before it, the cursors stay behind what is built, and in the end every edge is.
+use mathlib.Core.Path.{_≡_, refl, sym, ap, _∙_, subst}
+use mathlib.Core.Logic.{inl, inr}
+use mathlib.Core.List.{List, [], _∷_, _++_, List·Memᴰ as In, Memᴰ·append-right as in-right}
+use Prim.Native.Nat.{ℕ, _+_, _-_, _*_, _/_, _≤_, _<_}
+use native.Mathlib.Omega.{arith}
+use lib.ListN.{length, take, drop, length-append}
+use Rattle.connectivity.specs.Plan.{plan, graph, limits}
+use Rattle.connectivity.specs.Walk.{Leg, edgesOf, allEdges}
+use Rattle.connectivity.specs.Mader.{rows, stepRows}
+use Rattle.tree.proofs.Along.{along-end}
+use Rattle.graph.specs.Marks.{read, Marked}
+use Rattle.connectivity.proofs.Lists.{in-dec}
+use Rattle.record.specs.Ways.{Written}
+use Rattle.record.specs.Standing.{Rooted, treeOf}
+use Rattle.record.specs.Recording.{Stepping, Stepped, Chosen, Behind, Nexting, Beginning, Begun, Recorded}
+use Rattle.record.specs.Progress.{Recording, Adding, Added, Going, Finishing, Ready}
+use Rattle.record.proofs.Written.{written-length, written-part, part-long}
+use Rattle.record.proofs.Counting.{legs-edges, all-rows, steps-most, done-most, done-all}
+
+-- what is written so far
+module _ {n root : ℕ} {ends first : List ℕ} {rank : ℕ → ℕ} {walks : List (List Leg)} {before now places below tops bottoms used : List ℕ} {row step next : ℕ}
+    (rooted : Rooted n ends root first rank) (r : Recording n root ends first rank walks before now places below tops bottoms used row step next) where
+  pub rows-long : length (rows walks) ≡ 3 * row
+  rows-long = omega (arith, all-rows walks, r .row-is)
+
+  pub row-most : row ≤ length ends / 2
+  row-most = omega (arith, r .row-is, done-most (rooted .admitted) (r .holds .state .along .steps) (r .holds .state .along .once))
+
+  pub now-long : length now ≡ length before
+  now-long = written-length (rows walks) before now (r .written) (omega (arith, rows-long, row-most, r .fits))
+
+  pub step-most : step ≤ row
+  step-most = omega (arith, r .row-is, r .step-is, steps-most (r .holds .state .along .steps))
+
+-- one step more
+module _ {ends first number depth : List ℕ} {f row step next : ℕ} {places below tops bottoms used now : List ℕ}
+    (c : Adding ends first number depth f row step next places below tops bottoms used now) where
+  pub row-room : 3 * row ≤ length now
+  row-room = omega (arith, row-most (c .rooted) (c .recording), now-long (c .rooted) (c .recording), c .recording .fits)
+
+  abbrev pub stepping : Stepping ends first number depth f next places below tops bottoms used (length (take (length now - 3 * row) (drop (3 * row) now)))
+  stepping = record {
+    n = c .n;
+    root = c .root;
+    rooted = c .rooted;
+    walks = c .walks;
+    holds = c .recording .holds;
+    chosen = c .chosen;
+    number-long = c .number-long;
+    depth-long = c .depth-long;
+    fits = omega (arith, part-long now (3 * row), now-long (c .rooted) (c .recording), c .recording .row-is, c .recording .fits);
+  }
+
+  module _ (part places' below' tops' bottoms' used' : List ℕ) {count next' : ℕ}
+      (s : Stepped (c .n) (c .root) ends first (read number) (c .walks) step next (take (length now - 3 * row) (drop (3 * row) now)) part places places' below' tops' bottoms' used' count next') where
+    recording-then : Recording (c .n) (c .root) ends first (read number) (s .legs ∷ c .walks) (c .before) (take (3 * row) now ++ (part ++ drop (length now - 3 * row) (drop (3 * row) now)))
+        places' below' tops' bottoms' used' (row + count) (step + 1) next'
+    recording-then = record {
+      holds = s .holds;
+      written = written-part (rows (c .walks)) (stepRows (length (c .walks)) (s .legs)) (c .before) now part (3 * row) (c .recording .written) (rows-long (c .rooted) (c .recording))
+          (subst (λ (k : ℕ). Written (stepRows k (s .legs)) (take (length now - 3 * row) (drop (3 * row) now)) part) (c .recording .step-is) (s .written));
+      row-is = omega (arith, s .counted, legs-edges (s .legs), c .recording .row-is, length-append (edgesOf (s .legs)) (allEdges (c .walks)));
+      step-is = omega (arith, c .recording .step-is);
+      fits = c .recording .fits;
+    }
+
+    pub row-then : row + count ≤ length ends / 2
+    row-then = row-most (c .rooted) recording-then
+
+    pub step-then : step + 1 ≤ length ends / 2
+    step-then = omega (arith, step-most (c .rooted) recording-then, row-then)
+
+    pub added : Added (c .n) (c .root) ends first (read number) (c .walks) (c .before) (take (3 * row) now ++ (part ++ drop (length now - 3 * row) (drop (3 * row) now)))
+        places places' below' tops' bottoms' used' row next (row + count) (step + 1) next'
+    added = record {
+      legs = s .legs;
+      recording = recording-then;
+      more-rows = omega (arith, s .some);
+      more = s .more;
+      gone = s .gone;
+    }
+
+-- Step after step.
+
+module _ {n : ℕ} {ends incident begins first order number last depth over before now places below tops bottoms used : List ℕ} {row step next empty at slot : ℕ}
+    (r : Going n ends incident begins first order number last depth over before now places below tops bottoms used row step next empty at slot) where
+  pub going-most : row ≤ length ends / 2
+  going-most = row-most (r .ground .rooted) (r .recording)
+
+  pub going-long : length now ≡ length before
+  going-long = now-long (r .ground .rooted) (r .recording)
+
+  -- an edge is left
+  module _ (left : row < length ends / 2) where
+    abbrev pub nexting : Nexting ends incident begins first order number last over places below tops bottoms used next empty at slot
+    nexting = record {
+      n = n;
+      ground = r .ground;
+      listing = r .listing;
+      walks = r .walks;
+      holds = r .recording .holds;
+      behind = r .behind;
+      left = omega (arith, left, r .recording .row-is);
+    }
+
+    module _ {f : ℕ} (h : Chosen (graph (plan n ends)) (treeOf n ends (read order 0) first (read number)) (allEdges (r .walks)) f) where
+      abbrev pub adding : Adding ends first number depth f row step next places below tops bottoms used now
+      adding = record {
+        n = n;
+        root = read order 0;
+        rooted = r .ground .rooted;
+        walks = r .walks;
+        before = before;
+        recording = r .recording;
+        chosen = h;
+        number-long = r .ground .number-long;
+        depth-long = r .depth-long;
+      }
+
+    -- what is built stays so, and links without an inside stay without
+    pub going-then : {places' : List ℕ} (below' tops' bottoms' used' now' : List ℕ) {empty' at' slot' row' step' next' : ℕ}
+        → Behind n (read incident) (read begins) (read order) (read places) (read used) next empty' at' slot'
+        → Added n (read order 0) ends first (read number) (r .walks) before now' places places' below' tops' bottoms' used' row next row' step' next'
+        → Going n ends incident begins first order number last depth over before now' places' below' tops' bottoms' used' row' step' next' empty' at' slot'
+    going-then {places'} below' tops' bottoms' used' now' b a = record {
+      ground = r .ground;
+      listing = r .listing;
+      depth-long = r .depth-long;
+      walks = a .legs ∷ r .walks;
+      recording = a .recording;
+      behind = record {
+        least = b .least;
+        most = omega (arith, b .most, a .more);
+        gone = λ m l h. a .gone m l (omega (arith, h, b .most)) (b .gone m l h);
+        at-below = b .at-below;
+        from = b .from;
+        to = b .to;
+        passed = λ i k h u v. still (read incident k) (b .passed i k h u v);
+        before = λ k u v. still (read incident k) (b .before k u v);
+      };
+    }
+      where
+        still : (e : ℕ) → Marked (read used) e → Marked (read used') e
+        still e m z = elim (in-dec e (allEdges (r .walks))) [
+          | yes i ↦ omega (arith, z, a .recording .holds .uses .on e (in-right (edgesOf (a .legs)) i))
+          | no o ↦ m (r .recording .holds .uses .off e o)
+        ]
+
+  -- every edge is built
+  pub recorded : length ends / 2 ≤ row → Recorded n ends before now
+  recorded h = record {
+    list = rows (r .walks);
+    builds = along-end (r .ground .three) (r .recording .holds .state .along)
+        (done-all (r .ground .rooted .admitted) (r .recording .holds .state .along .steps) (r .recording .holds .state .along .once) (omega (arith, h, going-most, r .recording .row-is)));
+    long = omega (arith, rows-long (r .ground .rooted) (r .recording), h, going-most);
+    written = r .recording .written;
+  }
+
+-- the cursors at first
+module _ {ends incident begins first order number last depth over places below tops bottoms used now : List ℕ} {row step next : ℕ}
+    (c : Finishing ends incident begins first order number last depth over places below tops bottoms used now row step next) where
+  some-vertex : 0 < c .n
+  some-vertex = omega (arith, c .ground .rooted .admitted .two)
+
+  top-below : read order 0 < c .n
+  top-below = c .listing .at 0 some-vertex .0
+
+  pub order-room : 0 < length order
+  order-room = omega (arith, some-vertex, c .listing .order-long)
+
+  pub begins-room : read order 0 < length begins
+  begins-room = omega (arith, top-below, c .ground .grouped .room)
+
+  pub going-first : {empty at slot : ℕ} → empty ≡ 2 → at ≡ 0 → slot ≡ read begins (read order 0)
+      → Going (c .n) ends incident begins first order number last depth over (c .before) now places below tops bottoms used row step next empty at slot
+  going-first {empty} {at} {slot} p q u = record {
+    ground = c .ground;
+    listing = c .listing;
+    depth-long = c .depth-long;
+    walks = c .walks;
+    recording = c .recording;
+    behind = rw p (rw q (rw u (record {
+      least = omega arith;
+      most = omega (arith, c .recording .holds .links .count);
+      gone = λ m l h. absurd (omega (arith, l, h));
+      at-below = some-vertex;
+      from = omega arith;
+      to = c .ground .grouped .ascends (read order 0) top-below;
+      passed = λ i k h. absurd (omega (arith, h));
+      before = λ k a b. absurd (omega (arith, a, b));
+    })));
+  }
+
+-- The first three walks.
+
+module _ {ends incident begins first order number last depth over places below tops bottoms used : List ℕ} {room : ℕ}
+    (c : Ready ends incident begins first order number last depth over places below tops bottoms used room) where
+  abbrev pub beginning : Beginning ends incident begins first order number last places below tops bottoms used room
+  beginning = record {
+    n = c .n;
+    over = over;
+    ground = c .ground;
+    listing = c .listing;
+    places-blank = c .places-blank;
+    below-blank = c .below-blank;
+    used-blank = c .used-blank;
+    roomy = c .roomy;
+    used-long = c .used-long;
+    fits = c .fits;
+  }
+
+  abbrev pub finishing : (before now places' below' tops' bottoms' used' : List ℕ) {count next : ℕ} → length before ≡ room
+      → Begun (c .n) (read order 0) ends first (read number) before now places' below' tops' bottoms' used' count next
+      → Finishing ends incident begins first order number last depth over places' below' tops' bottoms' used' now count 3 next
+  finishing before now places' below' tops' bottoms' used' p b = record {
+    n = c .n;
+    before = before;
+    ground = c .ground;
+    listing = c .listing;
+    depth-long = c .depth-long;
+    walks = b .walks;
+    recording = record {
+      holds = b .holds;
+      written = b .written;
+      row-is = b .count;
+      step-is = sym (b .three);
+      fits = omega (arith, c .fits, p);
+    };
+  }

@@ -1,0 +1,80 @@
+-- The search for an edge that is not built, turn by turn.
+use mathlib.Core.Path.{subst}
+use mathlib.Core.List.{List}
+use Prim.Native.Nat.{ℕ, _+_, _≤_, _<_}
+use native.Mathlib.Omega.{arith}
+use native.Mathlib.Decide.{ℕ-discrete, decLt}
+use lib.ListN.{length}
+use Rattle.graph.specs.Marks.{read, Marked}
+use Rattle.graph.proofs.Joined.{joins-edge}
+use Rattle.record.specs.Cursors.{NextSlot, Slots, Ahead, Opening, Opened, Scanned}
+
+module _ {incident begins order used : List ℕ} {at slot : ℕ} (c : Opening incident begins order used at slot) where
+  abbrev State : ℕ → ℕ → Type 0
+  State i from = Scanned (read incident) (read begins) (read order) (read used) at slot (c .n) i from
+
+  abbrev At : ℕ → ℕ → Type 0
+  At i k = Ahead (read order) (read begins) at slot (c .n) i k
+
+  pub scanned-start : State at slot
+  scanned-start = record {
+    least = omega arith;
+    most = c .at-below;
+    low = c .slot-from;
+    high = c .slot-to;
+    after = λ q. omega arith;
+    passed = λ j k a l. absurd (omega (arith, a .least));
+    before = λ k a l. absurd (omega (arith, a .after (omega arith)));
+  }
+
+  module _ {i from : ℕ} (s : State i from) where
+    abbrev end : ℕ
+    end = read begins (read order i + 1)
+
+    -- what is read on the way is there
+    pub scanned-vertex : (read order i < c .n) × (i < length order) × (read order i + 1 < length begins)
+    scanned-vertex = let v = c .valid i (s .most) in (v, omega (arith, s .most, c .order-long), omega (arith, v, c .grouped .room))
+
+    pub scanned-slots : Slots incident (length used) from end
+    scanned-slots =
+        let v = c .valid i (s .most) in
+        record {
+          low = s .high;
+          long = omega (arith, c .grouped .inside (read order i) v, c .grouped .long);
+          edges = λ k a b. let j = c .grouped .joins (read order i) k v (omega (arith, s .low)) b in omega (arith, joins-edge (c .n) (c .ends) (read incident k) (read order i) (j .0) (j .1), c .used-long);
+        }
+
+    module _ {r : ℕ} (t : NextSlot (read incident) (read used) from end r) where
+      -- up to where the search of the group ended all is built
+      up-to : (k : ℕ) → At i k → k < r → Marked (read used) (read incident k)
+      up-to k a l = elim (decLt k from) [ yes h ↦ s .before k a h | no h ↦ t .built k (omega arith) l ]
+
+      pub scanned-end : r < end → Opened (read incident) (read begins) (read order) (read used) at slot (c .n) i r
+      scanned-end l = record {
+        here = record { least = s .least; most = s .most; from = omega (arith, s .low, t .least); to = l; after = λ q. omega (arith, s .after q, t .least) };
+        new = t .new l;
+        passed = s .passed;
+        before = up-to;
+      }
+
+      module _ (whole : end ≤ r) where
+        passed : (j k : ℕ) → At j k → j < i + 1 → Marked (read used) (read incident k)
+        passed j k a l = elim (ℕ-discrete j i) [
+          | yes q ↦ let b : At i k = subst (λ (x : ℕ). At x k) q a in up-to k b (omega (arith, b .to))
+          | no h ↦ s .passed j k a (omega arith)
+        ]
+
+        -- this was not the last vertex
+        pub scanned-more : i + 1 < c .n
+        scanned-more = elim (decLt (i + 1) (c .n)) [ yes l ↦ l | no h ↦ absurd (c .some (λ j k a. passed j k a (omega (arith, a .most)))) ]
+
+        pub scanned-next : State (i + 1) (read begins (read order (i + 1)))
+        scanned-next = record {
+          least = omega (arith, s .least);
+          most = scanned-more;
+          low = omega arith;
+          high = c .grouped .ascends (read order (i + 1)) (c .valid (i + 1) scanned-more);
+          after = λ q. absurd (omega (arith, s .least));
+          passed = passed;
+          before = λ k a l. absurd (omega (arith, a .from));
+        }

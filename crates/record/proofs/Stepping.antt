@@ -1,0 +1,275 @@
+-- One step more: what each part of `add_path` asks holds, and in the end the tables hold the steps with it.
+use mathlib.Core.Path.{_≡_, refl, sym, _∙_, subst}
+use mathlib.Core.Logic.{_⊎_, inl, inr}
+use mathlib.Core.List.{List, [], _∷_, _++_, List·Memᴰ as In, List·Memᴰ·head as first-in, List·Memᴰ·tail as later, List·Memᴰ·cases-cons as in-cons, List·Memᴰ·append-cases as in-cases, Memᴰ·append-left as in-left, Memᴰ·append-right as in-right}
+use Prim.Native.Nat.{ℕ, _+_, _-_, _*_, _/_, _≤_, _<_}
+use native.Mathlib.Omega.{arith}
+use native.Mathlib.Decide.{ℕ-discrete, decLe}
+use lib.ListN.{length, length-append}
+use Rattle.connectivity.specs.Plan.{plan, graph, limits}
+use Rattle.connectivity.specs.Graph.{Graph, Vertex, Edge}
+use Rattle.connectivity.specs.Walk.{Leg, edgesOf, allEdges, froms, degree, Built, Branch}
+use Rattle.connectivity.specs.Mader.{MaderPath, stepRows}
+use Rattle.connectivity.proofs.Lists.{in-dec}
+use Rattle.connectivity.proofs.Reach.{joins-sym, joins-vertex}
+use Rattle.connectivity.proofs.Legs.{leg}
+use Rattle.tree.specs.Tree.{Pointers, Climb}
+use Rattle.tree.specs.Filed.{Marked, Grown, Belows}
+use Rattle.tree.specs.State.{Along}
+use Rattle.tree.specs.Links.{Shelved, Links}
+use Rattle.tree.proofs.Above.{climb-end, climb-new, climb-as}
+use Rattle.tree.proofs.Inside.{built-is-vertex, climb-built}
+use Rattle.tree.proofs.Along.{along-step}
+use Rattle.tree.proofs.State.{filed-marked, state-step, belows-map}
+use Rattle.tree.proofs.Shelving.{filed-built, filed-own, marked-map}
+use Rattle.graph.specs.Marks.{read, Marked as IsMarked}
+use Rattle.graph.proofs.Joined.{vertex-below, joins-edge}
+use Rattle.record.specs.Ways.{Toward, MetFirst, OneMore, OverUp, Written, Ended, upperEnd, farEnd}
+use Rattle.record.specs.Standing.{Rooted, treeOf}
+use Rattle.record.specs.Linking.{Filing, Splitting, Ending, BothParted, BothBy, Building, Walked, WalkedBy}
+use Rattle.record.specs.Leaving.{Uses}
+use Rattle.record.specs.Recording.{Holds, Chosen, Stepping, Stepped}
+use Rattle.record.proofs.Upper.{ended, back-upper, back-lower}
+use Rattle.record.proofs.Climbing.{climb-way}
+use Rattle.record.proofs.Ending.{filing-both, both-on, both-off, both-branch}
+use Rattle.record.proofs.Counting.{legs-edges, done-most}
+
+-- what the places say of a state
+module _ {n root : ℕ} {ends first : List ℕ} {rank : ℕ → ℕ} {walks : List (List Leg)} {places below tops bottoms used : List ℕ} {next : ℕ}
+    (rooted : Rooted n ends root first rank) (h : Holds n root ends first rank walks places below tops bottoms used next) where
+  branch-built : (v : ℕ) → Branch (graph (plan n ends)) (allEdges walks) v → Built (graph (plan n ends)) (allEdges walks) v
+  branch-built v b = omega (arith, b)
+
+  pub holds-built : (v : ℕ) → Built (graph (plan n ends)) (allEdges walks) v → 1 ≤ read places v
+  holds-built v b = filed-built (h .state .filed) {v = v} b
+
+  pub built-holds : (v : ℕ) → 1 ≤ read places v → Built (graph (plan n ends)) (allEdges walks) v
+  built-holds v b = h .state .filed .built v b
+
+  pub holds-filing : Filing n root ends first rank below places tops bottoms next
+  holds-filing = record {
+    rooted = rooted;
+    shelved = filed-own (h .state .filed) branch-built;
+    belows = belows-map holds-built built-holds (h .state .belows);
+    links = h .links;
+    roomy = h .roomy;
+  }
+
+module _ {ends first number depth : List ℕ} {f next : ℕ} {places below tops bottoms used : List ℕ} {room : ℕ}
+    (c : Stepping ends first number depth f next places below tops bottoms used room) where
+  abbrev pub g : Graph
+  g = graph (plan (c .n) ends)
+
+  abbrev pub t : Pointers
+  t = treeOf (c .n) ends (c .root) first (read number)
+
+  abbrev pub built : List ℕ
+  built = allEdges (c .walks)
+
+  -- the ends of f, as the code has them
+  pub f-ended : Ended ends number f
+  f-ended = ended (c .n) (c .root) ends first number (c .rooted) (c .number-long) (c .chosen .back .joins .edge)
+
+  pub upper-at : upperEnd ends number f ≡ c .chosen .upper
+  upper-at = back-upper (c .n) (c .root) ends first number (c .rooted) (c .chosen .back)
+
+  pub lower-at : farEnd ends f (c .chosen .upper) ≡ c .chosen .lower
+  lower-at = back-lower (c .n) (c .root) ends first number (c .rooted) (c .chosen .back)
+
+  pub lower-vertex : Vertex g (c .chosen .lower)
+  lower-vertex = joins-vertex (joins-sym (c .chosen .back .joins))
+
+  pub lower-below : c .chosen .lower < c .n
+  lower-below = vertex-below (c .n) ends (c .chosen .lower) lower-vertex
+
+  pub climb : (legs : List Leg) × (x : ℕ) × Climb g t (Built g built) (c .chosen .lower) legs x
+  climb = climb-built (c .rooted .tree) (c .holds .state .along .held) lower-vertex
+
+  abbrev pub legs : List Leg
+  legs = climb .0
+
+  abbrev pub end : ℕ
+  end = climb .1
+
+  pub path : MaderPath g built (c .chosen .upper) (leg f (c .chosen .upper) ∷ legs) end
+  path = c .chosen .path legs end (climb .2)
+
+  pub below-n : (v : ℕ) → Built g built v → v < c .n
+  below-n v b = vertex-below (c .n) ends v (built-is-vertex (c .rooted .tree) (c .holds .state .along .held) b)
+
+  -- to the first built vertex
+  abbrev pub toward : Toward ends first places (c .chosen .lower)
+  toward = record {
+    to = end;
+    way = climb-way (c .rooted) (climb .2) lower-below;
+    room = c .holds .roomy .places-long;
+    plain = λ u i. elim (decLe 1 (read places u)) [
+      | yes b ↦ absurd (climb-new (climb .2) i (built-holds (c .rooted) (c .holds) u b))
+      | no m ↦ omega (arith, m)
+    ];
+    met = λ z. omega (arith, z, holds-built (c .rooted) (c .holds) end (climb-end (climb .2)));
+  }
+
+  along-then : Along g t ((leg f (c .chosen .upper) ∷ legs) ∷ c .walks)
+  along-then = along-step (c .rooted .tree) (c .holds .state .along) (c .chosen .back) (c .chosen .new) (climb .2) path
+
+  -- the step's edges are new, so there is room for their rows
+  pub some-room : 3 * length legs + 3 ≤ room
+  some-room = omega (
+    arith,
+    done-most (c .rooted .admitted) (along-then .steps) (along-then .once),
+    length-append (edgesOf legs) built,
+    legs-edges legs,
+    c .fits,
+  )
+
+  abbrev pub one-more : OneMore ends first (c .chosen .lower) end room
+  one-more = record { way = climb-way (c .rooted) (climb .2) lower-below; fits = some-room }
+
+  -- both ends become branches
+  pub filing : Filing (c .n) (c .root) ends first (read number) below places tops bottoms next
+  filing = holds-filing (c .rooted) (c .holds)
+
+  pub upper-built : 1 ≤ read places (c .chosen .upper)
+  upper-built = holds-built (c .rooted) (c .holds) (c .chosen .upper) (path .begins)
+
+  abbrev pub splitting-upper : Splitting ends first below depth (c .chosen .upper) next places tops bottoms
+  splitting-upper = record {
+    n = c .n;
+    root = c .root;
+    rank = read number;
+    filing = filing;
+    vertex = below-n (c .chosen .upper) (path .begins);
+    built = upper-built;
+    depth-long = c .depth-long;
+  }
+
+  abbrev pub ending : Ending ends first below depth (c .chosen .upper) end next places tops bottoms
+  ending = record { splitting = splitting-upper; vertex = below-n end (path .ends); built = holds-built (c .rooted) (c .holds) end (path .ends) }
+
+  -- both are branches
+  module _ (places₂ tops₂ bottoms₂ : List ℕ) {next₂ : ℕ}
+      (both : BothParted g t (c .chosen .upper) end next (read places) (read places₂) (read tops₂) (read bottoms₂) next₂)
+      (same₂ : (length places₂ ≡ length places) × (length tops₂ ≡ length tops) × (length bottoms₂ ≡ length bottoms)) where
+    marked-upper : Marked g t (λ v. Branch g built v) (read places) (both .middle) (c .chosen .upper)
+    marked-upper = marked-map (λ p. c .holds .state .filed .branch (c .chosen .upper) p) (both .marked-one)
+
+    marked-end : Marked g t (λ v. Branch g built v ⊎ (v ≡ c .chosen .upper)) (both .middle) (read places₂) end
+    marked-end = marked-map (λ p. filed-marked (c .rooted .tree) (c .holds .state .filed) marked-upper .branch end p) (both .marked-two)
+
+    pub filing-two : Filing (c .n) (c .root) ends first (read number) below places₂ tops₂ bottoms₂ next₂
+    filing-two = filing-both places₂ tops₂ bottoms₂ filing upper-built (ending .built) both (same₂ .0) (same₂ .1) (same₂ .2)
+
+    pub on-two : (v : ℕ) → Built g built v → 1 ≤ read places₂ v
+    on-two v b = both-on (c .rooted .tree) (filing .shelved) upper-built (ending .built) both (holds-built (c .rooted) (c .holds) v b)
+
+    pub off-two : (v : ℕ) → 1 ≤ read places₂ v → Built g built v
+    off-two v b = built-holds (c .rooted) (c .holds) v (both-off (c .rooted .tree) (filing .shelved) upper-built (ending .built) both b)
+
+    abbrev pub building : Building ends first f (c .chosen .lower) end next₂ places₂ below tops₂ bottoms₂ used
+    building = record {
+      n = c .n;
+      root = c .root;
+      rank = read number;
+      filing = filing-two;
+      legs = legs;
+      climb = climb-as (climb .2) (on-two end (path .ends)) (λ v i b. climb-new (climb .2) i (off-two v b));
+      branch = both-branch (c .rooted .tree) (filing .shelved) upper-built (ending .built) both;
+      from = lower-below;
+      to = below-n end (path .ends);
+      edge = joins-edge (c .n) ends f (c .chosen .upper) (c .chosen .lower) (c .chosen .back .joins);
+      used-long = c .holds .used-long;
+    }
+
+    -- the inside of the walk is a link
+    module _ (places₃ below₃ tops₃ bottoms₃ used₃ : List ℕ) {next₃ : ℕ}
+        (three : Walked g t f legs next₂ (read places₂) (read below) (read used) (read places₃) (read below₃) (read tops₃) (read bottoms₃) (read used₃) next₃)
+        (same₃ : (length places₃ ≡ length places₂) × (length below₃ ≡ length below) × (length tops₃ ≡ length tops₂) × (length bottoms₃ ≡ length bottoms₂) × (length used₃ ≡ length used)) where
+      uses-then : Uses (edgesOf (leg f (c .chosen .upper) ∷ legs) ++ built) (read used₃)
+      uses-then = record {
+        on = λ e i. elim (in-cons i) [
+          | inl p ↦ subst (λ (x : ℕ). read used₃ x ≡ 1) (sym p) (three .used-edge)
+          | inr j ↦ elim (in-dec e (edgesOf legs)) [
+            | yes k ↦ three .used-on e k
+            | no k ↦ elim (ℕ-discrete e f) [
+              | yes p ↦ subst (λ (x : ℕ). read used₃ x ≡ 1) (sym p) (three .used-edge)
+              | no p ↦ three .used-off e p k ∙ c .holds .uses .on e (elim (in-cases (edgesOf legs) j) [ inl l ↦ absurd (k l) | inr l ↦ l ])
+            ]
+          ]
+        ];
+        off = λ e m. three .used-off e (λ p. m (first-in p)) (λ i. m (later (in-left built i))) ∙ c .holds .uses .off e (λ i. m (later (in-right (edgesOf legs) i)));
+      }
+
+      holds-then : Holds (c .n) (c .root) ends first (read number) ((leg f (c .chosen .upper) ∷ legs) ∷ c .walks) places₃ below₃ tops₃ bottoms₃ used₃ next₃
+      holds-then = record {
+        state = state-step (c .rooted .tree) (c .holds .state) (c .chosen .back) (c .chosen .new) (climb .2) path marked-upper marked-end (three .grown) (three .noted);
+        links = three .links;
+        uses = uses-then;
+        roomy = record {
+          below-long = omega (arith, same₃ .1, filing-two .roomy .below-long);
+          places-long = omega (arith, same₃ .0, filing-two .roomy .places-long);
+          tops-long = omega (arith, same₃ .2, filing-two .roomy .tops-long);
+          bottoms-long = omega (arith, same₃ .3, filing-two .roomy .bottoms-long);
+        };
+        used-long = omega (arith, same₃ .4, c .holds .used-long);
+      }
+
+      gone-then : (m : ℕ) → 2 ≤ m → m < next → ((y : ℕ) → read places y ≡ m → ⊥) → (y : ℕ) → read places₃ y ≡ m → ⊥
+      gone-then m l h none y p = elim (in-dec y (froms legs)) [
+        | yes i ↦ omega (arith, three .grown .new y i, p, h, both .more)
+        | no i ↦ both .gone m l h none y (sym (three .grown .away y i) ∙ p)
+      ]
+
+      pub stepped : {step count : ℕ} {before after : List ℕ} → next₂ ≤ next₃
+          → Written (stepRows step (leg f (c .chosen .upper) ∷ legs)) before after → count ≡ length legs + 1
+          → Stepped (c .n) (c .root) ends first (read number) (c .walks) step next before after places places₃ below₃ tops₃ bottoms₃ used₃ count next₃
+      stepped d w q = record {
+        legs = leg f (c .chosen .upper) ∷ legs;
+        holds = holds-then;
+        written = w;
+        counted = omega (arith, q);
+        some = omega (arith, q);
+        more = omega (arith, both .more, d);
+        gone = gone-then;
+      }
+
+-- the parts of a step, one after the other
+module _ {ends first number depth : List ℕ} {f next : ℕ} (step count : ℕ) {places below tops bottoms used : List ℕ} (rows : List ℕ)
+    (places₂ tops₂ bottoms₂ places₃ below₃ tops₃ bottoms₃ used₃ rows₃ : List ℕ) {s w x next₂ next₃ : ℕ}
+    (p : s ≡ upperEnd ends number f) (q : w ≡ farEnd ends f s) (m : MetFirst ends first places w x)
+    (r : OverUp ends first f s w x step rows rows₃ count)
+    (e : BothBy ends first below depth s x next places tops bottoms places₂ tops₂ bottoms₂ next₂)
+    (k : WalkedBy ends first f w x next₂ places₂ below tops₂ bottoms₂ used places₃ below₃ tops₃ bottoms₃ used₃ next₃)
+    (d : Stepping ends first number depth f next places below tops bottoms used (length rows)) where
+  is-upper : s ≡ d .chosen .upper
+  is-upper = p ∙ upper-at d
+
+  is-lower : w ≡ d .chosen .lower
+  is-lower = (rw is-upper at q) ∙ lower-at d
+
+  is-end : x ≡ end d
+  is-end = (rw is-lower at m) (toward d)
+
+  both-by : BothBy ends first below depth (d .chosen .upper) (end d) next places tops bottoms places₂ tops₂ bottoms₂ next₂
+  both-by = rw is-upper at (rw is-end at e)
+
+  walked-by : WalkedBy ends first f (d .chosen .lower) (end d) next₂ places₂ below tops₂ bottoms₂ used places₃ below₃ tops₃ bottoms₃ used₃ next₃
+  walked-by = rw is-lower at (rw is-end at k)
+
+  written-by : OverUp ends first f (d .chosen .upper) (d .chosen .lower) (end d) step rows rows₃ count
+  written-by = rw is-upper at (rw is-lower at (rw is-end at r))
+
+  both : BothParted (g d) (t d) (d .chosen .upper) (end d) next (read places) (read places₂) (read tops₂) (read bottoms₂) next₂
+  both = both-by .3 (ending d)
+
+  same₂ : (length places₂ ≡ length places) × (length tops₂ ≡ length tops) × (length bottoms₂ ≡ length bottoms)
+  same₂ = (e .0, e .1, e .2)
+
+  walked : Walked (g d) (t d) f (legs d) next₂ (read places₂) (read below) (read used) (read places₃) (read below₃) (read tops₃) (read bottoms₃) (read used₃) next₃ × (next₂ ≤ next₃)
+  walked = walked-by .5 (building d places₂ tops₂ bottoms₂ both same₂)
+
+  written : Written (stepRows step (leg f (d .chosen .upper) ∷ legs d)) rows rows₃ × (count ≡ length (legs d) + 1)
+  written = written-by (one-more d)
+
+  pub stepped-by : Stepped (d .n) (d .root) ends first (read number) (d .walks) step next rows rows₃ places places₃ below₃ tops₃ bottoms₃ used₃ count next₃
+  stepped-by = stepped d places₂ tops₂ bottoms₂ both same₂ places₃ below₃ tops₃ bottoms₃ used₃ (walked .0) (k .0, k .1, k .2, k .3, k .4) (walked .1) (written .0) (written .1)

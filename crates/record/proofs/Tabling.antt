@@ -1,0 +1,119 @@
+-- The tables of the tree: what the parts of making them ask holds, and in the end they stand.
+use mathlib.Core.Path.{_≡_, sym}
+use mathlib.Core.List.{List}
+use Prim.Native.Nat.{ℕ, _+_, _*_, _/_, _≤_, _<_}
+use native.Mathlib.Omega.{arith}
+use lib.ListN.{length, set, replicate, length-replicate}
+use Rattle.connectivity.specs.Plan.{plan, limits}
+use Rattle.graph.specs.Marks.{read}
+use Rattle.graph.proofs.Tally.{zeros}
+use Rattle.cuts.specs.declared.Lightest.{Lightest}
+use Rattle.cuts.specs.declared.Lightest.the-variants as light
+use Rattle.cuts.specs.Answered.{Answered}
+use Rattle.cuts.specs.Verdict.{handed, lowestHanded}
+use Rattle.cuts.proofs.Serving.{answered-own, uncut-passed, served-tabled, served-tables}
+use Rattle.record.specs.Standing.{Listed, Ground}
+use Rattle.record.specs.Numbers.{Ordering, Numbered, Deepening, Lowering}
+use Rattle.record.specs.Recording.{Sturdy}
+use Rattle.record.specs.Tabling.{Searched, Numbering}
+use Rattle.record.specs.Progress.{Ready}
+use Rattle.record.proofs.Grouping.{grouped-from}
+use Rattle.record.proofs.Grounding.{ordering, listing, deepening, lowering}
+
+-- a table of which nothing is set
+pub long : (k : ℕ) → length (replicate {A = ℕ} k 0) ≡ k
+long k = length-replicate k 0
+
+-- the answer over the four tables that are lent to the search for the lowest cut, and these tables afterwards
+abbrev pub CutAnswer : ℕ → List ℕ → List ℕ → List ℕ → List ℕ → List ℕ → Lightest → Type 0
+CutAnswer n ends incident begins first order l = Answered limits (plan n ends) (replicate (2 * limits .edges) 0) (replicate (limits .vertices + 1) 0) (replicate (limits .vertices) 0) (replicate (limits .vertices) 0)
+    incident begins first order l
+
+-- they are long enough for any plan
+pub cut-own : {n : ℕ} {ends incident begins first order : List ℕ} (l : Lightest) → CutAnswer n ends incident begins first order l → handed l ≡ lowestHanded limits (plan n ends)
+cut-own {n} {ends} l a = answered-own (plan n ends) _ _ _ _ l a (λ m. record {
+  first-room = omega (arith, m .vertices, long (limits .vertices));
+  order-room = omega (arith, m .vertices, long (limits .vertices));
+  incident-room = omega (arith, m .edges, long (2 * limits .edges));
+  begins-room = omega (arith, m .vertices, long (limits .vertices + 1));
+})
+
+-- the search for the lowest cut has left the tables by vertex, and its first search
+pub searched : {n room : ℕ} {ends incident begins first order : List ℕ} {l : Lightest} → CutAnswer n ends incident begins first order l → l ≡ light.NoCut → Sturdy n ends room
+    → Searched n ends incident (set begins n (length ends)) first order
+searched {n} {room} {ends} {incident} {begins} {first} {order} {l} a q u =
+    let y = uncut-passed q in
+    let t = served-tabled (plan n ends) _ _ _ _ l a y in
+    let s = served-tables (plan n ends) _ _ _ _ l a y in
+    record {
+      three = u .three;
+      grouped = grouped-from t (omega (arith, s .begins-long, u .admitted .vertices, long (limits .vertices + 1)));
+      begins₀ = begins;
+      tabled = t;
+      dead = s .dead;
+      live = s .live;
+      first₀ = s .unmarked;
+      clear = s .clear;
+      order₀ = replicate (limits .vertices) 0;
+      cursor₀ = s .cursor₀;
+      cursor = s .cursor;
+      count = s .count;
+      found = s .found-all;
+      first-long = omega (arith, s .first-long, u .admitted .vertices, long (limits .vertices));
+      order-long = omega (arith, s .order-long, u .admitted .vertices, long (limits .vertices));
+    }
+
+-- the numbers
+module _ {n : ℕ} {ends incident begins first order over : List ℕ} {number last depth : ℕ} (c : Numbering n ends incident begins first order over number last depth) where
+  abbrev s : Searched n ends incident begins first order
+  s = c .searched
+
+  pub ordered : Ordering n order number last
+  ordered = ordering (s .tabled) (s .three) (s .live) (s .clear) (s .found) (s .order-long) (c .number-long) (c .last-long)
+
+  module _ {number' last' : List ℕ} (numbered : Numbered n order number' last') where
+    pub deep : Deepening n ends first order depth
+    deep = deepening (s .tabled) (s .three) (s .live) (s .clear) (s .found) numbered (s .first-long) (s .order-long) (c .depth-long)
+
+    pub lowers : length number' ≡ number → length last' ≡ last → Lowering n ends incident begins first order number' last' over
+    lowers p q = lowering (s .tabled) (s .three) (s .live) (s .clear) (s .found) numbered (s .grouped) (s .first-long) (s .order-long) (omega (arith, p, c .number-long))
+        (omega (arith, q, c .last-long)) (c .over-long) (c .blank)
+
+    pub listed : length number' ≡ number → Listed n (read order 0) order number'
+    listed p = listing (s .tabled) (s .three) (s .live) (s .clear) (s .found) numbered (s .order-long) (omega (arith, p, c .number-long))
+
+-- the other tables, as they are made
+
+module _ {n : ℕ} {ends incident begins first order : List ℕ} {room : ℕ} (u : Sturdy n ends room) (s : Searched n ends incident begins first order) where
+  pub numbering : Numbering n ends incident begins first order (replicate (limits .edges) 0) (length (replicate {A = ℕ} (limits .vertices) 0)) (length (replicate {A = ℕ} (limits .vertices) 0))
+      (length (replicate {A = ℕ} (limits .vertices) 0))
+  numbering = record {
+    searched = s;
+    blank = λ e. zeros (limits .edges) e;
+    number-long = omega (arith, u .admitted .vertices, long (limits .vertices));
+    last-long = omega (arith, u .admitted .vertices, long (limits .vertices));
+    depth-long = omega (arith, u .admitted .vertices, long (limits .vertices));
+    over-long = omega (arith, u .admitted .edges, long (limits .edges));
+  }
+
+  abbrev pub ready : {number last over : List ℕ} (depth : List ℕ) → Ground n (read order 0) ends incident begins first number last over × Listed n (read order 0) order number
+      → length depth ≡ length (replicate {A = ℕ} (limits .vertices) 0)
+      → Ready ends incident begins first order number last depth over (replicate (limits .vertices) 0) (replicate (limits .vertices) 0)
+      (replicate (limits .vertices + 2) 0) (replicate (limits .vertices + 2) 0) (replicate (limits .edges) 0) room
+  ready depth g d = record {
+    n = n;
+    ground = g .0;
+    listing = g .1;
+    depth-long = omega (arith, d, u .admitted .vertices, long (limits .vertices));
+    places-blank = λ v. zeros (limits .vertices) v;
+    below-blank = λ v. zeros (limits .vertices) v;
+    used-blank = λ e. zeros (limits .edges) e;
+    roomy = record {
+      below-long = omega (arith, u .admitted .vertices, long (limits .vertices));
+      places-long = omega (arith, u .admitted .vertices, long (limits .vertices));
+      tops-long = omega (arith, u .admitted .vertices, long (limits .vertices + 2));
+      bottoms-long = omega (arith, u .admitted .vertices, long (limits .vertices + 2));
+    };
+    used-long = omega (arith, u .admitted .edges, long (limits .edges));
+    fits = u .fits;
+  }

@@ -1,0 +1,110 @@
+-- Where two ways up meet: the vertices above w are marked, and the way up from u is followed to the first mark.
+use mathlib.Core.Path.{_≡_, refl, sym, _∙_, subst}
+use mathlib.Core.Logic.{_⊎_, inl, inr}
+use mathlib.Core.List.{List, List·Memᴰ as In, List·Memᴰ·head as first, List·Memᴰ·tail as later}
+use Prim.Native.Nat.{ℕ, _≤_, _<_}
+use native.Mathlib.Omega.{arith}
+use native.Mathlib.Decide.{ℕ-discrete, decLe}
+use lib.ListN.{length}
+use Rattle.connectivity.specs.Plan.{plan, graph}
+use Rattle.connectivity.specs.Graph.{Graph}
+use Rattle.connectivity.specs.Walk.{Leg, froms}
+use Rattle.connectivity.proofs.Lists.{in-dec}
+use Rattle.connectivity.proofs.Admission.{admitted-vertex}
+use Rattle.tree.specs.Tree.{Pointers, Above, Climb, there, on}
+use Rattle.tree.proofs.Above.{above-cases, root-above, climb-end, climb-new, climb-to, climb-as, climb-on}
+use Rattle.graph.specs.Marks.{read}
+use Rattle.record.specs.Ways.{Marking, MarkedOn, Toward}
+use Rattle.record.specs.Standing.{Rooted, treeOf}
+use Rattle.record.specs.Opening.{Meets, Meeting}
+use Rattle.record.proofs.Climbing.{climb-way}
+
+-- what is above the start of a climb to a vertex that is above all is left by it, or is that vertex
+pub climb-all : {g : Graph} {t : Pointers} {S : ℕ → Type 0} {v w x : ℕ} {legs : List Leg} → Climb g t S v legs w → Above g t x v
+    → In x (froms legs) ⊎ Above g t x w
+climb-all (there s) a = inr a
+climb-all (on c n k) a = elim (above-cases a) [
+  | inl p ↦ inl (first p)
+  | inr h ↦ elim (climb-all k (h .1)) [ inl i ↦ inl (later i) | inr b ↦ inr b ]
+]
+
+module _ {n root : ℕ} {ends first : List ℕ} {rank : ℕ → ℕ} (r : Rooted n ends root first rank) where
+  abbrev g : Graph
+  g = graph (plan n ends)
+
+  abbrev t : Pointers
+  t = treeOf n ends root first rank
+
+  -- the way up to the root
+  pub root-climb : {v : ℕ} → v < n → (legs : List Leg) × Climb g t (λ y. y ≡ root) v legs root
+  root-climb {v} h =
+      let (legs, z, k) = climb-to (λ y. ℕ-discrete y root) (root-above (r .tree) (admitted-vertex (r .admitted) v h)) refl in
+      (legs, subst (λ (y : ℕ). Climb g t (λ x. x ≡ root) v legs y) (climb-end k) k)
+
+  -- the way up to a vertex above
+  pub above-climb : {x v : ℕ} → Above g t x v → (legs : List Leg) × Climb g t (λ y. y ≡ x) v legs x
+  above-climb {x} {v} a =
+      let (legs, z, k) = climb-to (λ y. ℕ-discrete y x) a refl in
+      (legs, subst (λ (y : ℕ). Climb g t (λ x'. x' ≡ x) v legs y) (climb-end k) k)
+
+module _ {ends first marks : List ℕ} {w u r : ℕ} (c : Meets ends first w u r marks) where
+  abbrev gr : Graph
+  gr = graph (plan (c .n) ends)
+
+  abbrev tr : Pointers
+  tr = treeOf (c .n) ends r first (c .rank)
+
+  pub rise : (legs : List Leg) × Climb gr tr (λ y. y ≡ r) w legs r
+  rise = root-climb (c .rooted) (c .one)
+
+  abbrev pub marking : (size : ℕ) → c .n ≤ size → Marking ends first w r size
+  marking size h = record { way = climb-way (c .rooted) (rise .1) (c .one); room = h }
+
+  module _ (found : List ℕ) (m : MarkedOn (rise .0) r 1 (read marks) (read found)) where
+    -- what is above w has a mark, and nothing else
+    above-marked : {v : ℕ} → Above gr tr v w → 1 ≤ read found v
+    above-marked {v} a = elim (climb-all (rise .1) a) [
+      | inl i ↦ omega (arith, m .on v i)
+      | inr b ↦ elim (above-cases b) [
+        | inl p ↦ subst (λ (y : ℕ). 1 ≤ read found y) (sym p) (omega (arith, m .end))
+        | inr h ↦ absurd (h .0 .other refl)
+      ]
+    ]
+
+    marked-above : {v : ℕ} → 1 ≤ read found v → Above gr tr v w
+    marked-above {v} h = elim (in-dec v (froms (rise .0))) [
+      | yes i ↦ climb-on (c .rooted .tree) (rise .1) i
+      | no o ↦ elim (ℕ-discrete v r) [
+        | yes p ↦ rw p (root-above (c .rooted .tree) (admitted-vertex (c .rooted .admitted) w (c .one)))
+        | no q ↦ absurd (omega (arith, h, m .off v o q, c .blank v))
+      ]
+    ]
+
+    pub met : (legs : List Leg) × (x : ℕ) × Climb gr tr (λ v. 1 ≤ read found v) u legs x
+    met = climb-to (λ v. decLe 1 (read found v)) (root-above (c .rooted .tree) (admitted-vertex (c .rooted .admitted) u (c .other))) (omega (arith, m .end))
+
+    pub met-plain : (v : ℕ) → In v (froms (met .0)) → read found v ≡ 0
+    met-plain v i = elim (decLe 1 (read found v)) [ yes h ↦ absurd (climb-new (met .2) i h) | no h ↦ omega (arith, h) ]
+
+    abbrev pub toward : c .n ≤ length found → Toward ends first found u
+    toward h = record {
+      to = met .1;
+      way = climb-way (c .rooted) (met .2) (c .other);
+      room = h;
+      plain = met-plain;
+      met = λ p. omega (arith, p, climb-end (met .2));
+    }
+
+    pub meeting-at : {x : ℕ} → x ≡ met .1 → Meeting gr tr w u x
+    meeting-at {x} p = record {
+      legs = met .0;
+      climb = climb-as (subst (Climb gr tr (λ v. 1 ≤ read found v) u (met .0)) (sym p) (met .2))
+          (rw p (marked-above (climb-end (met .2)))) (λ v i a. climb-new (met .2) i (above-marked a));
+    }
+
+    -- the marks are taken back
+    pub unmarked : (after : List ℕ) → MarkedOn (rise .0) r 0 (read found) (read after) → (v : ℕ) → read after v ≡ 0
+    unmarked after q v = elim (in-dec v (froms (rise .0))) [
+      | yes i ↦ q .on v i
+      | no o ↦ elim (ℕ-discrete v r) [ yes p ↦ rw p (q .end) | no d ↦ q .off v o d ∙ m .off v o d ∙ c .blank v ]
+    ]

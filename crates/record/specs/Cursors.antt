@@ -1,0 +1,76 @@
+-- What the two cursors ask and find.
+use mathlib.Core.Path.{_≡_}
+use mathlib.Core.List.{List}
+use Prim.Native.Nat.{ℕ, _+_, _/_, _≤_, _<_}
+use lib.ListN.{length}
+use Rattle.connectivity.specs.Plan.{plan, limits}
+use Rattle.connectivity.specs.Admission.{Admitted}
+use Rattle.graph.specs.Marks.{read, Marked}
+use Rattle.record.specs.Standing.{Grouped}
+
+-- the first place from `from` on that has a top, or `next`
+pub record NextLink (top : ℕ → ℕ) (next from r : ℕ) : Type 0 where
+  pub least : from ≤ r
+  pub most : r ≤ next
+  pub gone : (m : ℕ) → from ≤ m → m < r → top m ≡ 0
+  pub some : r < next → 1 ≤ top r
+
+-- the first place from `from` on whose edge is not built, or `end`
+pub record NextSlot (incident used : ℕ → ℕ) (from end r : ℕ) : Type 0 where
+  pub least : from ≤ r
+  pub most : r ≤ end
+  pub built : (k : ℕ) → from ≤ k → k < r → Marked used (incident k)
+  pub new : r < end → used (incident r) ≡ 0
+
+-- what `next_slot` asks: each of these places has an edge that has a mark
+pub record Slots (incident : List ℕ) (used from end : ℕ) : Type 0 where
+  pub low : from ≤ end
+  pub long : end ≤ length incident
+  pub edges : (k : ℕ) → from ≤ k → k < end → read incident k < used
+
+-- places k of the group of the vertex at place i of the order, from the cursor (at, slot) on
+pub record Ahead (order begins : ℕ → ℕ) (at slot n i k : ℕ) : Type 0 where
+  pub least : at ≤ i
+  pub most : i < n
+  pub from : begins (order i) ≤ k
+  pub to : k < begins (order i + 1)
+  pub after : i ≡ at → slot ≤ k
+
+-- what `next_open` asks: some edge ahead is not built
+pub record Opening (incident begins order used : List ℕ) (at slot : ℕ) : Type 0 where
+  pub n : ℕ
+  pub ends : List ℕ
+  pub admitted : Admitted limits (plan n ends)
+  pub grouped : Grouped n ends incident begins
+  pub valid : (k : ℕ) → k < n → read order k < n
+  pub order-long : n ≤ length order
+  pub used-long : length ends / 2 ≤ length used
+  pub at-below : at < n
+  pub slot-from : read begins (read order at) ≤ slot
+  pub slot-to : slot ≤ read begins (read order at + 1)
+  pub some : ((i k : ℕ) → Ahead (read order) (read begins) at slot n i k → Marked (read used) (read incident k)) → ⊥
+
+-- it comes to an edge that is not built, and those that it passes are built
+pub record Opened (incident begins order used : ℕ → ℕ) (at slot n at' slot' : ℕ) : Type 0 where
+  pub here : Ahead order begins at slot n at' slot'
+  pub new : used (incident slot') ≡ 0
+  pub passed : (i k : ℕ) → Ahead order begins at slot n i k → i < at' → Marked used (incident k)
+  pub before : (k : ℕ) → Ahead order begins at slot n at' k → k < slot' → Marked used (incident k)
+
+abbrev pub OpenedAt : List ℕ → List ℕ → List ℕ → List ℕ → ℕ → ℕ → ℕ → ℕ → Type 0
+OpenedAt incident begins order used at slot at' slot' =
+    (c : Opening incident begins order used at slot) → Opened (read incident) (read begins) (read order) (read used) at slot (c .n) at' slot'
+
+-- on the way, at place `from` of the group of the vertex at place i: all that is ahead of the cursor and before this is built
+pub record Scanned (incident begins order used : ℕ → ℕ) (at slot n i from : ℕ) : Type 0 where
+  pub least : at ≤ i
+  pub most : i < n
+  pub low : begins (order i) ≤ from
+  pub high : from ≤ begins (order i + 1)
+  pub after : i ≡ at → slot ≤ from
+  pub passed : (j k : ℕ) → Ahead order begins at slot n j k → j < i → Marked used (incident k)
+  pub before : (k : ℕ) → Ahead order begins at slot n i k → k < from → Marked used (incident k)
+
+abbrev pub ScannedTo : List ℕ → List ℕ → List ℕ → List ℕ → ℕ → ℕ → ℕ → ℕ → Type 0
+ScannedTo incident begins order used at slot i from =
+    (c : Opening incident begins order used at slot) → Scanned (read incident) (read begins) (read order) (read used) at slot (c .n) i from

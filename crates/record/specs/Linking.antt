@@ -1,0 +1,102 @@
+-- What splitting a link and building a walk ask and leave behind.
+use mathlib.Core.Path.{_≡_}
+use mathlib.Core.List.{List, List·Memᴰ as In}
+use Prim.Native.Nat.{ℕ, _+_, _/_, _≤_, _<_}
+use lib.ListN.{length}
+use Rattle.connectivity.specs.Plan.{plan, graph}
+use Rattle.connectivity.specs.Graph.{Graph}
+use Rattle.connectivity.specs.Walk.{Leg, edgesOf}
+use Rattle.tree.specs.Tree.{Pointers, Climb}
+use Rattle.tree.specs.Filed.{Marked, Grown, Noted, Belows}
+use Rattle.tree.specs.Links.{Shelved, Links}
+use Rattle.graph.specs.Marks.{read}
+use Rattle.record.specs.Standing.{Rooted, treeOf}
+
+-- the tables by vertex and by place are long enough
+pub record Roomy (n : ℕ) (below places tops bottoms : List ℕ) : Type 0 where
+  pub below-long : n ≤ length below
+  pub places-long : n ≤ length places
+  pub tops-long : n + 2 ≤ length tops
+  pub bottoms-long : n + 2 ≤ length bottoms
+
+-- the places of some vertices of the tree, the children noted below, and the links
+pub record Filing (n root : ℕ) (ends first : List ℕ) (rank : ℕ → ℕ) (below places tops bottoms : List ℕ) (next : ℕ) : Type 0 where
+  pub rooted : Rooted n ends root first rank
+  pub shelved : Shelved (graph (plan n ends)) (treeOf n ends root first rank) (read places)
+  pub belows : Belows (graph (plan n ends)) (treeOf n ends root first rank) (λ v. 1 ≤ read places v) (read places) (read below)
+  pub links : Links (graph (plan n ends)) (treeOf n ends root first rank) (read places) (read tops) (read bottoms) next
+  pub roomy : Roomy n below places tops bottoms
+
+-- what `split` asks: v is built
+pub record Splitting (ends first below depth : List ℕ) (v next : ℕ) (places tops bottoms : List ℕ) : Type 0 where
+  pub n : ℕ
+  pub root : ℕ
+  pub rank : ℕ → ℕ
+  pub filing : Filing n root ends first rank below places tops bottoms next
+  pub vertex : v < n
+  pub built : 1 ≤ read places v
+  pub depth-long : n ≤ length depth
+
+-- v is a branch now, and the links are known again
+pub record Parted (g : Graph) (t : Pointers) (v next : ℕ) (place : ℕ → ℕ) (place' top' bottom' : ℕ → ℕ) (next' : ℕ) : Type 0 where
+  pub marked : Marked g t (λ y. place y ≡ 1) place place' v
+  pub links : Links g t place' top' bottom' next'
+  -- a place that had no vertex stays without
+  pub gone : (m : ℕ) → 2 ≤ m → m < next → ((y : ℕ) → place y ≡ m → ⊥) → (y : ℕ) → place' y ≡ m → ⊥
+
+abbrev pub PartedBy : List ℕ → List ℕ → List ℕ → List ℕ → ℕ → ℕ → List ℕ → List ℕ → List ℕ → List ℕ → List ℕ → List ℕ → ℕ → Type 0
+PartedBy ends first below depth v next places tops bottoms places' tops' bottoms' r =
+    (length places' ≡ length places) × (length tops' ≡ length tops) × (length bottoms' ≡ length bottoms)
+    × ((c : Splitting ends first below depth v next places tops bottoms)
+    → Parted (graph (plan (c .n) ends)) (treeOf (c .n) ends (c .root) first (c .rank)) v next (read places) (read places') (read tops') (read bottoms') r × (next ≤ r))
+
+-- two vertices have become branches, one after the other
+pub record BothParted (g : Graph) (t : Pointers) (v w next : ℕ) (place place' top' bottom' : ℕ → ℕ) (next' : ℕ) : Type 0 where
+  pub middle : ℕ → ℕ
+  pub marked-one : Marked g t (λ y. place y ≡ 1) place middle v
+  pub marked-two : Marked g t (λ y. middle y ≡ 1) middle place' w
+  pub links : Links g t place' top' bottom' next'
+  pub more : next ≤ next'
+  pub gone : (m : ℕ) → 2 ≤ m → m < next → ((y : ℕ) → place y ≡ m → ⊥) → (y : ℕ) → place' y ≡ m → ⊥
+
+-- what `split_both` asks: both are built
+pub record Ending (ends first below depth : List ℕ) (v w next : ℕ) (places tops bottoms : List ℕ) : Type 0 where
+  pub splitting : Splitting ends first below depth v next places tops bottoms
+  pub vertex : w < splitting .n
+  pub built : 1 ≤ read places w
+
+abbrev pub BothBy : List ℕ → List ℕ → List ℕ → List ℕ → ℕ → ℕ → ℕ → List ℕ → List ℕ → List ℕ → List ℕ → List ℕ → List ℕ → ℕ → Type 0
+BothBy ends first below depth v w next places tops bottoms places' tops' bottoms' r =
+    (length places' ≡ length places) × (length tops' ≡ length tops) × (length bottoms' ≡ length bottoms)
+    × ((c : Ending ends first below depth v w next places tops bottoms)
+    → BothParted (graph (plan (c .splitting .n) ends)) (treeOf (c .splitting .n) ends (c .splitting .root) first (c .splitting .rank)) v w next (read places) (read places') (read tops') (read bottoms') r)
+
+-- what `build_walk` asks: an edge, and a climb from v to the branch `stop`
+pub record Building (ends first : List ℕ) (e v stop next : ℕ) (places below tops bottoms used : List ℕ) : Type 0 where
+  pub n : ℕ
+  pub root : ℕ
+  pub rank : ℕ → ℕ
+  pub filing : Filing n root ends first rank below places tops bottoms next
+  pub legs : List Leg
+  pub climb : Climb (graph (plan n ends)) (treeOf n ends root first rank) (λ y. 1 ≤ read places y) v legs stop
+  pub branch : read places stop ≡ 1
+  pub from : v < n
+  pub to : stop < n
+  pub edge : e < length ends / 2
+  pub used-long : length ends / 2 ≤ length used
+
+-- what the climb leaves has the place `next`, is noted below its parents, and its edges and e are marked
+pub record Walked (g : Graph) (t : Pointers) (e : ℕ) (legs : List Leg) (next : ℕ) (place below used place' below' top' bottom' used' : ℕ → ℕ) (next' : ℕ) : Type 0 where
+  pub grown : Grown place place' legs next
+  pub noted : Noted t below below' legs
+  pub links : Links g t place' top' bottom' next'
+  pub used-edge : used' e ≡ 1
+  pub used-on : (d : ℕ) → In d (edgesOf legs) → used' d ≡ 1
+  pub used-off : (d : ℕ) → (d ≡ e → ⊥) → (In d (edgesOf legs) → ⊥) → used' d ≡ used d
+
+abbrev pub WalkedBy : List ℕ → List ℕ → ℕ → ℕ → ℕ → ℕ → List ℕ → List ℕ → List ℕ → List ℕ → List ℕ → List ℕ → List ℕ → List ℕ → List ℕ → List ℕ → ℕ → Type 0
+WalkedBy ends first e v stop next places below tops bottoms used places' below' tops' bottoms' used' r =
+    (length places' ≡ length places) × (length below' ≡ length below) × (length tops' ≡ length tops) × (length bottoms' ≡ length bottoms) × (length used' ≡ length used)
+    × ((c : Building ends first e v stop next places below tops bottoms used)
+    → Walked (graph (plan (c .n) ends)) (treeOf (c .n) ends (c .root) first (c .rank)) e (c .legs) next
+    (read places) (read below) (read used) (read places') (read below') (read tops') (read bottoms') (read used') r × (next ≤ r))
