@@ -22,8 +22,8 @@ extern "C" {
 #endif
 
 /* Bytes of stack to keep free below a call. */
-#define HEARTHTANSY_VERDICT_STACK 93184
-#define HEARTHTANSY_VERDICT_TEXT_STACK 133120
+#define HEARTHTANSY_VERDICT_STACK 79872
+#define HEARTHTANSY_VERDICT_TEXT_STACK 119808
 
 /*
  * The verdict on a plan. `ends` has two numbers for each tab, the pieces that it joins; `rows` is lent for the record. The lengths count

@@ -1,8 +1,8 @@
 -- A firm list passes exactly when it builds the graph by Mader's steps: one claim about the whole list, with no mark of the check's in it.
 use mathlib.Core.Path.{_≡_, refl, sym, ap, _∙_, subst}
-use mathlib.Core.Logic.{_⊎_, inl, inr, ⊎-swap, _↔_}
+use mathlib.Core.Logic.{inl, inr, ⊎-swap, _↔_}
 use mathlib.Core.List.{List, [], _∷_, _++_, List·Memᴰ as In, List·Memᴰ·head as first, List·Memᴰ·tail as later, List·Memᴰ·not-nil as not-in, List·Memᴰ·cases-cons as in-cons, List·Memᴰ·append-cases as in-cases, List·Memᴰ·eq-of-singleton as eq-of-singleton, append-assoc, append-nil, reverseAux, reverse, reverse-reverse}
-use Prim.Native.Nat.{ℕ, zero, suc, _+_, _*_, _≤_, _<_}
+use Prim.Native.Nat.{ℕ, zero, suc, _*_, _≤_, _<_}
 use native.Mathlib.Omega.{arith}
 use native.Mathlib.Decide.{decLt}
 use lib.Dec.{eqb, eqb→eq}
@@ -21,7 +21,7 @@ use Rattle.connectivity.proofs.Order.{ordered-edges}
 use Rattle.connectivity.proofs.Distinct.{right-distinct, swap-distinct, skip-distinct, ordered-distinct}
 use Rattle.connectivity.proofs.Degree.{part-length}
 use Rattle.connectivity.proofs.Sound.{stage}
-use Rattle.connectivity.proofs.Legs.{walk-start, walk-stop}
+use Rattle.connectivity.proofs.Legs.{walk-start, walk-stop, legs-edges}
 use Rattle.connectivity.proofs.Run.{Runs, end, step, rowsAt, rowsFrom, rows-pass}
 use Rattle.connectivity.proofs.Fit.{fitting-path, path-fitting, Sound, walk-sound, paths-fit, step-few, step-many, closing}
 
@@ -122,13 +122,20 @@ flat-steps done (legs ∷ walks) =
     ∙ flat-steps (legs ∷ done) walks
 
 -- three numbers for each edge
-step-length : (s : ℕ) (legs : List Leg) → length (stepRows s legs) ≡ 3 * length (edgesOf legs)
+pub step-length : (s : ℕ) (legs : List Leg) → length (stepRows s legs) ≡ 3 * length legs
 step-length s [] = refl
 step-length s (l ∷ legs) = omega (arith, step-length s legs)
 
 pub rows-length : (walks : List (List Leg)) → length (rows walks) ≡ 3 * length (allEdges walks)
 rows-length [] = refl
-rows-length (legs ∷ walks) = omega (arith, length-append (rows walks) (stepRows (length walks) legs), length-append (edgesOf legs) (allEdges walks), step-length (length walks) legs, rows-length walks)
+rows-length (legs ∷ walks) = omega (
+  arith,
+  length-append (rows walks) (stepRows (length walks) legs),
+  length-append (edgesOf legs) (allEdges walks),
+  step-length (length walks) legs,
+  legs-edges legs,
+  rows-length walks,
+)
 
 -- Which edges.
 
@@ -149,7 +156,7 @@ steps-edges (theta {walks = walks} t) i = between-edges walks (t .between) i
 steps-edges (mader {legs = legs} p k) i = elim (in-cases (edgesOf legs) i) [ inl j ↦ walk-edges (k .walk) j | inr j ↦ steps-edges p j ]
 
 -- as many different edges as the graph has are all of them
-all-edges : {g : Graph} {walks : List (List Leg)} → Steps g walks → Distinct (allEdges walks) → length (allEdges walks) ≡ length (edges g)
+pub all-edges : {g : Graph} {walks : List (List Leg)} → Steps g walks → Distinct (allEdges walks) → length (allEdges walks) ≡ length (edges g)
     → (e : ℕ) → Edge g e → In e (allEdges walks)
 all-edges {g} {walks} s d h e p = elim (in-dec e (allEdges walks)) [
   | yes i ↦ i

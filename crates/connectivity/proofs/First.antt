@@ -1,22 +1,66 @@
--- A three-edge-connected graph has the first three walks: the paths from two doors of x to r, the second only as far as it meets the first.
+-- A three-edge-connected graph has the first three walks: an edge between x and r has two others beside it, the doors, that lead from x to what is reached
+-- from r without passing through x; the paths from two doors to r, the second only as far as it meets the first, and the edge are the three.
 use mathlib.Core.Path.{_≡_, refl, sym, ap, _∙_, subst}
 use mathlib.Core.Logic.{_⊎_, inl, inr}
-use mathlib.Core.List.{List, [], _∷_, _++_, append-assoc, List·Memᴰ as In, List·Memᴰ·not-nil as not-in, List·Memᴰ·cases-cons as in-cons, List·Memᴰ·append-cases as in-cases, List·Memᴰ·eq-of-singleton as eq-of-singleton, Memᴰ·append-right as in-right, List·Memᴰ·head as first}
-use Prim.Native.Nat.{ℕ}
+use mathlib.Core.List.{List, [], _∷_, _++_, append-assoc, List·Memᴰ as In, List·Memᴰ·not-nil as not-in, List·Memᴰ·cases-cons as in-cons, List·Memᴰ·append-cases as in-cases, List·Memᴰ·eq-of-singleton as eq-of-singleton, Memᴰ·append-right as in-right, List·Memᴰ·head as first, List·Memᴰ·tail as later, Memᴰ·cast}
+use Prim.Native.Nat.{ℕ, _≤_}
 use native.Mathlib.Omega.{arith}
 use native.Mathlib.Decide.{ℕ-discrete}
+use lib.ListN.{length}
 use Rattle.connectivity.specs.Lists.{Distinct, no-member, one}
 use Rattle.connectivity.specs.Graph.{Graph, Edge, Joins}
-use Rattle.connectivity.specs.Reach.{Reach, here, over, ThreeEdgeConnected}
+use Rattle.connectivity.specs.Reach.{Reach, here, over, Without, ThreeEdgeConnected}
 use Rattle.connectivity.specs.Walk.{Leg, Walk, froms, allEdges}
 use Rattle.connectivity.specs.Mader.{Theta}
 use Rattle.connectivity.proofs.Lists.{in-dec}
+use Rattle.connectivity.proofs.Reach.{joins-sym, joins-vertex}
+use Rattle.connectivity.proofs.Through.{Through, stay, through-on}
 use Rattle.connectivity.proofs.Distinct.{join-distinct}
 use Rattle.connectivity.proofs.Legs.{leg, final-snoc}
 use Rattle.connectivity.proofs.Fresh.{froms-snoc}
-use Rattle.connectivity.proofs.Theta.{Door, two-doors, theta-from}
+use Rattle.connectivity.proofs.Theta.{theta-from}
 use Rattle.connectivity.proofs.Once.{theta-once}
 use Rattle.connectivity.proofs.Shorten.{Path, path-new, edge-path, path-edge, Parted, part-at, Way, enter, back}
+
+-- The doors of x.
+
+-- an edge other than c from x to what is reached from r without passing through x
+record Door (g : Graph) (x r c e : ℕ) : Type 0 where
+  to : ℕ
+  joins : Joins g e x to
+  off : to ≡ x → ⊥
+  reached : Through g (Edge g) (λ v. v ≡ x → ⊥) r to
+  other : e ≡ c → ⊥
+
+module _ {g : Graph} {x r c : ℕ} (t : ThreeEdgeConnected g) (j : Joins g c r x) (apart : r ≡ x → ⊥) where
+  -- from what is reached there is no way to x that misses c and the doors
+  shut : (cut : List ℕ) → In c cut → ((e : ℕ) → Door g x r c e → In e cut) → {u w : ℕ} → Reach g (Without cut) u w → w ≡ x
+      → Through g (Edge g) (λ v. v ≡ x → ⊥) r u → (u ≡ x → ⊥) → ⊥
+  shut cut i f here p k n = n p
+  shut cut i f (over {u} {v} e l m q) p k n = elim (ℕ-discrete v x) [
+    | yes h ↦ l (f e (record {
+      to = u;
+      joins = subst (λ y. Joins g e y u) h (joins-sym m);
+      off = n;
+      reached = k;
+      other = λ o. l (Memᴰ·cast o i);
+    }))
+    | no h ↦ shut cut i f q p (through-on k (m .edge) n m) h
+  ]
+
+  -- so no cut of two edges has c and all doors
+  doors-cut : (cut : List ℕ) → length cut ≤ 2 → In c cut → ((e : ℕ) → Door g x r c e → In e cut) → ⊥
+  doors-cut cut h i f = shut cut i f (t .still cut h r x (joins-vertex j) (joins-vertex (joins-sym j))) refl stay apart
+
+  -- there is a door
+  one-door : ((e : ℕ) → Door g x r c e → ⊥) → ⊥
+  one-door f = doors-cut (c ∷ []) (omega arith) (first refl) (λ e k. absurd (f e k))
+
+  -- and another
+  two-doors : ((d e : ℕ) → Door g x r c d → Door g x r c e → d ≡ e) → ⊥
+  two-doors f = one-door (λ d k. doors-cut (c ∷ d ∷ []) (omega arith) (first refl) (λ e q. later (first (f e d q k))))
+
+-- The three walks.
 
 -- the first three walks
 pub record Three (g : Graph) : Type 0 where
@@ -26,7 +70,7 @@ pub record Three (g : Graph) : Type 0 where
   pub theta : Theta g a b walks
   pub once : Distinct (allEdges walks)
 
-module _ {g : Graph} {x r c d e : ℕ} (j : Joins g c r x) (apart : r ≡ x → ⊥) (door : Door g (Edge g) x r c d) (next : Door g (Edge g) x r c e)
+module _ {g : Graph} {x r c d e : ℕ} (j : Joins g c r x) (apart : r ≡ x → ⊥) (door : Door g x r c d) (next : Door g x r c e)
     (differ : d ≡ e → ⊥) where
   -- the path from the first door to r
   abbrev New : ℕ → Type 0
@@ -108,4 +152,4 @@ pub first-three : {g : Graph} → ThreeEdgeConnected g → (Three g → ⊥) →
 first-three t n =
     let (u, v, hu, hv, differ) = t .two in
     let (c, r, x, j, apart) = crossing (t .still [] (omega arith) u v hu hv) differ in
-    two-doors t (λ e h. h) j apart (λ d e k l. elim (ℕ-discrete d e) [ yes p ↦ p | no m ↦ absurd (n (three j apart k l m)) ])
+    two-doors t j apart (λ d e k l. elim (ℕ-discrete d e) [ yes p ↦ p | no m ↦ absurd (n (three j apart k l m)) ])

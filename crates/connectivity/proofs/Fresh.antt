@@ -1,6 +1,6 @@
 -- The inner vertices of a step, row by row: each is new where no built edge ends at it and the walk has not been there before.
 use mathlib.Core.Path.{_≡_, refl, sym, ap, subst}
-use mathlib.Core.Logic.{_⊎_, inl, inr, ⊎-swap, _↔_}
+use mathlib.Core.Logic.{inl, inr, ⊎-swap, _↔_}
 use mathlib.Core.List.{List, [], _∷_, _++_, List·Memᴰ as In, List·Memᴰ·head as first, List·Memᴰ·tail as later, List·Memᴰ·not-nil as not-in, List·Memᴰ·cases-cons as in-cons, List·Memᴰ·append-cases as in-cases, List·Memᴰ·eq-of-singleton as eq-of-singleton, Memᴰ·append-left as in-left, Memᴰ·append-right as in-right, Memᴰ·cast}
 use Prim.Native.Nat.{ℕ, _≤_}
 use native.Mathlib.Omega.{arith}

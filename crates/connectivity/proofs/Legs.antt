@@ -3,9 +3,10 @@ use mathlib.Core.Path.{_≡_, refl, sym, ap}
 use mathlib.Core.Logic.{inl, inr}
 use mathlib.Core.Bool.{_||_}
 use mathlib.Core.List.{List, [], _∷_, _++_, List·Memᴰ as In, List·Memᴰ·head as first, List·Memᴰ·tail as later, List·Memᴰ·append-cases as in-cases, List·Memᴰ·eq-of-singleton as eq-of-singleton, Memᴰ·append-left as in-left, Memᴰ·append-right as in-right}
-use Prim.Native.Nat.{ℕ}
+use Prim.Native.Nat.{ℕ, suc}
 use native.Mathlib.Decide.{ℕ-discrete}
 use lib.Dec.{T, eqb, eqb→eq}
+use lib.ListN.{length}
 use borrow.Author.Tests.{eq-eqb, ne-eqb}
 use Rattle.connectivity.specs.Lists.{Distinct, one}
 use Rattle.connectivity.specs.Graph.{Graph, Edge, Joins}
@@ -70,6 +71,10 @@ distinct-between {x} (y ∷ l) r n m (one h d) = one off (distinct-between l r (
       | inl j ↦ elim (in-cases l j) [ inl k ↦ h (in-left r k) | inr k ↦ n (first (sym (eq-of-singleton k))) ]
       | inr j ↦ h (in-right l j)
     ]
+
+pub legs-edges : (legs : List Leg) → length (edgesOf legs) ≡ length legs
+legs-edges [] = refl
+legs-edges (l ∷ legs) = ap suc (legs-edges legs)
 
 -- the last edge
 abbrev pub final : List Leg → ℕ

@@ -23,6 +23,7 @@ pub mod Stretch
 pub mod Judge
 pub mod Table
 pub mod Grow
+pub mod Exit
 pub mod Theta
 pub mod Once
 pub mod Shorten

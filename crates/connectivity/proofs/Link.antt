@@ -1,5 +1,5 @@
 -- At a stage every built vertex that is no branch lies inside a link, and bare edges lead from it to just the vertices inside that link.
-use mathlib.Core.Path.{_≡_, refl, sym}
+use mathlib.Core.Path.{_≡_, refl, sym, _∙_}
 use mathlib.Core.Logic.{inl, inr, _↔_}
 use mathlib.Core.List.{List, [], _∷_, List·Memᴰ as In, List·Memᴰ·head as first, List·Memᴰ·tail as later, List·Memᴰ·not-nil as not-in, List·Memᴰ·cases-cons as in-cons, List·Memᴰ·eq-of-singleton as eq-of-singleton, Memᴰ·cast}
 use Prim.Native.Nat.{ℕ, _≤_}
@@ -12,8 +12,9 @@ use Rattle.connectivity.specs.Walk.{Leg, Walk, last, then, froms, inner,
 use Rattle.connectivity.specs.Link.{Link, SameLink}
 use Rattle.connectivity.proofs.Reach.{joins-sym, reach-trans, reach-sym, reach-map, closed-reach}
 use Rattle.connectivity.proofs.Lists.{in-dec}
-use Rattle.connectivity.proofs.Degree.{hits-from, in-degree, part-degree, full, from-first, froms-cases, on, on-inner, inner-least}
+use Rattle.connectivity.proofs.Degree.{hits-from, hits-on, in-degree, part-degree, full, from-first, froms-cases, on, on-inner, inner-least}
 use Rattle.connectivity.proofs.Stage.{LessOne, Stage, Bare, bare-edge}
+use Rattle.connectivity.proofs.Legs.{leg, final, final-cons}
 
 -- a walk to a branch over vertices that are no branches and all different, and over live edges
 data Arm (g : Graph) (built : List ℕ) (live : ℕ → Type 0) : ℕ → List Leg → ℕ → Type 0 where
@@ -202,3 +203,23 @@ link-inner p q i j v m = link-closed q j (link-bare (record { a = _; legs = _; b
 pub link-edges : {g : Graph} {built : List ℕ} {a b c d : ℕ} {k l : List Leg} {x : ℕ} → Link g built a k b → Link g built c l d
     → In x (inner k) → In x (inner l) → (e : ℕ) → In e (edgesOf k) → In e (edgesOf l)
 link-edges p q i j e m = let r = edge-inner (p .walk) i m in link-full q (r .0) e (link-inner p q i j (r .0) (r .1)) (p .over e m) (r .2)
+
+-- The outer edges of a link.
+
+-- an edge of a walk that is not its last ends at vertices that the walk leaves from
+not-last : {g : Graph} {u w e x : ℕ} {legs : List Leg} → Walk g u legs w → In e (edgesOf legs) → hits g e x ≡ 1
+    → (e ≡ final legs → ⊥) → In x (froms legs)
+not-last (last d j) i h n = absurd (n (eq-of-singleton i))
+not-last {x = x} (then {u = u} d j k) i h n = elim (in-cons i) [
+  | inl p ↦ elim (hits-on x j (omega (arith, rw p at h))) [ inl q ↦ first q | inr q ↦ later (Memᴰ·cast q (from-first k)) ]
+  | inr m ↦ later (not-last k m h (λ p. n (p ∙ sym (final-cons (leg d u) k))))
+]
+
+-- and one that is not its first either, at inner vertices
+pub not-outer : {g : Graph} {u w e x : ℕ} {legs : List Leg} → Walk g u legs w → In e (edgesOf legs) → hits g e x ≡ 1
+    → (e ≡ lead legs → ⊥) → (e ≡ final legs → ⊥) → In x (inner legs)
+not-outer (last d j) i h n m = absurd (n (eq-of-singleton i))
+not-outer (then {u = u} d j k) i h n m = elim (in-cons i) [
+  | inl p ↦ absurd (n p)
+  | inr q ↦ not-last k q h (λ p. m (p ∙ sym (final-cons (leg d u) k)))
+]

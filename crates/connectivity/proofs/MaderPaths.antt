@@ -1,4 +1,4 @@
--- Where no Mader-path is left, every edge is built: an exit of a link and an exit from an edge each give a Mader-path.
+-- Where no Mader-path is left, every edge is built: a way out of a link, and one back from an edge, gives a Mader-path.
 use mathlib.Core.Path.{_≡_, refl, sym, subst}
 use mathlib.Core.Logic.{_⊎_, inl, inr}
 use mathlib.Core.List.{List, [], _∷_, _++_, List·Memᴰ as In, List·Memᴰ·not-nil as not-in, List·Memᴰ·cases-cons as in-cons}
@@ -9,20 +9,50 @@ use Rattle.connectivity.specs.Lists.{Distinct, no-member, one}
 use Rattle.connectivity.specs.Graph.{Graph, Edge, Joins}
 use Rattle.connectivity.specs.Reach.{Without, ThreeEdgeConnected}
 use Rattle.connectivity.proofs.Through.{Through}
-use Rattle.connectivity.specs.Walk.{Leg, Walk, last, froms, edgesOf, allEdges, degree, Built, Branch}
+use Rattle.connectivity.specs.Walk.{Leg, Walk, last, froms, inner, edgesOf, allEdges, degree, Built, Branch}
 use Rattle.connectivity.specs.Mader.{MaderPath, Steps, theta, mader}
 use Rattle.connectivity.proofs.Lists.{in-dec}
 use Rattle.connectivity.proofs.Distinct.{join-distinct}
-use Rattle.connectivity.proofs.Reach.{joins-sym}
+use Rattle.connectivity.proofs.Reach.{joins-sym, reach-trans, reach-sym}
 use Rattle.connectivity.proofs.Degree.{degree-append, built-vertex}
 use Rattle.connectivity.proofs.Stage.{all-degree}
+use Rattle.connectivity.proofs.Link.{link-bare}
 use Rattle.connectivity.proofs.Sound.{stage}
 use Rattle.connectivity.proofs.Legs.{leg, walk-snoc, edges-snoc, distinct-between}
 use Rattle.connectivity.proofs.Build.{steps-edges}
 use Rattle.connectivity.proofs.Fresh.{Fresh, ear-fresh, fresh-snoc}
-use Rattle.connectivity.proofs.Grow.{Inside, FromLink, link-exit, branch-exit, next-edge, path-from-link, path-from-branch}
+use Rattle.connectivity.proofs.Grow.{Inside, inside-built, next-edge}
+use Rattle.connectivity.proofs.Exit.{FromLink, link-exit, branch-exit}
 use Rattle.connectivity.proofs.Once.{walk-once, path-once}
 use Rattle.connectivity.proofs.Shorten.{path-live, path-new, edge-path, Back, back}
+
+-- a walk over new vertices from a built vertex outside the link of p to one inside it is a Mader-path
+path-from-link : {g : Graph} {built : List ℕ} {p s t : ℕ} {legs : List Leg} → Built g built p → Inside g built p s
+    → Built g built t → (Inside g built p t → ⊥) → Walk g t legs s → ((v : ℕ) → In v (inner legs) → Built g built v → ⊥)
+    → Distinct (inner legs) → MaderPath g built t legs s
+path-from-link {g} {built} {p} h i b n k f d = record {
+  walk = k;
+  begins = b;
+  ends = inside-built h i;
+  fresh = f;
+  simple = d;
+  closed = λ q. absurd (n (subst (Inside g built p) (sym q) i));
+  links = λ m o l. n (reach-trans i (reach-sym (link-bare l)));
+}
+
+-- where every built vertex is a branch, a walk over new vertices between built ones is a Mader-path
+path-from-branch : {g : Graph} {built : List ℕ} {a t : ℕ} {legs : List Leg} → ((v : ℕ) → Built g built v → Branch g built v)
+    → Built g built a → Built g built t → Walk g t legs a → ((v : ℕ) → In v (inner legs) → Built g built v → ⊥)
+    → Distinct (inner legs) → MaderPath g built t legs a
+path-from-branch {t = t} all h b k f d = record {
+  walk = k;
+  begins = b;
+  ends = h;
+  fresh = f;
+  simple = d;
+  closed = λ q. all t b;
+  links = λ m o l. m (all t b);
+}
 
 -- a Mader-path over edges that are not built, none twice
 pub record Next (g : Graph) (built : List ℕ) : Type 0 where

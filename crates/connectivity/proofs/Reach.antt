@@ -2,10 +2,9 @@
 -- reached from it.
 use mathlib.Core.Path.{_≡_, subst}
 use mathlib.Core.Logic.{_⊎_, inl, inr}
-use mathlib.Core.List.{List, List·Memᴰ as In}
 use Prim.Native.Nat.{ℕ}
 use Rattle.connectivity.specs.Graph.{Graph, Vertex, Joins}
-use Rattle.connectivity.specs.Reach.{Reach, here, over, Without}
+use Rattle.connectivity.specs.Reach.{Reach, here, over}
 
 pub joins-sym : {g : Graph} {e u v : ℕ} → Joins g e u v → Joins g e v u
 joins-sym {g} {e} {u} {v} j = record { edge = j .edge; ends = flip (j .ends) }
@@ -44,8 +43,3 @@ pub reach-edges : {g : Graph} {live more : ℕ → Type 0} → ((e u v : ℕ) �
     → {u v : ℕ} → Reach g live u v → Reach g more u v
 reach-edges f here = here
 reach-edges f (over {u} {v} e l j p) = over e (f e u v j l) j (reach-edges f p)
-
--- fewer edges removed reach more
-pub reach-less : {g : Graph} {cut less : List ℕ} → ((e : ℕ) → In e less → In e cut)
-    → {u v : ℕ} → Reach g (Without cut) u v → Reach g (Without less) u v
-reach-less f r = reach-map (λ e w i. w (f e i)) r

@@ -3,7 +3,7 @@ use mathlib.Core.Path.{refl, sym, subst}
 use mathlib.Core.Logic.{_⊎_, inl, inr, _↔_}
 use mathlib.Core.Bool.{Bool, not, cond, _&&_}
 use mathlib.Core.List.{List, [], _∷_, _++_, List·Memᴰ as In, List·Memᴰ·head as first, List·Memᴰ·not-nil as not-in, List·Memᴰ·eq-of-singleton as eq-of-singleton, List·Memᴰ·append-cases as in-cases, Memᴰ·append-left as in-left, Memᴰ·append-right as in-right}
-use Prim.Native.Nat.{ℕ, zero, suc, _+_, _≤_, _<_}
+use Prim.Native.Nat.{ℕ, zero, suc, _≤_, _<_}
 use native.Mathlib.Omega.{arith}
 use lib.Dec.{T, eqb, ltb, eqb→eq, eqb-refl, ltb→lt, lt→ltb, T-not, not-T}
 use lib.ListN.{length}

@@ -243,7 +243,7 @@ module _ {g : Graph} {a b : ℕ} where
         in-right (inner legs) (all-inner walks x (λ l i. f l (later i)) n m rest)
   ]
 
-  all-most : (walks : List (List Leg)) (x : ℕ) → AllBetween g a walks b → (x ≡ a → ⊥) → (x ≡ b → ⊥) → Distinct (allInner walks)
+  pub all-most : (walks : List (List Leg)) (x : ℕ) → AllBetween g a walks b → (x ≡ a → ⊥) → (x ≡ b → ⊥) → Distinct (allInner walks)
       → degree g (allEdges walks) x ≤ 2
   all-most [] x f n m d = omega arith
   all-most (legs ∷ walks) x f n m d =

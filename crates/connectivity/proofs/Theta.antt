@@ -1,61 +1,13 @@
--- The first three walks: an edge between x and r has two others beside it that lead from x to what is reached from r without passing
--- through x, and three walks over different vertices are the first three.
+-- Three walks between two vertices, over different vertices, are the first three.
 use mathlib.Core.Path.{_≡_, refl, sym, subst}
 use mathlib.Core.Logic.{inl, inr}
-use mathlib.Core.List.{List, [], _∷_, _++_, append-nil, List·Memᴰ as In, List·Memᴰ·head as first, List·Memᴰ·tail as later, List·Memᴰ·cases-cons as in-cons, List·Memᴰ·append-cases as in-cases, List·Memᴰ·eq-of-singleton as eq-of-singleton, Memᴰ·append-left as in-left, Memᴰ·append-right as in-right, Memᴰ·cast}
-use Prim.Native.Nat.{ℕ, _≤_}
-use native.Mathlib.Omega.{arith}
-use native.Mathlib.Decide.{ℕ-discrete}
-use lib.ListN.{length}
+use mathlib.Core.List.{List, [], _∷_, _++_, append-nil, List·Memᴰ as In, List·Memᴰ·head as first, List·Memᴰ·tail as later, List·Memᴰ·cases-cons as in-cons, List·Memᴰ·append-cases as in-cases, List·Memᴰ·eq-of-singleton as eq-of-singleton, Memᴰ·append-left as in-left, Memᴰ·append-right as in-right}
+use Prim.Native.Nat.{ℕ}
 use Rattle.connectivity.specs.Lists.{Distinct, one}
-use Rattle.connectivity.specs.Graph.{Graph, Edge, Joins}
-use Rattle.connectivity.specs.Reach.{Reach, here, over, Without, ThreeEdgeConnected}
+use Rattle.connectivity.specs.Graph.{Graph}
 use Rattle.connectivity.specs.Walk.{Leg, Walk, last, then, froms, inner}
 use Rattle.connectivity.specs.Mader.{Theta}
-use Rattle.connectivity.proofs.Reach.{joins-sym, joins-vertex}
-use Rattle.connectivity.proofs.Through.{Through, stay, through-on}
 use Rattle.connectivity.proofs.Distinct.{head-distinct, tail-distinct, left-distinct, right-distinct, apart-distinct, join-distinct}
-
--- The doors of x.
-
--- an edge other than c from x to what is reached from r without passing through x
-pub record Door (g : Graph) (live : ℕ → Type 0) (x r c e : ℕ) : Type 0 where
-  pub to : ℕ
-  pub joins : Joins g e x to
-  pub off : to ≡ x → ⊥
-  pub reached : Through g live (λ v. v ≡ x → ⊥) r to
-  pub other : e ≡ c → ⊥
-
-module _ {g : Graph} {live : ℕ → Type 0} {x r c : ℕ} (t : ThreeEdgeConnected g) (every : (e : ℕ) → Edge g e → live e) (j : Joins g c r x)
-    (apart : r ≡ x → ⊥) where
-  -- from what is reached there is no way to x that misses c and the doors
-  shut : (cut : List ℕ) → In c cut → ((e : ℕ) → Door g live x r c e → In e cut) → {u w : ℕ} → Reach g (Without cut) u w → w ≡ x
-      → Through g live (λ v. v ≡ x → ⊥) r u → (u ≡ x → ⊥) → ⊥
-  shut cut i f here p k n = n p
-  shut cut i f (over {u} {v} e l m q) p k n = elim (ℕ-discrete v x) [
-    | yes h ↦ l (f e (record {
-      to = u;
-      joins = subst (λ y. Joins g e y u) h (joins-sym m);
-      off = n;
-      reached = k;
-      other = λ o. l (Memᴰ·cast o i);
-    }))
-    | no h ↦ shut cut i f q p (through-on k (every e (m .edge)) n m) h
-  ]
-
-  -- so no cut of two edges has c and all doors
-  doors-cut : (cut : List ℕ) → length cut ≤ 2 → In c cut → ((e : ℕ) → Door g live x r c e → In e cut) → ⊥
-  doors-cut cut h i f = shut cut i f (t .still cut h r x (joins-vertex j) (joins-vertex (joins-sym j))) refl stay apart
-
-  -- there is a door
-  pub one-door : ((e : ℕ) → Door g live x r c e → ⊥) → ⊥
-  one-door f = doors-cut (c ∷ []) (omega arith) (first refl) (λ e k. absurd (f e k))
-
-  -- and another
-  pub two-doors : ((d e : ℕ) → Door g live x r c d → Door g live x r c e → d ≡ e) → ⊥
-  two-doors f = one-door (λ d k. doors-cut (c ∷ d ∷ []) (omega arith) (first refl) (λ e q. later (first (f e d q k))))
-
--- The three walks.
 
 froms-inner : {g : Graph} {u w : ℕ} {legs : List Leg} → Walk g u legs w → froms legs ≡ u ∷ inner legs
 froms-inner (last e j) = refl

@@ -1,7 +1,6 @@
--- Ways that pass only through some vertices, as a search with barriers goes, and their laws. No notion of 01: its reach is `Reach`.
+-- Ways that pass only through some vertices, and their laws. No notion of 01: its reach is `Reach`.
 use Prim.Native.Nat.{ℕ}
 use Rattle.connectivity.specs.Graph.{Graph, Joins}
-use Rattle.connectivity.specs.Reach.{Reach, here, over}
 
 -- a way over live edges on which every vertex that is left may be passed through
 pub data Through (g : Graph) (live pass : ℕ → Type 0) : ℕ → ℕ → Type 0 where
@@ -19,12 +18,3 @@ module _ {g : Graph} {live pass : ℕ → Type 0} where
       → {u v : ℕ} → Through g live pass u v → S u → S v
   closed-through S c stay s = s
   closed-through S c (leave {u} {v} e l p j r) s = closed-through S c r (c e u v l p j s)
-
-  pub through-reach : {u v : ℕ} → Through g live pass u v → Reach g live u v
-  through-reach stay = here
-  through-reach (leave e l p j r) = over e l j (through-reach r)
-
--- where every vertex may be passed through, it is reach
-pub reach-through : {g : Graph} {live pass : ℕ → Type 0} → ((v : ℕ) → pass v) → {u v : ℕ} → Reach g live u v → Through g live pass u v
-reach-through f here = stay
-reach-through f (over {u} e l j r) = leave e l (f u) j (reach-through f r)

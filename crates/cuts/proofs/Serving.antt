@@ -1,6 +1,6 @@
 -- The whole answer: refused, and all lent tables stay; or served, and what they then hold.
 use mathlib.Core.Path.{_≡_, refl, sym, ap, _∙_}
-use mathlib.Core.Bool.{Bool, true, false, _&&_}
+use mathlib.Core.Bool.{Bool, false}
 use mathlib.Core.List.{List, [], _∷_}
 use mathlib.Core.Option.{Option, none, some}
 use Prim.Native.Nat.{ℕ, _*_, _/_, _≤_, _<_}
@@ -11,7 +11,7 @@ use lib.Dec.{T, leb, le→leb}
 use lib.ListN.{length, getD, drop, replicate}
 use Rattle.connectivity.specs.Plan.{Plan, graph, limits}
 use Rattle.connectivity.specs.Cut.{lowestCut}
-use Rattle.connectivity.specs.Admission.{Answer, Handed, passed, Admitted, admission}
+use Rattle.connectivity.specs.Admission.{Answer, Handed, passed, Admitted}
 use Rattle.connectivity.specs.Verdict.{verdictOn, verdictHanded}
 use Rattle.connectivity.proofs.Lists.{Decides, decides-le, decides-and, decides-to, T-dec, T-true, T-false}
 use Rattle.graph.specs.declared.Answer as code

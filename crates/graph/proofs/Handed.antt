@@ -8,15 +8,10 @@ use borrow.Author.Tests.{eqb-true, eqb-false, eq-eqb, ne-eqb}
 use native.Mathlib.Decide.{ℕ-discrete}
 use Rattle.connectivity.specs.Plan.{Plan, Limits}
 use Rattle.connectivity.specs.Admission.{Answer, answer, passed, Handed, served, refusal, Admitted, admission}
-use Rattle.connectivity.proofs.Lists.{T-dec}
 use Rattle.connectivity.proofs.Admission.{admission-is, admission-number, failed-then}
 use Rattle.graph.specs.Admission.{answerOf, lent}
 use Rattle.graph.specs.declared.Answer as code
-use Rattle.graph.proofs.Lent.{RefusedBy, not-served, told-by, lent-enough, lent-short, lent-passed}
-
--- an answer to a plan and lent space that has the number 0 is success
-pub lent-zero : (most : Limits) (p : Plan) (t : Bool) → (lent most p t) .number ≡ 0 → lent most p t ≡ passed
-lent-zero most p t z = elim (T-dec t) [ yes y ↦ lent-enough t (lent-passed t z) y | no h ↦ absurd (lent-short t (lent-passed t z) h .0 z) ]
+use Rattle.graph.proofs.Lent.{RefusedBy, not-served, told-by, lent-enough}
 
 -- with space that is enough for every admitted plan, it is the plan's own
 pub lent-own : (most : Limits) (p : Plan) (t : Bool) → (Admitted most p → T t) → lent most p t ≡ admission most p

@@ -10,7 +10,7 @@ use native.Mathlib.Decide.{ℕ-discrete, decLt}
 use lib.Bits.{bitXor, xor-self, xor-zero-r}
 use lib.Dec.{T, eqb, eqb→eq}
 use lib.ListN.{length, getD}
-use Rattle.connectivity.specs.Lists.{no-member, one, range, any, keep}
+use Rattle.connectivity.specs.Lists.{no-member, one, range, any}
 use Rattle.connectivity.specs.Plan.{Plan, graph, Limits}
 use Rattle.connectivity.specs.Graph.{Graph, Vertex, Joins, vertices, edges}
 use Rattle.connectivity.specs.Admission.{Admitted}
@@ -26,7 +26,7 @@ use Rattle.depth.specs.Depth.{rootMark}
 use Rattle.depth.specs.Forest.{Forest}
 use Rattle.labels.specs.Answered.{ForestOf}
 use Rattle.graph.specs.Marks.{read}
-use Rattle.graph.proofs.Joined.{vertex-below}
+use Rattle.graph.proofs.Joined.{vertex-below, joins-ends}
 use Rattle.labels.specs.Label.{around, Balanced}
 use Rattle.labels.specs.Labels.{xorAt, Summed, Toggled, FirstEdge, Settled, by, passed, Scattered, Settling}
 use Rattle.labels.proofs.Xor.{xors, xors-part}
@@ -87,10 +87,6 @@ module _ {g : Graph} {n : ℕ} {mark at : ℕ → ℕ} (t : Forest g n mark at) 
 abbrev Ends : ℕ → ℕ → ℕ → ℕ → Type 0
 Ends a b u v = ((a ≡ u) × (b ≡ v)) ⊎ ((a ≡ v) × (b ≡ u))
 
-joined : (p : Plan) {e u v : ℕ} → Joins (graph p) e u v → Ends (getD (p .ends) (2 * e) 0) (getD (p .ends) (2 * e + 1) 0) u v
-unfolding graph
-joined p j = j .ends
-
 hit : {a b u v : ℕ} → Ends a b u v → (eqb a v || eqb b v) ≡ true
 hit {a} {b} {u} {v} (inl p) = T-true (eqb a v || eqb b v) (or-right (eqb a v) (eqb b v) (eq-T (p .1)))
 hit {a} {b} {u} {v} (inr p) = T-true (eqb a v || eqb b v) (or-left (eqb a v) (eqb b v) (eq-T (p .0)))
@@ -143,14 +139,14 @@ module _ {most : Limits} {p : Plan} {first order labels₀ sums₀ labels sums :
       here : ForestOf p first order → getD changed (at k) 0 ≡ 0
       here t =
           at-ends a (f .edge) (s .scattered .summed) (getD sums (at k) 0) (at k)
-          ∙ ap (λ (t : Bool). bitXor (cond t (getD sums (at k) 0) 0) (getD sums (at k) 0)) (hit (joined p (up t .2)))
+          ∙ ap (λ (t : Bool). bitXor (cond t (getD sums (at k) 0) 0) (getD sums (at k) 0)) (hit (joins-ends p (up t .2)))
           ∙ xor-self (getD sums (at k) 0)
 
       -- those behind it stay
       those : ForestOf p first order → (j : ℕ) → k < j → j < p .vertices → getD changed (at j) 0 ≡ 0
       those t j l h =
           let u = up t in
-          let o = joined p (u .2) in
+          let o = joins-ends p (u .2) in
           let d : at (u .0) ≡ at j → ⊥ = t .once (u .0) j (omega (arith, u .1)) h in
           let q : at k ≡ at j → ⊥ = t .once k j l h in
           away a (f .edge) (s .scattered .summed) (getD sums (at k) 0) (at j) (no-left o d q) (no-right o d q) ∙ s .done t j (omega arith) h

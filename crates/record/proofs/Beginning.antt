@@ -7,58 +7,18 @@ use lib.ListN.{length}
 use Rattle.connectivity.specs.Plan.{plan, graph}
 use Rattle.connectivity.specs.Graph.{Graph}
 use Rattle.tree.specs.Tree.{Pointers, Passing}
-use Rattle.tree.proofs.Above.{parent-vertex, climb-end}
+use Rattle.tree.proofs.Above.{parent-vertex, climb-end, way-up}
 use Rattle.tree.proofs.Begin.{meeting-child}
 use Rattle.graph.specs.Marks.{read}
 use Rattle.graph.proofs.Joined.{vertex-below, joins-below, joins-edge}
 use Rattle.record.specs.Ways.{farEnd, nextUp, Rises}
 use Rattle.record.specs.Standing.{Listed, Ground, treeOf}
 use Rattle.record.specs.Recording.{Beginning, Begun}
-use Rattle.record.specs.Opening.{NextDoor, Meets, Meeting, Met, Climbs, threeWalks, Rowed, RowedBy, Raw, RaisedBy, Threefold}
+use Rattle.record.specs.Opening.{NextDoor, Meets, Meeting, Met, Climbs, threeWalks, Finding, Forked, ForkedBy, Rowed, RowedBy, Raw, RaisedBy}
 use Rattle.record.proofs.Climbing.{parent-is, child-rises}
 use Rattle.record.proofs.Doors.{eldest-child, root-below, doors-differ, one-leads, other-leads}
-use Rattle.record.proofs.TwoWays.{above-climb, root-climb}
+use Rattle.record.proofs.TwoWays.{root-climb}
 use Rattle.record.proofs.ThreeRows.{x-child}
-
--- What `three_walks` asks is what its parts ask.
-
-module _ {ends first places below tops bottoms used : List ℕ} {root x f w d u room : ℕ} (c : Threefold ends first root x f w d u places below tops bottoms used room) where
-  pub x-rises : Rises ends first x
-  x-rises = child-rises (c .climbs .rooted) (x-child (c .climbs))
-
-  module _ {p : ℕ} (q : p ≡ nextUp ends first x) where
-    pub parent-of : p ≡ treeOf (c .n) ends root first (c .rank) .parent x
-    parent-of = q ∙ sym (parent-is (c .climbs .rooted) (x-child (c .climbs)))
-
-    abbrev pub rowed : Rowed ends first root x (read first x - 1) p f w d u room
-    rowed = record { n = c .n; rank = c .rank; climbs = c .climbs; edge = refl; parent = parent-of; fits = c .fits }
-
-    abbrev pub raw : Raw ends first root x (read first x - 1) p f w d u places below tops bottoms used
-    raw = record {
-      n = c .n;
-      rank = c .rank;
-      climbs = c .climbs;
-      edge = refl;
-      parent = parent-of;
-      places-blank = c .places-blank;
-      below-blank = c .below-blank;
-      used-blank = c .used-blank;
-      roomy = c .roomy;
-      used-long = c .used-long;
-    }
-
-pub begun : {ends first places below tops bottoms used : List ℕ} {root x f w d u p : ℕ} (before : List ℕ)
-    (c : Threefold ends first root x f w d u places below tops bottoms used (length before)) (q : p ≡ nextUp ends first x)
-    (after places' below' tops' bottoms' used' : List ℕ) {count next : ℕ} → RowedBy ends first root x (read first x - 1) p f w d u before after count
-    → RaisedBy ends first root x (read first x - 1) p f w d u places below tops bottoms used places' below' tops' bottoms' used' next
-    → Begun (c .n) root ends first (c .rank) before after places' below' tops' bottoms' used' count next
-begun {first = first} {root = root} {x = x} {f = f} {d = d} before c q after places' below' tops' bottoms' used' r b = record {
-  walks = threeWalks root x f (read first x - 1) d (c .climbs .low) (c .climbs .high) (c .climbs .side);
-  three = refl;
-  holds = b (raw c q);
-  written = r (rowed c q) .0;
-  count = r (rowed c q) .1;
-}
 
 -- The doors, and where the ways up meet.
 
@@ -103,7 +63,7 @@ module _ {n root : ℕ} {ends incident begins first order number last over : Lis
 
     pub climbs : {x : ℕ} → Meeting g t w u x → Climbs n root ends first (read number) x (read incident i) w (read incident k) u
     climbs {x} m =
-        let (low, to-x) = above-climb (s .rooted) (climb-end (m .climb)) in
+        let (low, to-x) = way-up (climb-end (m .climb)) in
         let (high, up) = root-climb (s .rooted) (vertex-below n ends _ (parent-vertex (s .rooted .tree)
         (meeting-child (s .rooted .tree) (eldest-child s l) one-passing other-passing (m .climb)))) in
         record {
@@ -121,29 +81,81 @@ module _ {n root : ℕ} {ends incident begins first order number last over : Lis
           meets = m .climb;
         }
 
-module _ {ends incident begins first order number last places below tops bottoms used : List ℕ} {room : ℕ}
-    (c : Beginning ends incident begins first order number last places below tops bottoms used room) {i k w u x : ℕ}
-    (o : NextDoor ends incident begins first number (read last (read order 1)) (read order 0) (read begins (read order 0)) i)
-    (h : NextDoor ends incident begins first number (read last (read order 1)) (read order 0) (i + 1) k)
-    (to-w : w ≡ farEnd ends (read incident i) (read order 0)) (to-u : u ≡ farEnd ends (read incident k) (read order 0)) (places' : List ℕ)
-    (m : Met ends first w u (read order 0) places places' x) where
-  pub met : ((v : ℕ) → read places' v ≡ 0) × Meeting (graph (plan (c .n) ends)) (treeOf (c .n) ends (read order 0) first (read number)) w u x
-  met = m .1 (meets (c .ground) (c .listing) o h to-w to-u places (c .roomy .places-long) (c .places-blank))
+module _ {ends incident begins first order number last places : List ℕ} {root : ℕ} (c : Finding ends incident begins first order number last root places)
+    {i k w u : ℕ} (o : NextDoor ends incident begins first number (read last (read order 1)) root (read begins root) i)
+    (h : NextDoor ends incident begins first number (read last (read order 1)) root (i + 1) k)
+    (to-w : w ≡ farEnd ends (read incident i) root) (to-u : u ≡ farEnd ends (read incident k) root) where
+  pub find-meets : Meets ends first w u root places
+  find-meets = meets (c .ground) (c .listing) o h to-w to-u places (c .places-long) (c .places-blank)
 
-  abbrev pub threefold : Threefold ends first (read order 0) x (read incident i) w (read incident k) u places' below tops bottoms used room
-  threefold = record {
+  module _ {x : ℕ} (places' : List ℕ) (m : Met ends first w u root places places' x) where
+    met : ((v : ℕ) → read places' v ≡ 0) × Meeting (graph (plan (c .n) ends)) (treeOf (c .n) ends root first (read number)) w u x
+    met = m .1 (meets (c .ground) (c .listing) o h to-w to-u places (c .places-long) (c .places-blank))
+
+    find-climbs : Climbs (c .n) root ends first (read number) x (read incident i) w (read incident k) u
+    find-climbs = climbs (c .ground) (c .listing) o h to-w to-u (met .1)
+
+    pub find-rises : Rises ends first x
+    find-rises = child-rises (c .ground .rooted) (x-child find-climbs)
+
+    pub forked : {p : ℕ} → p ≡ nextUp ends first x → Forked (c .n) root ends first (read number) places' x (read first x - 1) p (read incident i) w (read incident k) u
+    forked q = record {
+      climbs = find-climbs;
+      edge = refl;
+      parent = q ∙ sym (parent-is (c .ground .rooted) (x-child find-climbs));
+      blank = met .0;
+    }
+
+-- What writing and building the walks ask, and what they leave behind.
+
+module _ {ends incident begins first order number last places below tops bottoms used : List ℕ} {room : ℕ}
+    (c : Beginning ends incident begins first order number last places below tops bottoms used room) where
+  abbrev pub finding : Finding ends incident begins first order number last (read order 0) places
+  finding = record {
     n = c .n;
-    rank = read number;
-    climbs = climbs (c .ground) (c .listing) o h to-w to-u (met .1);
-    places-blank = met .0;
-    below-blank = c .below-blank;
-    used-blank = c .used-blank;
-    roomy = record {
-      below-long = c .roomy .below-long;
-      places-long = omega (arith, m .0, c .roomy .places-long);
-      tops-long = c .roomy .tops-long;
-      bottoms-long = c .roomy .bottoms-long;
-    };
-    used-long = c .used-long;
-    fits = c .fits;
+    over = c .over;
+    ground = c .ground;
+    listing = c .listing;
+    places-blank = c .places-blank;
+    places-long = c .roomy .places-long;
   }
+
+  module _ (places' : List ℕ) {x e p f w d u : ℕ} (m : ForkedBy ends incident begins first order number last (read order 0) places places' x e p f w d u) where
+    abbrev pub rowed : Rowed ends first (read order 0) x e p f w d u room
+    rowed = let r = m .1 finding in record { n = c .n; rank = read number; climbs = r .climbs; edge = r .edge; parent = r .parent; fits = c .fits }
+
+    abbrev pub raw : Raw ends first (read order 0) x e p f w d u places' below tops bottoms used
+    raw = let r = m .1 finding in record {
+      n = c .n;
+      rank = read number;
+      climbs = r .climbs;
+      edge = r .edge;
+      parent = r .parent;
+      places-blank = r .blank;
+      below-blank = c .below-blank;
+      used-blank = c .used-blank;
+      roomy = record {
+        below-long = c .roomy .below-long;
+        places-long = omega (arith, m .0, c .roomy .places-long);
+        tops-long = c .roomy .tops-long;
+        bottoms-long = c .roomy .bottoms-long;
+      };
+      used-long = c .used-long;
+    }
+
+pub begun : {ends incident begins first order number last places below tops bottoms used : List ℕ} (before : List ℕ)
+    (c : Beginning ends incident begins first order number last places below tops bottoms used (length before)) (places-1 : List ℕ) {x e p f w d u : ℕ}
+    → ForkedBy ends incident begins first order number last (read order 0) places places-1 x e p f w d u
+    → (after places' below' tops' bottoms' used' : List ℕ) {count next : ℕ} → RowedBy ends first (read order 0) x e p f w d u before after count
+    → RaisedBy ends first (read order 0) x e p f w d u places-1 below tops bottoms used places' below' tops' bottoms' used' next
+    → Begun (c .n) (read order 0) ends first (read number) before after places' below' tops' bottoms' used' count next
+begun {order = order} before c places-1 {x} {e} {p} {f} {w} {d} {u} m after places' below' tops' bottoms' used' r b =
+    let k = m .1 (finding c) .climbs in
+    let z = r (rowed c places-1 m) in
+    record {
+      walks = threeWalks (read order 0) x f e d (k .low) (k .high) (k .side);
+      three = refl;
+      holds = b (raw c places-1 m);
+      written = z .0;
+      count = z .1;
+    }

@@ -1,35 +1,34 @@
 -- What `next_edge` comes to gives an edge that a Mader-path begins with: out of a link that has an inside; else, where every built vertex is a branch, over
 -- the first edge that is not built at a vertex of the order.
-use mathlib.Core.Path.{_≡_, refl, sym, ap, _∙_, subst}
+use mathlib.Core.Path.{_≡_, refl, sym, subst}
 use mathlib.Core.Logic.{_⊎_, inl, inr}
-use mathlib.Core.List.{List, [], _∷_, List·Memᴰ as In}
-use Prim.Native.Nat.{ℕ, suc, _+_, _-_, _/_, _≤_, _<_}
+use mathlib.Core.List.{List, List·Memᴰ as In}
+use Prim.Native.Nat.{ℕ, suc, _+_, _-_, _≤_, _<_}
 use native.Mathlib.Omega.{arith}
 use native.Mathlib.Decide.{ℕ-discrete, decLe, decLt}
 use lib.ListN.{length}
 use Rattle.connectivity.specs.Plan.{plan, graph, limits}
-use Rattle.connectivity.specs.Graph.{Graph, Vertex, Edge, Joins, edges}
-use Rattle.connectivity.specs.Walk.{Leg, allEdges, degree, Built, Branch}
+use Rattle.connectivity.specs.Graph.{Graph, Edge, Joins}
+use Rattle.connectivity.specs.Walk.{Leg, allEdges, Built, Branch}
 use Rattle.connectivity.proofs.Lists.{in-dec}
 use Rattle.connectivity.proofs.Reach.{joins-sym, joins-vertex}
 use Rattle.connectivity.proofs.Degree.{hits-from, in-degree}
-use Rattle.tree.specs.Tree.{Pointers, Child, Back, Climb, Tree}
+use Rattle.tree.specs.Tree.{Pointers, Back, Climb, Tree}
 use Rattle.tree.specs.Filed.{Tips}
-use Rattle.tree.specs.Links.{Tipped, gone, tipped}
+use Rattle.tree.specs.Links.{gone, tipped}
 use Rattle.tree.proofs.Above.{child-or-root, parent-vertex}
-use Rattle.tree.proofs.Inside.{built-is-vertex, climb-built}
-use Rattle.tree.proofs.Step.{over-back, step-at, branch-ear}
+use Rattle.tree.proofs.Inside.{climb-built}
+use Rattle.tree.proofs.Step.{over-back, step-at, branch-mader}
 use Rattle.tree.proofs.Stuck.{exit-passes}
 use Rattle.tree.proofs.Shelving.{filed-built}
 use Rattle.tree.proofs.NewLink.{links-most}
 use Rattle.graph.specs.Marks.{read, Marked}
-use Rattle.graph.proofs.Joined.{vertex-below, joins-edge, joins-below}
+use Rattle.graph.proofs.Joined.{bound-is, vertex-below, joins-edge, joins-below}
 use Rattle.record.specs.Standing.{treeOf}
 use Rattle.record.specs.Leaving.{Leaving, Exit}
 use Rattle.record.specs.Cursors.{NextLink, Ahead, Opening, Opened}
-use Rattle.record.specs.Recording.{Holds, Chosen, Behind, Nexting}
+use Rattle.record.specs.Recording.{Chosen, Behind, Nexting}
 use Rattle.record.proofs.Counting.{done-every}
-use Rattle.record.proofs.NewWalk.{bound-is}
 
 -- over an edge at a vertex, where every climb makes a Mader-path
 module _ {ends incident begins first order number last over places below tops bottoms used : List ℕ} {next empty at slot : ℕ}
@@ -251,5 +250,5 @@ module _ {ends incident begins first order number last over places below tops bo
               lower = w;
               back = b;
               new = step-at tree (c .holds .state .along .held) (c .ground .overs) j n b k at-built .new;
-              path = λ legs x i. branch-ear tree (c .holds .state .along .held) (c .ground .overs) j n b i all-branches at-built;
+              path = λ legs x i. branch-mader tree (c .holds .state .along .held) (c .ground .overs) j n b i all-branches at-built;
             }

@@ -166,9 +166,10 @@ module _ {n root : ℕ} {ends incident begins first order number last over : Lis
         other = λ p. joins-differ n root ends first number (s .rooted) j (sym p);
       }
 
-  -- there is one
-  abbrev pub some-door : Doors ends incident first number (read last eldest) root (read begins root)
-  some-door = record {
+  abbrev doors : {from : ℕ} → read begins root ≤ from
+      → (((k : ℕ) → from ≤ k → k < read begins (root + 1) → DoorAt ends incident first number (read last eldest) root k → ⊥) → ⊥)
+      → Doors ends incident first number (read last eldest) root from
+  doors h some = record {
     n = n;
     begins = begins;
     admitted = s .rooted .admitted;
@@ -176,9 +177,13 @@ module _ {n root : ℕ} {ends incident begins first order number last over : Lis
     vertex = root-below;
     first-long = s .rooted .long;
     number-long = s .number-long;
-    start = omega arith;
-    some = λ f. one-passing (s .rooted .tree) (s .three) eldest-child (λ e y w q. let (k, a, b, p, d) = passing-door q in f k a b d);
+    start = h;
+    some = some;
   }
+
+  -- there is one
+  abbrev pub some-door : Doors ends incident first number (read last eldest) root (read begins root)
+  some-door = doors (omega arith) (λ f. one-passing (s .rooted .tree) (s .three) eldest-child (λ e y w q. let (k, a, b, p, d) = passing-door q in f k a b d))
 
   module _ {i : ℕ} (o : NextDoor ends incident begins first number (read last eldest) root (read begins root) i) where
     -- were there no other, each would be it
@@ -194,17 +199,8 @@ module _ {n root : ℕ} {ends incident begins first order number last over : Lis
 
     -- there is another behind it
     abbrev pub other-door : Doors ends incident first number (read last eldest) root (i + 1)
-    other-door = record {
-      n = n;
-      begins = begins;
-      admitted = s .rooted .admitted;
-      grouped = s .grouped;
-      vertex = root-below;
-      first-long = s .rooted .long;
-      number-long = s .number-long;
-      start = omega (arith, o .least);
-      some = λ f. two-passing (s .rooted .tree) (s .three) eldest-child (λ d e y w v z q r. only-door f q ∙ sym (only-door f r));
-    }
+    other-door = doors (omega (arith, o .least))
+        (λ f. two-passing (s .rooted .tree) (s .three) eldest-child (λ d e y w v z q r. only-door f q ∙ sym (only-door f r)))
 
     module _ {k : ℕ} (h : NextDoor ends incident begins first number (read last eldest) root (i + 1) k) where
       pub doors-differ : read incident i ≡ read incident k → ⊥

@@ -18,10 +18,8 @@ use Rattle.graph.proofs.Joined.{vertex-below}
 use Rattle.graph.proofs.Tally.{tally-none, tally-full}
 use Rattle.incidence.specs.Tables.{Tabled}
 use Rattle.depth.specs.Depth as d
-use Rattle.depth.specs.Depth.{rootMark, Crossing, EnteredBy, Up, Fresh, Found, Answered}
-use Rattle.depth.specs.declared.Explored.{Explored}
-use Rattle.depth.proofs.Outcomes.{seen-found, tabled-enough}
-use Rattle.depth.proofs.Entering.{cursor-zero, entered-reach}
+use Rattle.depth.specs.Depth.{rootMark, Crossing, EnteredBy, Up, Fresh, Found}
+use Rattle.depth.proofs.Entering.{entered-reach}
 use Rattle.depth.proofs.Above.{between, edge-above, no-root}
 use Rattle.tree.specs.Tree as t
 use Rattle.tree.specs.Tree.{Pointers, Child, Tree}

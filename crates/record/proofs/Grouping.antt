@@ -1,7 +1,7 @@
 -- The tables of a plan, with where the last group ends behind them, tell the edges at each vertex.
 use mathlib.Core.Path.{_≡_, refl, sym, ap, _∙_, subst}
 use mathlib.Core.List.{List, []}
-use Prim.Native.Nat.{ℕ, suc, _+_, _*_, _/_, _≤_, _<_}
+use Prim.Native.Nat.{ℕ, suc, _+_, _/_, _≤_, _<_}
 use native.Mathlib.Omega.{arith}
 use native.Mathlib.Decide.{ℕ-discrete, decLt}
 use lib.Dec.{T}
@@ -15,23 +15,17 @@ use Rattle.connectivity.specs.Admission.{Admitted}
 use Rattle.connectivity.proofs.Reach.{joins-vertex}
 use Rattle.connectivity.proofs.Legs.{joins-far}
 use Rattle.connectivity.proofs.Admission.{admitted-edge}
-use Rattle.graph.specs.declared.Answer.{Answer}
 use Rattle.graph.specs.Marks.{read}
 use Rattle.graph.proofs.Joined.{vertex-below}
-use Rattle.incidence.specs.Tables.{touches, groups, begin, incidentTable, beginsTable, Filled, Tabled}
+use Rattle.incidence.specs.Tables.{touches, groups, begin, incidentTable, beginsTable, Tabled}
 use Rattle.incidence.specs.Parts.{rank}
 use Rattle.incidence.proofs.Groups.{begin-all, begin-le, place-find, place-at, place-below}
-use Rattle.incidence.proofs.Filled.{begins-long, begins-at, incident-is, filled-own, filled-tabled, tabled-room}
+use Rattle.incidence.proofs.Filled.{begins-long, begins-at, incident-is, tabled-room}
 use Rattle.incidence.proofs.Front.{front}
 use Rattle.incidence.proofs.Loops.{kept-same}
 use Rattle.depth.specs.Depth.{groupEnd}
 use Rattle.depth.proofs.Crosses.{crosses}
 use Rattle.record.specs.Standing.{Grouped}
-
--- tables with room for an admitted plan are filled
-pub filled-plan : {most : Limits} {n : ℕ} {ends incident₀ begins₀ incident begins : List ℕ} {r : Answer} → Admitted most (plan n ends) → 2 * (length ends / 2) ≤ length incident₀ → n ≤ length begins₀
-    → Filled most (plan n ends) incident₀ begins₀ incident begins r → Tabled most (plan n ends) incident begins
-filled-plan {r = r} a i b f = elim (ℕ-discrete (r .number) 0) [ yes z ↦ filled-tabled f z | no h ↦ absurd (filled-own f (λ x. (i, b)) h .0 a) ]
 
 touches-joins : {g : Graph} {v e : ℕ} → Edge g e → T (touches g v e) → Joins g e v (far g e v)
 unfolding touches

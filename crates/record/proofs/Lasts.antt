@@ -9,8 +9,7 @@ use lib.ListN.{length, set}
 use lib.Seq.{getD-set-same, getD-set-other}
 use Rattle.connectivity.specs.Graph.{Graph, Vertex}
 use Rattle.tree.specs.Tree.{Pointers, Child, Above, same, higher, Tree, Preorder}
-use Rattle.tree.proofs.Above.{above-trans, above-rank}
-use Rattle.tree.proofs.Numbers.{preorder-from}
+use Rattle.tree.proofs.Above.{above-trans, above-rank, preorder-from}
 use Rattle.graph.specs.Marks.{read}
 use Rattle.record.specs.Standing.{Together}
 use Rattle.record.specs.Below.{Put, RaisedTo}

@@ -16,15 +16,11 @@ use Rattle.tree.proofs.Above.{climb-same, climb-child}
 use Rattle.tree.proofs.Begin.{climb-start}
 use Rattle.tree.proofs.NewLink.{low-climb, low-on, on-low, links-room, links-grown}
 use Rattle.graph.specs.Marks.{read}
-use Rattle.graph.proofs.Joined.{vertex-below}
+use Rattle.graph.proofs.Joined.{bound-is, vertex-below}
 use Rattle.record.specs.Ways.{nextUp, Marking, MarkedUp, Raising, Raised, RaisedUp}
 use Rattle.record.specs.Standing.{treeOf}
 use Rattle.record.specs.Linking.{Building, Walked}
 use Rattle.record.proofs.Climbing.{parent-is, climb-way}
-
-pub bound-is : (n : ℕ) (ends : List ℕ) → graph (plan n ends) .bound ≡ n
-unfolding graph
-bound-is n ends = refl
 
 in-some : {x : ℕ} (legs : List Leg) → In x (froms legs) → 1 ≤ length legs
 in-some [] i = absurd (not-in i)

@@ -27,7 +27,7 @@ use Rattle.record.specs.Standing.{treeOf}
 use Rattle.record.specs.Linking.{Roomy, Building, Walked, WalkedBy}
 use Rattle.record.specs.Leaving.{Uses}
 use Rattle.record.specs.Recording.{Holds}
-use Rattle.record.specs.Opening.{Climbs, threeWalks, Raw}
+use Rattle.record.specs.Opening.{Climbs, threeWalks, Raw, WayAt}
 use Rattle.record.proofs.Climbing.{climb-to-below}
 use Rattle.record.proofs.ThreeRows.{x-child, x-below, root-below, parent-below, w-below, u-below, f-below, d-below, e-below}
 
@@ -216,9 +216,6 @@ module _ {ends first : List ℕ} {root x e p f w d u : ℕ} (places below tops b
   edge-1 : e < length ends / 2
   edge-1 = subst (λ (y : ℕ). y < length ends / 2) (sym (c .edge)) (e-below b)
 
-  pub building-1 : Building ends first e p root 2 places-0 below-0 tops bottoms used
-  building-1 = building b stands-0 (λ z h. h) climb-1 (inl refl) p-below edge-1
-
   belows-1 : {place noted : ℕ → ℕ} → Noted tr (read below-0) noted (b .high) → Belows gr tr (λ v. Ends tr x v ⊎ In v (froms (b .high))) place noted
   belows-1 {place} {noted} n = record {
     child = λ v y h. elim (some-child tr v (froms (b .high))) [
@@ -240,40 +237,70 @@ module _ {ends first : List ℕ} {root x e p f w d u : ℕ} (places below tops b
   up-1 v h (inl (inr q)) = rw q (elim (climb-start (b .rooted .tree) (b .up)) [ inl i ↦ inr i | inr r ↦ inl (inl r) ])
   up-1 v h (inr i) = elim (climb-next (b .rooted .tree) climb-1 i) [ inl j ↦ inr j | inr r ↦ inl (inl r) ]
 
-  module _ (places-1 below-1 tops-1 bottoms-1 used-1 : List ℕ) (next-1 : ℕ)
-      (walk-1 : WalkedBy ends first e p root 2 places-0 below-0 tops bottoms used places-1 below-1 tops-1 bottoms-1 used-1 next-1) where
-    stands-1 : Stands (c .n) root ends first (c .rank) x (λ v. Ends tr x v ⊎ In v (froms (b .high))) (e ∷ (edgesOf (b .high) ++ [])) places-1 below-1 tops-1 bottoms-1 used-1 next-1
-    stands-1 = stands-grown b stands-0 (λ z h. h) climb-1 (inl refl) p-below edge-1 places-1 below-1 tops-1 bottoms-1 used-1 next-1 walk-1 (λ grown noted. belows-1 noted)
+  climb-2 : Climb gr tr (λ v. Ends tr x v ⊎ In v (froms (b .high))) w (b .low) x
+  climb-2 = climb-two (b .rooted .tree) (b .child) (b .one) (b .other) (b .differ) (b .meets) (b .to-x) (b .up)
 
-    climb-2 : Climb gr tr (λ v. Ends tr x v ⊎ In v (froms (b .high))) w (b .low) x
-    climb-2 = climb-two (b .rooted .tree) (b .child) (b .one) (b .other) (b .differ) (b .meets) (b .to-x) (b .up)
+  climb-3 : Climb gr tr (λ v. (Ends tr x v ⊎ In v (froms (b .high))) ⊎ In v (froms (b .low))) u (b .side) x
+  climb-3 = climb-three (b .rooted .tree) (b .child) (b .one) (b .other) (b .differ) (b .meets) (b .to-x) (b .up)
 
-    pub building-2 : Building ends first f w x next-1 places-1 below-1 tops-1 bottoms-1 used-1
-    building-2 = building b stands-1 (λ z h. inl h) climb-2 (inr refl) (w-below b) (f-below b)
+  -- After k of the walks.
+  pub data Stage (k : ℕ) (places' below' tops' bottoms' used' : List ℕ) (next : ℕ) : Type 0 where
+    none : k ≡ 0 → Stands (c .n) root ends first (c .rank) x (λ v. Ends tr x v) [] places' below' tops' bottoms' used' next
+        → ((place noted : ℕ → ℕ) → Noted tr (read below') noted (b .high) → Belows gr tr (λ v. Ends tr x v ⊎ In v (froms (b .high))) place noted)
+        → Stage k places' below' tops' bottoms' used' next
+    one : k ≡ 1
+        → Stands (c .n) root ends first (c .rank) x (λ v. Ends tr x v ⊎ In v (froms (b .high))) (e ∷ (edgesOf (b .high) ++ [])) places' below' tops' bottoms' used' next
+        → Stage k places' below' tops' bottoms' used' next
+    two : k ≡ 2
+        → Stands (c .n) root ends first (c .rank) x (λ v. (Ends tr x v ⊎ In v (froms (b .high))) ⊎ In v (froms (b .low)))
+        (f ∷ (edgesOf (b .low) ++ (e ∷ (edgesOf (b .high) ++ [])))) places' below' tops' bottoms' used' next
+        → Stage k places' below' tops' bottoms' used' next
+    all : k ≡ 3 → Holds (c .n) root ends first (c .rank) (threeWalks root x f e d (b .low) (b .high) (b .side)) places' below' tops' bottoms' used' next
+        → Stage k places' below' tops' bottoms' used' next
 
-    module _ (places-2 below-2 tops-2 bottoms-2 used-2 : List ℕ) (next-2 : ℕ)
-        (walk-2 : WalkedBy ends first f w x next-1 places-1 below-1 tops-1 bottoms-1 used-1 places-2 below-2 tops-2 bottoms-2 used-2 next-2) where
-      stands-2 : Stands (c .n) root ends first (c .rank) x (λ v. (Ends tr x v ⊎ In v (froms (b .high))) ⊎ In v (froms (b .low)))
-          (f ∷ (edgesOf (b .low) ++ (e ∷ (edgesOf (b .high) ++ [])))) places-2 below-2 tops-2 bottoms-2 used-2 next-2
-      stands-2 = stands-next b stands-1 (λ z h. inl h) climb-2 (inr refl) (w-below b) (f-below b) up-1 places-2 below-2 tops-2 bottoms-2 used-2 next-2 walk-2
+  pub stage-start : {places-1 below-1 : List ℕ} → places-1 ≡ places-0 → below-1 ≡ below-0 → Stage 0 places-1 below-1 tops bottoms used 2
+  stage-start q r = rw (q, r) (none refl stands-0 (λ place noted. belows-1))
 
-      climb-3 : Climb gr tr (λ v. (Ends tr x v ⊎ In v (froms (b .high))) ⊎ In v (froms (b .low))) u (b .side) x
-      climb-3 = climb-three (b .rooted .tree) (b .child) (b .one) (b .other) (b .differ) (b .meets) (b .to-x) (b .up)
+  module _ {k next edge v stop : ℕ} {places-1 below-1 tops-1 bottoms-1 used-1 : List ℕ} (s : Stage k places-1 below-1 tops-1 bottoms-1 used-1 next) (h : k < 3)
+      (a : WayAt k root x e p f w d u edge v stop) where
+    pub stage-building : Building ends first edge v stop next places-1 below-1 tops-1 bottoms-1 used-1
+    stage-building = elim s [
+      | none q m _ ↦ let (i, j, l) = a .one q in rw (i, j, l) (building b m (λ z h. h) climb-1 (inl refl) p-below edge-1)
+      | one q m ↦ let (i, j, l) = a .two q in rw (i, j, l) (building b m (λ z h. inl h) climb-2 (inr refl) (w-below b) (f-below b))
+      | two q m ↦ let (i, j, l) = a .three q in rw (i, j, l) (building b m (λ z h. inl (inl h)) climb-3 (inr refl) (u-below b) (d-below b))
+      | all q _ ↦ absurd (omega (arith, q, h))
+    ]
 
-      pub building-3 : Building ends first d u x next-2 places-2 below-2 tops-2 bottoms-2 used-2
-      building-3 = building b stands-2 (λ z h. inl (inl h)) climb-3 (inr refl) (u-below b) (d-below b)
-
-      pub raised : (places-3 below-3 tops-3 bottoms-3 used-3 : List ℕ) (next-3 : ℕ)
-          → WalkedBy ends first d u x next-2 places-2 below-2 tops-2 bottoms-2 used-2 places-3 below-3 tops-3 bottoms-3 used-3 next-3
-          → Holds (c .n) root ends first (c .rank) (threeWalks root x f e d (b .low) (b .high) (b .side)) places-3 below-3 tops-3 bottoms-3 used-3 next-3
-      raised places-3 below-3 tops-3 bottoms-3 used-3 next-3 walk-3 =
-          let s = stands-next b stands-2 (λ z h. inl (inl h)) climb-3 (inr refl) (u-below b) (d-below b) (up-grown (b .rooted .tree) up-1 climb-2)
-          places-3 below-3 tops-3 bottoms-3 used-3 next-3 walk-3 in
-          record {
-            state = subst (λ (y : ℕ). State gr tr (threeWalks root x f y d (b .low) (b .high) (b .side)) (read places-3) (read below-3)) (sym (c .edge))
-                (state-begin (b .rooted .tree) (b .child) (b .one) (b .other) (b .differ) (b .meets) (b .to-x) (b .up) (s .filed) (s .belows));
-            links = s .links;
-            uses = s .uses;
-            roomy = s .roomy;
-            used-long = s .used-long;
+    pub stage-next : (places-2 below-2 tops-2 bottoms-2 used-2 : List ℕ) (next-2 : ℕ)
+        → WalkedBy ends first edge v stop next places-1 below-1 tops-1 bottoms-1 used-1 places-2 below-2 tops-2 bottoms-2 used-2 next-2
+        → Stage (k + 1) places-2 below-2 tops-2 bottoms-2 used-2 next-2
+    stage-next places-2 below-2 tops-2 bottoms-2 used-2 next-2 o = elim s [
+      | none q m g ↦
+          let (i, j, l) = a .one q in
+          one (omega (arith, q))
+          (stands-grown b m (λ z h. h) climb-1 (inl refl) p-below edge-1 places-2 below-2 tops-2 bottoms-2 used-2 next-2 (rw (i, j, l) at o) (λ grown noted. g _ _ noted))
+      | one q m ↦
+          let (i, j, l) = a .two q in
+          two (omega (arith, q))
+          (stands-next b m (λ z h. inl h) climb-2 (inr refl) (w-below b) (f-below b) up-1 places-2 below-2 tops-2 bottoms-2 used-2 next-2 (rw (i, j, l) at o))
+      | two q m ↦
+          let (i, j, l) = a .three q in
+          let r = stands-next b m (λ z h. inl (inl h)) climb-3 (inr refl) (u-below b) (d-below b) (up-grown (b .rooted .tree) up-1 climb-2)
+          places-2 below-2 tops-2 bottoms-2 used-2 next-2 (rw (i, j, l) at o) in
+          all (omega (arith, q)) record {
+            state = subst (λ (y : ℕ). State gr tr (threeWalks root x f y d (b .low) (b .high) (b .side)) (read places-2) (read below-2)) (sym (c .edge))
+                (state-begin (b .rooted .tree) (b .child) (b .one) (b .other) (b .differ) (b .meets) (b .to-x) (b .up) (r .filed) (r .belows));
+            links = r .links;
+            uses = r .uses;
+            roomy = r .roomy;
+            used-long = r .used-long;
           }
+      | all q _ ↦ absurd (omega (arith, q, h))
+    ]
+
+  pub stage-end : {k next : ℕ} {places-1 below-1 tops-1 bottoms-1 used-1 : List ℕ} → Stage k places-1 below-1 tops-1 bottoms-1 used-1 next → 3 ≤ k
+      → Holds (c .n) root ends first (c .rank) (threeWalks root x f e d (b .low) (b .high) (b .side)) places-1 below-1 tops-1 bottoms-1 used-1 next
+  stage-end (none q _ _) h = absurd (omega (arith, q, h))
+  stage-end (one q _) h = absurd (omega (arith, q, h))
+  stage-end (two q _) h = absurd (omega (arith, q, h))
+  stage-end (all _ z) h = z

@@ -7,11 +7,11 @@ use native.Mathlib.Omega.{arith}
 use lib.ListN.{length}
 use Rattle.connectivity.specs.Plan.{plan, graph}
 use Rattle.connectivity.specs.Graph.{Graph, Vertex, Joins}
-use Rattle.connectivity.specs.Walk.{allEdges, Built}
+use Rattle.connectivity.specs.Walk.{allEdges}
 use Rattle.connectivity.proofs.Reach.{joins-sym, joins-vertex}
 use Rattle.tree.specs.Tree.{Pointers, Above, Tree, Preorder, Back}
 use Rattle.tree.proofs.Above.{above-rank}
-use Rattle.tree.proofs.Inside.{built-is-vertex, built-up}
+use Rattle.tree.proofs.Inside.{built-is-vertex}
 use Rattle.tree.proofs.Step.{over-back}
 use Rattle.tree.proofs.Stuck.{exit-there}
 use Rattle.tree.proofs.Along.{along-stage}

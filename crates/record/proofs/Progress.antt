@@ -1,13 +1,14 @@
 -- How a record comes on: the rows of each step are written behind those before it, the cursors stay behind what is built, and in the end every edge is.
-use mathlib.Core.Path.{_≡_, refl, sym, ap, _∙_, subst}
-use mathlib.Core.Logic.{inl, inr}
-use mathlib.Core.List.{List, [], _∷_, _++_, List·Memᴰ as In, Memᴰ·append-right as in-right}
+use mathlib.Core.Path.{_≡_, sym, subst}
+use mathlib.Core.List.{List, _∷_, _++_, Memᴰ·append-right as in-right}
 use Prim.Native.Nat.{ℕ, _+_, _-_, _*_, _/_, _≤_, _<_}
 use native.Mathlib.Omega.{arith}
 use lib.ListN.{length, take, drop, length-append}
-use Rattle.connectivity.specs.Plan.{plan, graph, limits}
+use Rattle.connectivity.specs.Plan.{plan, graph}
 use Rattle.connectivity.specs.Walk.{Leg, edgesOf, allEdges}
 use Rattle.connectivity.specs.Mader.{rows, stepRows}
+use Rattle.connectivity.proofs.Legs.{legs-edges}
+use Rattle.connectivity.proofs.Build.{rows-length}
 use Rattle.tree.proofs.Along.{along-end}
 use Rattle.graph.specs.Marks.{read, Marked}
 use Rattle.connectivity.proofs.Lists.{in-dec}
@@ -16,13 +17,13 @@ use Rattle.record.specs.Standing.{Rooted, treeOf}
 use Rattle.record.specs.Recording.{Stepping, Stepped, Chosen, Behind, Nexting, Beginning, Begun, Recorded}
 use Rattle.record.specs.Progress.{Recording, Adding, Added, Going, Finishing, Ready}
 use Rattle.record.proofs.Written.{written-length, written-part, part-long}
-use Rattle.record.proofs.Counting.{legs-edges, all-rows, steps-most, done-most, done-all}
+use Rattle.record.proofs.Counting.{steps-most, done-most, done-all}
 
 -- what is written so far
 module _ {n root : ℕ} {ends first : List ℕ} {rank : ℕ → ℕ} {walks : List (List Leg)} {before now places below tops bottoms used : List ℕ} {row step next : ℕ}
     (rooted : Rooted n ends root first rank) (r : Recording n root ends first rank walks before now places below tops bottoms used row step next) where
   pub rows-long : length (rows walks) ≡ 3 * row
-  rows-long = omega (arith, all-rows walks, r .row-is)
+  rows-long = omega (arith, rows-length walks, r .row-is)
 
   pub row-most : row ≤ length ends / 2
   row-most = omega (arith, r .row-is, done-most (rooted .admitted) (r .holds .state .along .steps) (r .holds .state .along .once))

@@ -10,10 +10,11 @@ use lib.Seq.{getD-set-same, getD-set-other}
 use Rattle.connectivity.specs.Walk.{Leg, froms, edgesOf}
 use Rattle.connectivity.specs.Mader.{stepRows}
 use Rattle.connectivity.proofs.Legs.{leg, edges-snoc}
+use Rattle.connectivity.proofs.Build.{step-length}
 use Rattle.connectivity.proofs.Fresh.{froms-snoc}
 use Rattle.graph.specs.Marks.{read}
 use Rattle.record.specs.Ways.{Way, Written, withRow, nextUp, Climbing, Climbed, OneMore, Marking, MarkedOn, Raising, Raised}
-use Rattle.record.proofs.Written.{rows-length, rows-append, written-none, written-row, written-length, part-long, written-part}
+use Rattle.record.proofs.Written.{rows-append, written-none, written-row, written-length, part-long, written-part}
 use Rattle.record.proofs.Paths.{Onward, onward-start, onward-sum, onward-below, onward-new, onward-end, onward-next, onward-few, onward-step, step-cases, step-done}
 
 -- Rows.
@@ -32,7 +33,7 @@ rising-start ends first before v stop step = λ c. record { on = onward-start (c
 
 module _ {ends first before now : List ℕ} {v stop step at count : ℕ} {w : Way ends first v stop} (r : Rising w step before now at count) where
   pub rising-length : 3 * length (w .legs) ≤ length before → length now ≡ length before
-  rising-length f = written-length (stepRows step (r .on .done)) before now (r .written) (omega (arith, rows-length step (r .on .done), onward-sum (r .on), f))
+  rising-length f = written-length (stepRows step (r .on .done)) before now (r .written) (omega (arith, step-length step (r .on .done), onward-sum (r .on), f))
 
   pub rising-end : at ≡ stop → Written (stepRows step (w .legs)) before now × (count ≡ length (w .legs))
   rising-end p =
@@ -51,7 +52,7 @@ module _ {ends first before now : List ℕ} {v stop step at count : ℕ} {w : Wa
         on = onward-step (r .on) d;
         counted = omega (arith, r .counted, length-append done (l ∷ []));
         written = subst (λ (k : List ℕ). Written k before (withRow now count step (read first at - 1) at)) (sym (rows-append step done (l ∷ [])))
-            (written-row (stepRows step done) before now count step (read first at - 1) at (r .written) (omega (arith, rows-length step done, r .counted))
+            (written-row (stepRows step done) before now count step (read first at - 1) at (r .written) (omega (arith, step-length step done, r .counted))
             (omega (arith, rising-few d, f)));
       }
 

@@ -1,38 +1,37 @@
 -- One step more: what each part of `add_path` asks holds, and in the end the tables hold the steps with it.
-use mathlib.Core.Path.{_≡_, refl, sym, _∙_, subst}
+use mathlib.Core.Path.{_≡_, sym, _∙_, subst}
 use mathlib.Core.Logic.{_⊎_, inl, inr}
-use mathlib.Core.List.{List, [], _∷_, _++_, List·Memᴰ as In, List·Memᴰ·head as first-in, List·Memᴰ·tail as later, List·Memᴰ·cases-cons as in-cons, List·Memᴰ·append-cases as in-cases, Memᴰ·append-left as in-left, Memᴰ·append-right as in-right}
-use Prim.Native.Nat.{ℕ, _+_, _-_, _*_, _/_, _≤_, _<_}
+use mathlib.Core.List.{List, _∷_, _++_, List·Memᴰ·head as first-in, List·Memᴰ·tail as later, List·Memᴰ·cases-cons as in-cons, List·Memᴰ·append-cases as in-cases, Memᴰ·append-left as in-left, Memᴰ·append-right as in-right}
+use Prim.Native.Nat.{ℕ, _+_, _*_, _≤_, _<_}
 use native.Mathlib.Omega.{arith}
 use native.Mathlib.Decide.{ℕ-discrete, decLe}
 use lib.ListN.{length, length-append}
-use Rattle.connectivity.specs.Plan.{plan, graph, limits}
-use Rattle.connectivity.specs.Graph.{Graph, Vertex, Edge}
-use Rattle.connectivity.specs.Walk.{Leg, edgesOf, allEdges, froms, degree, Built, Branch}
+use Rattle.connectivity.specs.Plan.{plan, graph}
+use Rattle.connectivity.specs.Graph.{Graph, Vertex}
+use Rattle.connectivity.specs.Walk.{Leg, edgesOf, allEdges, froms, Built, Branch}
 use Rattle.connectivity.specs.Mader.{MaderPath, stepRows}
 use Rattle.connectivity.proofs.Lists.{in-dec}
 use Rattle.connectivity.proofs.Reach.{joins-sym, joins-vertex}
-use Rattle.connectivity.proofs.Legs.{leg}
+use Rattle.connectivity.proofs.Legs.{leg, legs-edges}
 use Rattle.tree.specs.Tree.{Pointers, Climb}
-use Rattle.tree.specs.Filed.{Marked, Grown, Belows}
+use Rattle.tree.specs.Filed.{Marked}
 use Rattle.tree.specs.State.{Along}
-use Rattle.tree.specs.Links.{Shelved, Links}
 use Rattle.tree.proofs.Above.{climb-end, climb-new, climb-as}
 use Rattle.tree.proofs.Inside.{built-is-vertex, climb-built}
 use Rattle.tree.proofs.Along.{along-step}
 use Rattle.tree.proofs.State.{filed-marked, state-step, belows-map}
 use Rattle.tree.proofs.Shelving.{filed-built, filed-own, marked-map}
-use Rattle.graph.specs.Marks.{read, Marked as IsMarked}
+use Rattle.graph.specs.Marks.{read}
 use Rattle.graph.proofs.Joined.{vertex-below, joins-edge}
 use Rattle.record.specs.Ways.{Toward, MetFirst, OneMore, OverUp, Written, Ended, upperEnd, farEnd}
 use Rattle.record.specs.Standing.{Rooted, treeOf}
 use Rattle.record.specs.Linking.{Filing, Splitting, Ending, BothParted, BothBy, Building, Walked, WalkedBy}
 use Rattle.record.specs.Leaving.{Uses}
-use Rattle.record.specs.Recording.{Holds, Chosen, Stepping, Stepped}
+use Rattle.record.specs.Recording.{Holds, Stepping, Stepped}
 use Rattle.record.proofs.Upper.{ended, back-upper, back-lower}
 use Rattle.record.proofs.Climbing.{climb-way}
 use Rattle.record.proofs.Ending.{filing-both, both-on, both-off, both-branch}
-use Rattle.record.proofs.Counting.{legs-edges, done-most}
+use Rattle.record.proofs.Counting.{done-most}
 
 -- what the places say of a state
 module _ {n root : ℕ} {ends first : List ℕ} {rank : ℕ → ℕ} {walks : List (List Leg)} {places below tops bottoms used : List ℕ} {next : ℕ}
@@ -233,6 +232,45 @@ module _ {ends first number depth : List ℕ} {f next : ℕ} {places below tops 
         gone = gone-then;
       }
 
+-- what each part of a step asks, at the vertices that the parts before have found
+module _ {ends first number depth : List ℕ} {f next s w : ℕ} {places below tops bottoms used : List ℕ} {room : ℕ}
+    (d : Stepping ends first number depth f next places below tops bottoms used room) (p : s ≡ upperEnd ends number f) (q : w ≡ farEnd ends f s) where
+  is-upper : s ≡ d .chosen .upper
+  is-upper = p ∙ upper-at d
+
+  is-lower : w ≡ d .chosen .lower
+  is-lower = (rw is-upper at q) ∙ lower-at d
+
+  pub toward-at : Toward ends first places w
+  toward-at = subst (λ (y : ℕ). Toward ends first places y) (sym is-lower) (toward d)
+
+  module _ {x : ℕ} (m : MetFirst ends first places w x) where
+    is-end : x ≡ end d
+    is-end = (rw is-lower at m) (toward d)
+
+    pub one-more-at : OneMore ends first w x room
+    one-more-at = subst (λ (y : ℕ). OneMore ends first y x room) (sym is-lower)
+        (subst (λ (y : ℕ). OneMore ends first (d .chosen .lower) y room) (sym is-end) (one-more d))
+
+    pub ending-at : Ending ends first below depth s x next places tops bottoms
+    ending-at = subst (λ (y : ℕ). Ending ends first below depth y x next places tops bottoms) (sym is-upper)
+        (subst (λ (y : ℕ). Ending ends first below depth (d .chosen .upper) y next places tops bottoms) (sym is-end) (ending d))
+
+    module _ (places₂ tops₂ bottoms₂ : List ℕ) {next₂ : ℕ} (e : BothBy ends first below depth s x next places tops bottoms places₂ tops₂ bottoms₂ next₂) where
+      both-by : BothBy ends first below depth (d .chosen .upper) (end d) next places tops bottoms places₂ tops₂ bottoms₂ next₂
+      both-by = rw is-upper at (rw is-end at e)
+
+      both : BothParted (g d) (t d) (d .chosen .upper) (end d) next (read places) (read places₂) (read tops₂) (read bottoms₂) next₂
+      both = both-by .3 (ending d)
+
+      same₂ : (length places₂ ≡ length places) × (length tops₂ ≡ length tops) × (length bottoms₂ ≡ length bottoms)
+      same₂ = (e .0, e .1, e .2)
+
+      pub building-at : Building ends first f w x next₂ places₂ below tops₂ bottoms₂ used
+      building-at = subst (λ (y : ℕ). Building ends first f y x next₂ places₂ below tops₂ bottoms₂ used) (sym is-lower)
+          (subst (λ (y : ℕ). Building ends first f (d .chosen .lower) y next₂ places₂ below tops₂ bottoms₂ used) (sym is-end)
+          (building d places₂ tops₂ bottoms₂ both same₂))
+
 -- the parts of a step, one after the other
 module _ {ends first number depth : List ℕ} {f next : ℕ} (step count : ℕ) {places below tops bottoms used : List ℕ} (rows : List ℕ)
     (places₂ tops₂ bottoms₂ places₃ below₃ tops₃ bottoms₃ used₃ rows₃ : List ℕ) {s w x next₂ next₃ : ℕ}
@@ -241,35 +279,18 @@ module _ {ends first number depth : List ℕ} {f next : ℕ} (step count : ℕ) 
     (e : BothBy ends first below depth s x next places tops bottoms places₂ tops₂ bottoms₂ next₂)
     (k : WalkedBy ends first f w x next₂ places₂ below tops₂ bottoms₂ used places₃ below₃ tops₃ bottoms₃ used₃ next₃)
     (d : Stepping ends first number depth f next places below tops bottoms used (length rows)) where
-  is-upper : s ≡ d .chosen .upper
-  is-upper = p ∙ upper-at d
-
-  is-lower : w ≡ d .chosen .lower
-  is-lower = (rw is-upper at q) ∙ lower-at d
-
-  is-end : x ≡ end d
-  is-end = (rw is-lower at m) (toward d)
-
-  both-by : BothBy ends first below depth (d .chosen .upper) (end d) next places tops bottoms places₂ tops₂ bottoms₂ next₂
-  both-by = rw is-upper at (rw is-end at e)
-
   walked-by : WalkedBy ends first f (d .chosen .lower) (end d) next₂ places₂ below tops₂ bottoms₂ used places₃ below₃ tops₃ bottoms₃ used₃ next₃
-  walked-by = rw is-lower at (rw is-end at k)
+  walked-by = rw (is-lower d p q) at (rw (is-end d p q m) at k)
 
   written-by : OverUp ends first f (d .chosen .upper) (d .chosen .lower) (end d) step rows rows₃ count
-  written-by = rw is-upper at (rw is-lower at (rw is-end at r))
-
-  both : BothParted (g d) (t d) (d .chosen .upper) (end d) next (read places) (read places₂) (read tops₂) (read bottoms₂) next₂
-  both = both-by .3 (ending d)
-
-  same₂ : (length places₂ ≡ length places) × (length tops₂ ≡ length tops) × (length bottoms₂ ≡ length bottoms)
-  same₂ = (e .0, e .1, e .2)
+  written-by = rw (is-upper d p q) at (rw (is-lower d p q) at (rw (is-end d p q m) at r))
 
   walked : Walked (g d) (t d) f (legs d) next₂ (read places₂) (read below) (read used) (read places₃) (read below₃) (read tops₃) (read bottoms₃) (read used₃) next₃ × (next₂ ≤ next₃)
-  walked = walked-by .5 (building d places₂ tops₂ bottoms₂ both same₂)
+  walked = walked-by .5 (building d places₂ tops₂ bottoms₂ (both d p q m places₂ tops₂ bottoms₂ e) (same₂ d p q m places₂ tops₂ bottoms₂ e))
 
   written : Written (stepRows step (leg f (d .chosen .upper) ∷ legs d)) rows rows₃ × (count ≡ length (legs d) + 1)
   written = written-by (one-more d)
 
   pub stepped-by : Stepped (d .n) (d .root) ends first (read number) (d .walks) step next rows rows₃ places places₃ below₃ tops₃ bottoms₃ used₃ count next₃
-  stepped-by = stepped d places₂ tops₂ bottoms₂ both same₂ places₃ below₃ tops₃ bottoms₃ used₃ (walked .0) (k .0, k .1, k .2, k .3, k .4) (walked .1) (written .0) (written .1)
+  stepped-by = stepped d places₂ tops₂ bottoms₂ (both d p q m places₂ tops₂ bottoms₂ e) (same₂ d p q m places₂ tops₂ bottoms₂ e) places₃ below₃ tops₃ bottoms₃ used₃
+      (walked .0) (k .0, k .1, k .2, k .3, k .4) (walked .1) (written .0) (written .1)

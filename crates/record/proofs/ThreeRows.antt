@@ -1,20 +1,15 @@
 -- The rows of the first three walks, one behind the other.
-use mathlib.Core.Path.{_≡_, refl, sym, ap, _∙_, subst}
+use mathlib.Core.Path.{_≡_, sym, ap, _∙_, subst}
 use mathlib.Core.List.{List, [], _∷_, _++_, append-nil}
 use Prim.Native.Nat.{ℕ, _+_, _*_, _-_, _/_, _≤_, _<_}
 use native.Mathlib.Omega.{arith}
 use lib.ListN.{length, take, drop, length-append}
-use Rattle.connectivity.specs.Lists.{Distinct}
 use Rattle.connectivity.specs.Plan.{plan, graph, limits}
-use Rattle.connectivity.specs.Graph.{Graph, edges}
+use Rattle.connectivity.specs.Graph.{Graph}
 use Rattle.connectivity.specs.Walk.{Leg, edgesOf, allEdges}
-use Rattle.connectivity.specs.Mader.{stepRows, rows, Steps}
-use Rattle.connectivity.specs.Admission.{Admitted}
-use Rattle.connectivity.proofs.Admission.{admitted-edges}
-use Rattle.connectivity.proofs.Build.{steps-edges}
-use Rattle.connectivity.proofs.Degree.{part-length}
-use Rattle.connectivity.proofs.Legs.{leg}
-use Rattle.connectivity.proofs.Search.{edges-are}
+use Rattle.connectivity.specs.Mader.{stepRows, rows}
+use Rattle.connectivity.proofs.Legs.{leg, legs-edges}
+use Rattle.connectivity.proofs.Build.{step-length}
 use Rattle.tree.specs.Tree.{Pointers, Child, Climb}
 use Rattle.tree.specs.State.{Along}
 use Rattle.tree.proofs.Above.{parent-vertex}
@@ -25,20 +20,8 @@ use Rattle.record.specs.Ways.{Written, Way, OneMore, OverUp}
 use Rattle.record.specs.Standing.{treeOf}
 use Rattle.record.specs.Opening.{Climbs, threeWalks, Rowed}
 use Rattle.record.proofs.Climbing.{climb-way}
-use Rattle.record.proofs.Written.{rows-length, written-length, part-long, written-part}
-
-legs-edges : (l : List Leg) → length (edgesOf l) ≡ length l
-legs-edges [] = refl
-legs-edges (k ∷ l) = omega (arith, legs-edges l)
-
--- steps over different edges have no more than the plan
-steps-few : {n : ℕ} {ends : List ℕ} {done : List (List Leg)} → Admitted limits (plan n ends) → Steps (graph (plan n ends)) done → Distinct (allEdges done)
-    → length (allEdges done) ≤ length ends / 2
-steps-few {n} {ends} {done} a s d = omega (
-  arith,
-  part-length (graph (plan n ends)) (allEdges done) (edges (graph (plan n ends))) d (λ e i. edges-are (graph (plan n ends)) e .1 (steps-edges s i)),
-  admitted-edges a,
-)
+use Rattle.record.proofs.Counting.{done-most}
+use Rattle.record.proofs.Written.{written-length, part-long, written-part}
 
 -- The walks.
 
@@ -81,7 +64,7 @@ module _ {n root : ℕ} {ends first : List ℕ} {rank : ℕ → ℕ} {x f w d u 
       (to-root (c .rooted .tree) (c .child) (c .one) (c .other) (c .differ) (c .meets) (c .to-x) (c .up))
 
   three-few : length (allEdges (threeWalks root x f (t .first x) d (c .low) (c .high) (c .side))) ≤ length ends / 2
-  three-few = steps-few (c .rooted .admitted) (along .steps) (along .once)
+  three-few = done-most (c .rooted .admitted) (along .steps) (along .once)
 
 three-count : (root x f e d : ℕ) (low high side : List Leg)
     → length (allEdges (threeWalks root x f e d low high side)) ≡ length high + length low + length side + 3
@@ -121,7 +104,7 @@ module _ {ends first : List ℕ} {root x e p f w d u : ℕ} (before : List ℕ) 
     first-walk = leg e x ∷ b .high
 
     first-long : length (stepRows 0 first-walk) ≡ 3 * i
-    first-long = rows-length 0 first-walk ∙ omega (arith, h high-room .1)
+    first-long = step-length 0 first-walk ∙ omega (arith, h high-room .1)
 
     pub one-long : length one ≡ length before
     one-long = written-length (stepRows 0 first-walk) before one (h high-room .0) (omega (arith, first-long, h high-room .1, fits))
@@ -147,7 +130,7 @@ module _ {ends first : List ℕ} {root x e p f w d u : ℕ} (before : List ℕ) 
 
       both-long : length both ≡ 3 * (i + j)
       both-long = length-append (stepRows 0 first-walk) (stepRows 1 (leg f root ∷ b .low))
-          ∙ omega (arith, first-long, rows-length 1 (leg f root ∷ b .low), m low-room .1)
+          ∙ omega (arith, first-long, step-length 1 (leg f root ∷ b .low), m low-room .1)
 
       pub two-long : length two ≡ length before
       two-long = written-length both before two two-written (omega (arith, both-long, h high-room .1, m low-room .1, fits))

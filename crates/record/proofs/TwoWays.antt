@@ -1,7 +1,7 @@
 -- Where two ways up meet: the vertices above w are marked, and the way up from u is followed to the first mark.
 use mathlib.Core.Path.{_≡_, refl, sym, _∙_, subst}
-use mathlib.Core.Logic.{_⊎_, inl, inr}
-use mathlib.Core.List.{List, List·Memᴰ as In, List·Memᴰ·head as first, List·Memᴰ·tail as later}
+use mathlib.Core.Logic.{inl, inr}
+use mathlib.Core.List.{List, List·Memᴰ as In}
 use Prim.Native.Nat.{ℕ, _≤_, _<_}
 use native.Mathlib.Omega.{arith}
 use native.Mathlib.Decide.{ℕ-discrete, decLe}
@@ -11,22 +11,13 @@ use Rattle.connectivity.specs.Graph.{Graph}
 use Rattle.connectivity.specs.Walk.{Leg, froms}
 use Rattle.connectivity.proofs.Lists.{in-dec}
 use Rattle.connectivity.proofs.Admission.{admitted-vertex}
-use Rattle.tree.specs.Tree.{Pointers, Above, Climb, there, on}
-use Rattle.tree.proofs.Above.{above-cases, root-above, climb-end, climb-new, climb-to, climb-as, climb-on}
+use Rattle.tree.specs.Tree.{Pointers, Above, Climb}
+use Rattle.tree.proofs.Above.{above-cases, root-above, way-up, climb-cases, climb-end, climb-new, climb-to, climb-as, climb-on}
 use Rattle.graph.specs.Marks.{read}
 use Rattle.record.specs.Ways.{Marking, MarkedOn, Toward}
 use Rattle.record.specs.Standing.{Rooted, treeOf}
 use Rattle.record.specs.Opening.{Meets, Meeting}
 use Rattle.record.proofs.Climbing.{climb-way}
-
--- what is above the start of a climb to a vertex that is above all is left by it, or is that vertex
-pub climb-all : {g : Graph} {t : Pointers} {S : ℕ → Type 0} {v w x : ℕ} {legs : List Leg} → Climb g t S v legs w → Above g t x v
-    → In x (froms legs) ⊎ Above g t x w
-climb-all (there s) a = inr a
-climb-all (on c n k) a = elim (above-cases a) [
-  | inl p ↦ inl (first p)
-  | inr h ↦ elim (climb-all k (h .1)) [ inl i ↦ inl (later i) | inr b ↦ inr b ]
-]
 
 module _ {n root : ℕ} {ends first : List ℕ} {rank : ℕ → ℕ} (r : Rooted n ends root first rank) where
   abbrev g : Graph
@@ -37,15 +28,7 @@ module _ {n root : ℕ} {ends first : List ℕ} {rank : ℕ → ℕ} (r : Rooted
 
   -- the way up to the root
   pub root-climb : {v : ℕ} → v < n → (legs : List Leg) × Climb g t (λ y. y ≡ root) v legs root
-  root-climb {v} h =
-      let (legs, z, k) = climb-to (λ y. ℕ-discrete y root) (root-above (r .tree) (admitted-vertex (r .admitted) v h)) refl in
-      (legs, subst (λ (y : ℕ). Climb g t (λ x. x ≡ root) v legs y) (climb-end k) k)
-
-  -- the way up to a vertex above
-  pub above-climb : {x v : ℕ} → Above g t x v → (legs : List Leg) × Climb g t (λ y. y ≡ x) v legs x
-  above-climb {x} {v} a =
-      let (legs, z, k) = climb-to (λ y. ℕ-discrete y x) a refl in
-      (legs, subst (λ (y : ℕ). Climb g t (λ x'. x' ≡ x) v legs y) (climb-end k) k)
+  root-climb {v} h = way-up (root-above (r .tree) (admitted-vertex (r .admitted) v h))
 
 module _ {ends first marks : List ℕ} {w u r : ℕ} (c : Meets ends first w u r marks) where
   abbrev gr : Graph
@@ -63,7 +46,7 @@ module _ {ends first marks : List ℕ} {w u r : ℕ} (c : Meets ends first w u r
   module _ (found : List ℕ) (m : MarkedOn (rise .0) r 1 (read marks) (read found)) where
     -- what is above w has a mark, and nothing else
     above-marked : {v : ℕ} → Above gr tr v w → 1 ≤ read found v
-    above-marked {v} a = elim (climb-all (rise .1) a) [
+    above-marked {v} a = elim (climb-cases (rise .1) a) [
       | inl i ↦ omega (arith, m .on v i)
       | inr b ↦ elim (above-cases b) [
         | inl p ↦ subst (λ (y : ℕ). 1 ≤ read found y) (sym p) (omega (arith, m .end))

@@ -1,6 +1,6 @@
 -- The upper and the lower end of an edge, as the code has them.
 use mathlib.Core.Path.{_≡_, refl, sym, _∙_}
-use mathlib.Core.Logic.{_⊎_, inl, inr}
+use mathlib.Core.Logic.{inl, inr}
 use mathlib.Core.List.{List}
 use Prim.Native.Nat.{ℕ, _+_, _*_, _≤_, _<_}
 use native.Mathlib.Omega.{arith}
@@ -13,20 +13,9 @@ use Rattle.connectivity.proofs.Admission.{cond-both, edge-size}
 use Rattle.tree.specs.Tree.{Back}
 use Rattle.tree.proofs.Above.{above-cases, above-rank}
 use Rattle.graph.specs.Marks.{read}
-use Rattle.graph.proofs.Joined.{joins-edge}
+use Rattle.graph.proofs.Joined.{joins-edge, joins-ends, ends-below}
 use Rattle.record.specs.Ways.{Ended, upperEnd, farEnd}
 use Rattle.record.specs.Standing.{Rooted, treeOf}
-
--- the ends of an edge, as the table has them
-table-ends : (n : ℕ) (ends : List ℕ) {e u v : ℕ} → Joins (graph (plan n ends)) e u v
-    → ((getD ends (2 * e) 0 ≡ u) × (getD ends (2 * e + 1) 0 ≡ v)) ⊎ ((getD ends (2 * e) 0 ≡ v) × (getD ends (2 * e + 1) 0 ≡ u))
-unfolding graph
-table-ends n ends j = j .ends
-
-edge-below : (n : ℕ) (ends : List ℕ) {e : ℕ} → Edge (graph (plan n ends)) e
-    → (getD ends (2 * e) 0 < n) × (getD ends (2 * e + 1) 0 < n)
-unfolding graph
-edge-below n ends h = (h .left .below, h .right .below)
 
 -- the upper end is one of the two
 pub upper-below : (ends number : List ℕ) (e : ℕ) → Ended ends number e → upperEnd ends number e < length number
@@ -36,7 +25,7 @@ module _ (n root : ℕ) (ends first number : List ℕ) (r : Rooted n ends root f
   -- the ends of an edge differ
   pub joins-differ : {e u v : ℕ} → Joins (graph (plan n ends)) e u v → u ≡ v → ⊥
   joins-differ {e} {u} {v} j p = let d = r .admitted .fit e (joins-edge n ends e u v j) .different in
-      elim (table-ends n ends j) [ inl (a, b) ↦ d (a ∙ p ∙ sym b) | inr (a, b) ↦ d (a ∙ sym p ∙ sym b) ]
+      elim (joins-ends (plan n ends) j) [ inl (a, b) ↦ d (a ∙ p ∙ sym b) | inr (a, b) ↦ d (a ∙ sym p ∙ sym b) ]
 
   -- the number of the upper end is lower
   pub back-falls : {f s w : ℕ} → Back (graph (plan n ends)) (treeOf n ends root first (read number)) f s w → read number s < read number w
@@ -46,11 +35,11 @@ module _ (n root : ℕ) (ends first number : List ℕ) (r : Rooted n ends root f
   ]
 
   pub ended : n ≤ length number → {e : ℕ} → Edge (graph (plan n ends)) e → Ended ends number e
-  ended h k = record { below = edge-size (plan n ends) k; left = omega (arith, edge-below n ends k); right = omega (arith, edge-below n ends k) }
+  ended h k = record { below = edge-size (plan n ends) k; left = omega (arith, ends-below (plan n ends) k); right = omega (arith, ends-below (plan n ends) k) }
 
   -- the end with the lower number is the upper one
   pub upper-is : {e u v : ℕ} → Joins (graph (plan n ends)) e u v → read number u < read number v → upperEnd ends number e ≡ u
-  upper-is {e} {u} {v} j h = elim (table-ends n ends j) [
+  upper-is {e} {u} {v} j h = elim (joins-ends (plan n ends) j) [
     | inl (p, q) ↦ rw (p, q, lt-ltb (read number u) (read number v) h)
     | inr (p, q) ↦ rw (p, q, le-ltb (read number v) (read number u) (omega arith))
   ]
@@ -59,7 +48,7 @@ module _ (n root : ℕ) (ends first number : List ℕ) (r : Rooted n ends root f
   back-upper b = upper-is (b .joins) (back-falls b)
 
   pub back-lower : {f s w : ℕ} → Back (graph (plan n ends)) (treeOf n ends root first (read number)) f s w → farEnd ends f s ≡ w
-  back-lower {f} {s} {w} b = elim (table-ends n ends (b .joins)) [
+  back-lower {f} {s} {w} b = elim (joins-ends (plan n ends) (b .joins)) [
     | inl (p, q) ↦ rw (p, q, eq-eqb s s refl)
     | inr (p, q) ↦ rw (p, q, ne-eqb w s (λ e. joins-differ (b .joins) (sym e)))
   ]

@@ -9,10 +9,6 @@ use Rattle.connectivity.specs.Walk.{Leg}
 use Rattle.connectivity.specs.Mader.{stepRows}
 use Rattle.record.specs.Ways.{Written, withRow}
 
-pub rows-length : (s : ℕ) (legs : List Leg) → length (stepRows s legs) ≡ 3 * length legs
-rows-length s [] = refl
-rows-length s (l ∷ legs) = omega (arith, rows-length s legs)
-
 pub rows-append : (s : ℕ) (l r : List Leg) → stepRows s (l ++ r) ≡ stepRows s l ++ stepRows s r
 rows-append s [] r = refl
 rows-append s (l ∷ legs) r = ap (λ (k : List ℕ). s ∷ (l .edge ∷ (l .from ∷ k))) (rows-append s legs r)

@@ -12,9 +12,9 @@ use Rattle.connectivity.proofs.Legs.{leg}
 use Rattle.tree.specs.Tree.{Pointers, Child, Above, Passing, Climb}
 use Rattle.graph.specs.Marks.{read}
 use Rattle.record.specs.Ways.{Written, farEnd}
-use Rattle.record.specs.Standing.{Rooted, Grouped, treeOf}
+use Rattle.record.specs.Standing.{Rooted, Grouped, Listed, Ground, treeOf}
 use Rattle.record.specs.Linking.{Roomy}
-use Rattle.record.specs.Recording.{Holds, Begun}
+use Rattle.record.specs.Recording.{Holds}
 
 -- The doors: edges at r that are not in the tree and lead to a vertex whose number is at most `end`.
 
@@ -99,6 +99,27 @@ pub record Climbs (n root : ℕ) (ends first : List ℕ) (rank : ℕ → ℕ) (x
 abbrev pub threeWalks : ℕ → ℕ → ℕ → ℕ → ℕ → List Leg → List Leg → List Leg → List (List Leg)
 threeWalks root x f e d low high side = (leg d root ∷ side) ∷ (leg f root ∷ low) ∷ (leg e x ∷ high) ∷ []
 
+-- what `find` asks: the tables of the tree, and no mark in `places`
+pub record Finding (ends incident begins first order number last : List ℕ) (root : ℕ) (places : List ℕ) : Type 0 where
+  pub n : ℕ
+  pub over : List ℕ
+  pub ground : Ground n root ends incident begins first number last over
+  pub listing : Listed n root order number
+  pub places-blank : (v : ℕ) → read places v ≡ 0
+  pub places-long : n ≤ length places
+
+-- e leads from x to its parent p
+pub record Forked (n root : ℕ) (ends first : List ℕ) (rank : ℕ → ℕ) (places : List ℕ) (x e p f w d u : ℕ) : Type 0 where
+  pub climbs : Climbs n root ends first rank x f w d u
+  pub edge : e ≡ treeOf n ends root first rank .first x
+  pub parent : p ≡ treeOf n ends root first rank .parent x
+  pub blank : (v : ℕ) → read places v ≡ 0
+
+abbrev pub ForkedBy : List ℕ → List ℕ → List ℕ → List ℕ → List ℕ → List ℕ → List ℕ → ℕ → List ℕ → List ℕ → ℕ → ℕ → ℕ → ℕ → ℕ → ℕ → ℕ → Type 0
+ForkedBy ends incident begins first order number last root places places' x e p f w d u =
+    (length places' ≡ length places)
+    × ((c : Finding ends incident begins first order number last root places) → Forked (c .n) root ends first (read number) places' x e p f w d u)
+
 -- what writing them asks
 pub record Rowed (ends first : List ℕ) (root x e p f w d u room : ℕ) : Type 0 where
   pub n : ℕ
@@ -132,19 +153,8 @@ RaisedBy ends first root x e p f w d u places below tops bottoms used places' be
     (c : Raw ends first root x e p f w d u places below tops bottoms used)
     → Holds (c .n) root ends first (c .rank) (threeWalks root x f e d (c .climbs .low) (c .climbs .high) (c .climbs .side)) places' below' tops' bottoms' used' next
 
--- what both ask
-pub record Threefold (ends first : List ℕ) (root x f w d u : ℕ) (places below tops bottoms used : List ℕ) (room : ℕ) : Type 0 where
-  pub n : ℕ
-  pub rank : ℕ → ℕ
-  pub climbs : Climbs n root ends first rank x f w d u
-  pub places-blank : (v : ℕ) → read places v ≡ 0
-  pub below-blank : (v : ℕ) → read below v ≡ 0
-  pub used-blank : (e : ℕ) → read used e ≡ 0
-  pub roomy : Roomy n below places tops bottoms
-  pub used-long : length ends / 2 ≤ length used
-  pub fits : 3 * (length ends / 2) ≤ room
-
-abbrev pub ThreeBy : List ℕ → List ℕ → ℕ → ℕ → ℕ → ℕ → ℕ → ℕ → List ℕ → List ℕ → List ℕ → List ℕ → List ℕ → List ℕ → List ℕ → List ℕ → List ℕ → List ℕ → List ℕ → List ℕ → ℕ → ℕ → Type 0
-ThreeBy ends first root x f w d u places below tops bottoms used before places' below' tops' bottoms' used' after count next =
-    (c : Threefold ends first root x f w d u places below tops bottoms used (length before))
-    → Begun (c .n) root ends first (c .rank) before after places' below' tops' bottoms' used' count next
+-- the edge of the walk k, where it leads, and where the way up from there ends
+pub record WayAt (k root x e p f w d u edge v stop : ℕ) : Type 0 where
+  pub one : k ≡ 0 → (edge ≡ e) × (v ≡ p) × (stop ≡ root)
+  pub two : k ≡ 1 → (edge ≡ f) × (v ≡ w) × (stop ≡ x)
+  pub three : k ≡ 2 → (edge ≡ d) × (v ≡ u) × (stop ≡ x)

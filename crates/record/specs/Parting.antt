@@ -1,12 +1,10 @@
--- What parting a link at a vertex between its tips asks and leaves behind.
+-- What cutting a link at a vertex and making a new one ask and leave behind.
 use mathlib.Core.Path.{_≡_}
 use mathlib.Core.List.{List}
-use Prim.Native.Nat.{ℕ, _+_, _-_, _<_}
-use lib.ListN.{length, set}
-use Rattle.connectivity.specs.Plan.{plan, graph}
-use Rattle.graph.specs.Marks.{read}
-use Rattle.record.specs.Standing.{treeOf}
-use Rattle.record.specs.Linking.{Splitting, Parted}
+use Prim.Native.Nat.{ℕ, _+_, _-_, _≤_, _<_}
+use lib.ListN.{length}
+use Rattle.connectivity.specs.Plan.{limits}
+use Rattle.record.specs.Ways.{nextUp, Rises}
 
 -- the table has a depth for v and for the tips
 pub record Deep (depth : List ℕ) (v top bottom : ℕ) : Type 0 where
@@ -14,20 +12,27 @@ pub record Deep (depth : List ℕ) (v top bottom : ℕ) : Type 0 where
   pub at-top : top < length depth
   pub at-bottom : bottom < length depth
 
--- what `part` asks: v, which lay inside the link `own`, is marked, and is neither its top nor its bottom
-pub record Parting (ends first below depth : List ℕ) (v own next : ℕ) (places tops bottoms : List ℕ) : Type 0 where
-  -- the places before v was marked
-  pub before : List ℕ
-  pub splitting : Splitting ends first below depth v next before tops bottoms
-  pub marked : places ≡ set before v 1
-  pub own-is : own ≡ read before v
-  pub inside : own ≡ 1 → ⊥
-  pub not-top : v ≡ read tops own - 1 → ⊥
-  pub not-bottom : v ≡ read bottoms own - 1 → ⊥
+-- what `cut` asks; top and bottom are one more than the tips of a link that v lies inside of
+pub record Cutting (ends first below depth : List ℕ) (v top bottom : ℕ) : Type 0 where
+  pub small : v < limits .vertices
+  pub below-long : v < length below
+  pub some-top : 1 ≤ top
+  pub some-bottom : 1 ≤ bottom
+  pub deep : Deep depth v (top - 1) (bottom - 1)
+  pub rises : (v + 1 ≡ top → ⊥) → Rises ends first v
+  pub up-small : (v + 1 ≡ top → ⊥) → nextUp ends first v < limits .vertices
 
-abbrev pub PartsBy : List ℕ → List ℕ → List ℕ → List ℕ → ℕ → ℕ → ℕ → List ℕ → List ℕ → List ℕ → List ℕ → List ℕ → List ℕ → Type 0
-PartsBy ends first below depth v own next places tops bottoms places' tops' bottoms' =
-    (length places' ≡ length places) × (length tops' ≡ length tops) × (length bottoms' ≡ length bottoms)
-    × ((c : Parting ends first below depth v own next places tops bottoms)
-    → Parted (graph (plan (c .splitting .n) ends)) (treeOf (c .splitting .n) ends (c .splitting .root) first (c .splitting .rank)) v next
-    (read (c .before)) (read places') (read tops') (read bottoms') (next + 1))
+-- the tips of a link that is cut at v, and those of the part that becomes a link, 0 if none does; `up` and `down` are one more than what lies above v
+-- and below
+pub data CutAt (v top bottom up down : ℕ) : ℕ → ℕ → ℕ → ℕ → Type 0 where
+  whole : v + 1 ≡ top → v + 1 ≡ bottom → CutAt v top bottom up down 0 bottom 0 0
+  off-top : v + 1 ≡ top → (v + 1 ≡ bottom → ⊥) → CutAt v top bottom up down down bottom 0 0
+  off-bottom : (v + 1 ≡ top → ⊥) → v + 1 ≡ bottom → CutAt v top bottom up down top up 0 0
+  off-upper : (v + 1 ≡ top → ⊥) → (v + 1 ≡ bottom → ⊥) → CutAt v top bottom up down down bottom top up
+  off-lower : (v + 1 ≡ top → ⊥) → (v + 1 ≡ bottom → ⊥) → CutAt v top bottom up down top up down bottom
+
+abbrev pub TopCut : ℕ → ℕ → ℕ → ℕ → ℕ → ℕ → ℕ → ℕ → Type 0
+TopCut v top bottom down top' bottom' high low = (up : ℕ) → CutAt v top bottom up down top' bottom' high low
+
+abbrev pub InsideCut : ℕ → ℕ → ℕ → ℕ → ℕ → ℕ → ℕ → ℕ → Type 0
+InsideCut top bottom up down top' bottom' high low = (v : ℕ) → (v + 1 ≡ top → ⊥) → (v + 1 ≡ bottom → ⊥) → CutAt v top bottom up down top' bottom' high low

@@ -1,6 +1,6 @@
 -- What the writing of a record asks and leaves behind.
 use mathlib.Core.Path.{_≡_}
-use mathlib.Core.List.{List, [], _∷_, List·Memᴰ as In}
+use mathlib.Core.List.{List, _∷_, List·Memᴰ as In}
 use Prim.Native.Nat.{ℕ, _+_, _-_, _*_, _/_, _≤_, _<_}
 use lib.ListN.{length}
 use Rattle.connectivity.specs.Plan.{plan, graph, limits}
@@ -15,7 +15,7 @@ use Rattle.tree.specs.State.{State}
 use Rattle.tree.specs.Links.{Links}
 use Rattle.graph.specs.Marks.{read, Marked}
 use Rattle.record.specs.Ways.{Written}
-use Rattle.record.specs.Standing.{Rooted, Listed, Together, Ground, treeOf}
+use Rattle.record.specs.Standing.{Rooted, Listed, Ground, treeOf}
 use Rattle.record.specs.Linking.{Roomy}
 use Rattle.record.specs.Leaving.{Uses}
 

@@ -1,10 +1,21 @@
 // The places of built vertices: 0 is not built, 1 a branch, any other the link that a vertex lies inside of. Of each link its top and its bottom are
 // known, one more than their numbers, 0 where nothing lies inside.
 use crate::walk;
+ghost use mathlib.Core.Path.{_≡_};
+ghost use Prim.Native.Nat.{_+_, _<_};
+ghost use Rattle.connectivity.specs.Plan.{limits};
+ghost use Rattle.graph.specs.Marks.{read};
+ghost use Rattle.record.specs.Ways.{nextUp};
 ghost use Rattle.record.specs.Linking.{Splitting, PartedBy, Ending, BothBy, Building, WalkedBy};
-ghost use Rattle.record.specs.Parting.{Deep, Parting, PartsBy};
+ghost use Rattle.record.specs.Parting.{Deep, Cutting, CutAt, TopCut, InsideCut};
 
-pub(crate) const BRANCH: u16 = 1;
+// A link's tips after a cut, and those of the part that becomes a link of its own: one more than their numbers, 0 where nothing is left.
+struct Tips {
+    top: u16,
+    bottom: u16,
+    high: u16,
+    low: u16,
+}
 
 // A vertex becomes a branch. If it lies inside a link, the shorter part of that becomes a link of its own; the next free place then.
 pub(crate) fn split(
@@ -21,68 +32,96 @@ pub(crate) fn split(
     requires { ⌜ Splitting (now ends) (now first) (now below) (now depth) v next (now places) (now tops) (now bottoms) ⌝ }
     ensures { λ r. ⌜ PartedBy (now (ends .entry)) (now (first .entry)) (now (below .entry)) (now (depth .entry)) v next (now (places .entry)) (now (tops .entry)) (now (bottoms .entry)) (now (places .exit)) (now (tops .exit)) (now (bottoms .exit)) r ⌝ }
 {
-    let own = places[v as usize];
+    let own = places[v as usize] as usize;
     if own == 1 {
         return next;
     }
     places[v as usize] = 1;
-    if v == tops[own as usize] - 1 {
-        if v == bottoms[own as usize] - 1 {
-            tops[own as usize] = 0;
-            return next;
-        }
-        tops[own as usize] = below[v as usize];
+    let c = cut(ends, first, below, depth, v, tops[own], bottoms[own]);
+    tops[own] = c.top;
+    bottoms[own] = c.bottom;
+    if c.high == 0 {
         return next;
     }
-    if v == bottoms[own as usize] - 1 {
-        bottoms[own as usize] = walk::above(ends, first, v) + 1;
-        return next;
-    }
-    part(
-        ends,
-        first,
-        below,
-        depth,
-        v,
-        own,
-        next,
-        places,
-        tops,
-        bottoms,
-    );
+    walk::mark_up(ends, first, c.low - 1, c.high - 1, next, places);
+    tops[next as usize] = c.high;
+    bottoms[next as usize] = c.low;
     next + 1
 }
 
-// The link `own` is parted at `v`, above and below which it has vertices: the shorter part gets the place `next`.
-fn part(
+// How a link with these tips is cut at `v`, which it loses. The shorter part becomes a link.
+fn cut(
     ends: &[u16],
     first: &[u16],
     below: &[u16],
     depth: &[u16],
     v: u16,
-    own: u16,
-    next: u16,
-    places: &mut [u16],
-    tops: &mut [u16],
-    bottoms: &mut [u16],
-)
-    requires { ⌜ Parting (now ends) (now first) (now below) (now depth) v own next (now places) (now tops) (now bottoms) ⌝ }
-    ensures { λ _. ⌜ PartsBy (now (ends .entry)) (now (first .entry)) (now (below .entry)) (now (depth .entry)) v own next (now (places .entry)) (now (tops .entry)) (now (bottoms .entry)) (now (places .exit)) (now (tops .exit)) (now (bottoms .exit)) ⌝ }
+    top: u16,
+    bottom: u16,
+) -> Tips
+    requires { ⌜ Cutting (now ends) (now first) (now below) (now depth) v top bottom ⌝ }
+    ensures { λ r. ⌜ CutAt v top bottom (nextUp (now (ends .entry)) (now (first .entry)) v + 1) (read (now (below .entry)) v) (r .top) (r .bottom) (r .high) (r .low) ⌝ }
 {
-    let up = walk::above(ends, first, v);
-    let down = below[v as usize] - 1;
-    let top = tops[own as usize] - 1;
-    let bottom = bottoms[own as usize] - 1;
-    if is_upper_shorter(depth, v, top, bottom) {
-        walk::mark_up(ends, first, up, top, next, places);
-        tops[own as usize] = down + 1;
-        tops[next as usize] = top + 1;
-        bottoms[next as usize] = up + 1;
-    } else {
-        walk::mark_up(ends, first, bottom, down, next, places);
-        bottoms[own as usize] = up + 1;
-        tops[next as usize] = down + 1;
-        bottoms[next as usize] = bottom + 1;
+    let down = below[v as usize];
+    if v + 1 == top {
+        return cut_top(v, top, bottom, down);
+    }
+    let up = walk::above(ends, first, v) + 1;
+    if v + 1 == bottom {
+        return Tips {
+            top: top,
+            bottom: up,
+            high: 0,
+            low: 0,
+        };
+    }
+    cut_inside(
+        is_upper_shorter(depth, v, top - 1, bottom - 1),
+        top,
+        bottom,
+        up,
+        down,
+    )
+}
+
+// The top is cut off.
+fn cut_top(v: u16, top: u16, bottom: u16, down: u16) -> Tips
+    requires { ⌜ (v + 1 ≡ top) × (v < limits .vertices) ⌝ }
+    ensures { λ r. ⌜ TopCut v top bottom down (r .top) (r .bottom) (r .high) (r .low) ⌝ }
+{
+    if v + 1 == bottom {
+        return Tips {
+            top: 0,
+            bottom: bottom,
+            high: 0,
+            low: 0,
+        };
+    }
+    Tips {
+        top: down,
+        bottom: bottom,
+        high: 0,
+        low: 0,
+    }
+}
+
+// A vertex between the tips is cut out, with `up` above it and `down` below: the upper part becomes a link, or the lower one.
+fn cut_inside(is_upper: bool, top: u16, bottom: u16, up: u16, down: u16) -> Tips
+    ensures { λ r. ⌜ InsideCut top bottom up down (r .top) (r .bottom) (r .high) (r .low) ⌝ }
+{
+    if is_upper {
+        return Tips {
+            top: down,
+            bottom: bottom,
+            high: top,
+            low: up,
+        };
+    }
+    Tips {
+        top: top,
+        bottom: up,
+        high: down,
+        low: bottom,
     }
 }
 

@@ -16,6 +16,7 @@ pub(crate) struct Stage {
     pub(crate) edge: u16,
 }
 
+// How many rows were written, and the next free place.
 pub(crate) struct Added {
     pub(crate) count: u16,
     pub(crate) next: u16,

@@ -6,12 +6,24 @@ ghost use lib.ListN.{length};
 ghost use Rattle.graph.specs.Marks.{read};
 ghost use Rattle.graph.specs.Tells.{Tells};
 ghost use Rattle.record.specs.Recording.{Beginning, BegunBy};
-ghost use Rattle.record.specs.Opening.{Door, DoorFits, Doors, NextDoorBy, Meets, Met, Rowed, RowedBy, Raw, RaisedBy, Threefold, ThreeBy};
+ghost use Rattle.record.specs.Opening.{Door, DoorFits, Doors, NextDoorBy, Meets, Met, Rowed, RowedBy, Raw, RaisedBy, WayAt, Finding, ForkedBy};
 
 // How many rows the first three walks have, and the next free place.
 pub(crate) struct Begun {
     pub(crate) rows: u16,
     pub(crate) next: u16,
+}
+
+// Where two edges from the root `r` lead: over `f` to `w` and over `d` to `u`. `x` is the first vertex on the way up from `u` that is also on the
+// way up from `w`, and `e` leads from it to its parent `p`.
+struct Fork {
+    x: u16,
+    e: u16,
+    p: u16,
+    f: u16,
+    w: u16,
+    d: u16,
+    u: u16,
 }
 
 // Writes and builds the first three walks.
@@ -34,6 +46,56 @@ pub(crate) fn first_walks(
     ensures { λ r. ⌜ BegunBy (now (ends .entry)) (now (incident .entry)) (now (begins .entry)) (now (first .entry)) (now (order .entry)) (now (number .entry)) (now (last .entry)) (now (places .entry)) (now (below .entry)) (now (tops .entry)) (now (bottoms .entry)) (now (used .entry)) (now (rows .entry)) (now (places .exit)) (now (below .exit)) (now (tops .exit)) (now (bottoms .exit)) (now (used .exit)) (now (rows .exit)) (r .rows) (r .next) ⌝ }
 {
     let r = order[0];
+    let t = find(
+        ends,
+        incident,
+        begins,
+        first,
+        order,
+        number,
+        last,
+        r,
+        places,
+    );
+    let count = write_walks(ends, first, r, t.x, t.e, t.p, t.f, t.w, t.d, t.u, rows);
+    let next = build_walks(
+        ends,
+        first,
+        r,
+        t.x,
+        t.e,
+        t.p,
+        t.f,
+        t.w,
+        t.d,
+        t.u,
+        places,
+        below,
+        tops,
+        bottoms,
+        used,
+    );
+    Begun {
+        rows: count,
+        next: next,
+    }
+}
+
+// Two edges from the root `r` to below its first child, and where the ways up from there meet. No mark is set in `places`, before and after.
+fn find(
+    ends: &[u16],
+    incident: &[u16],
+    begins: &[u16],
+    first: &[u16],
+    order: &[u16],
+    number: &[u16],
+    last: &[u16],
+    r: u16,
+    places: &mut [u16],
+) -> Fork
+    requires { ⌜ Finding (now ends) (now incident) (now begins) (now first) (now order) (now number) (now last) r (now places) ⌝ }
+    ensures { λ q. ⌜ ForkedBy (now (ends .entry)) (now (incident .entry)) (now (begins .entry)) (now (first .entry)) (now (order .entry)) (now (number .entry)) (now (last .entry)) r (now (places .entry)) (now (places .exit)) (q .x) (q .e) (q .p) (q .f) (q .w) (q .d) (q .u) ⌝ }
+{
     let end = last[order[1] as usize];
     let j = next_door(ends, incident, first, number, end, r, begins[r as usize]);
     let k = next_door(ends, incident, first, number, end, r, j + 1);
@@ -42,22 +104,17 @@ pub(crate) fn first_walks(
     let w = walk::other_end(ends, f, r);
     let u = walk::other_end(ends, d, r);
     let x = meeting(ends, first, w, u, r, places);
-    three_walks(
-        ends,
-        first,
-        r,
-        x,
-        f,
-        w,
-        d,
-        u,
-        places,
-        below,
-        tops,
-        bottoms,
-        used,
-        rows,
-    )
+    let e = first[x as usize] - 1;
+    let p = walk::other_end(ends, e, x);
+    Fork {
+        x: x,
+        e: e,
+        p: p,
+        f: f,
+        w: w,
+        d: d,
+        u: u,
+    }
 }
 
 // The first place from `from` on of an edge at the root `r` that is not in the tree and leads to a vertex whose number is at most `end`.
@@ -104,53 +161,8 @@ fn meeting(ends: &[u16], first: &[u16], w: u16, u: u16, r: u16, marks: &mut [u16
     x
 }
 
-// Writes and builds the walks from `x` up to `r`, from `r` over `f` to `w` and up to `x`, and from `r` over `d` to `u` and up to `x`.
-fn three_walks(
-    ends: &[u16],
-    first: &[u16],
-    r: u16,
-    x: u16,
-    f: u16,
-    w: u16,
-    d: u16,
-    u: u16,
-    places: &mut [u16],
-    below: &mut [u16],
-    tops: &mut [u16],
-    bottoms: &mut [u16],
-    used: &mut [u8],
-    rows: &mut [u16],
-) -> Begun
-    requires { ⌜ Threefold (now ends) (now first) r x f w d u (now places) (now below) (now tops) (now bottoms) (now used) (length (now rows)) ⌝ }
-    ensures { λ q. ⌜ ThreeBy (now (ends .entry)) (now (first .entry)) r x f w d u (now (places .entry)) (now (below .entry)) (now (tops .entry)) (now (bottoms .entry)) (now (used .entry)) (now (rows .entry)) (now (places .exit)) (now (below .exit)) (now (tops .exit)) (now (bottoms .exit)) (now (used .exit)) (now (rows .exit)) (q .rows) (q .next) ⌝ }
-{
-    let e = first[x as usize] - 1;
-    let p = walk::other_end(ends, e, x);
-    let count = write_walks(ends, first, r, x, e, p, f, w, d, u, rows);
-    let next = build_walks(
-        ends,
-        first,
-        r,
-        x,
-        e,
-        p,
-        f,
-        w,
-        d,
-        u,
-        places,
-        below,
-        tops,
-        bottoms,
-        used,
-    );
-    Begun {
-        rows: count,
-        next: next,
-    }
-}
-
-// Writes their rows, each behind those before it; how many there are. `e` leads from `x` to its parent `p`.
+// Writes the rows of the three walks, from `x` up to `r` over `e`, from `r` over `f` and over `d` up to `x`, each behind those before it; how many
+// there are.
 fn write_walks(
     ends: &[u16],
     first: &[u16],
@@ -182,6 +194,13 @@ fn write_walks(
     a + b + c
 }
 
+// An edge, where it leads, and where the way up from there ends.
+struct Way {
+    e: u16,
+    v: u16,
+    stop: u16,
+}
+
 // Builds them; the next free place then. The walk from `x` comes first: from then on what is above a built vertex is built.
 fn build_walks(
     ends: &[u16],
@@ -206,31 +225,49 @@ fn build_walks(
     places[r as usize] = 1;
     places[x as usize] = 1;
     below[p as usize] = x + 1;
-    let one = link::build_walk(ends, first, e, p, r, 2, places, below, tops, bottoms, used);
-    let two = link::build_walk(
-        ends,
-        first,
-        f,
-        w,
-        x,
-        one,
-        places,
-        below,
-        tops,
-        bottoms,
-        used,
-    );
-    link::build_walk(
-        ends,
-        first,
-        d,
-        u,
-        x,
-        two,
-        places,
-        below,
-        tops,
-        bottoms,
-        used,
-    )
+    let mut k: u16 = 0;
+    let mut next: u16 = 2;
+    while k < 3 {
+        let to = way_at(k, r, x, e, p, f, w, d, u);
+        next = link::build_walk(
+            ends,
+            first,
+            to.e,
+            to.v,
+            to.stop,
+            next,
+            places,
+            below,
+            tops,
+            bottoms,
+            used,
+        );
+        k += 1;
+    }
+    next
+}
+
+// The walk `k` of the three.
+fn way_at(k: u16, r: u16, x: u16, e: u16, p: u16, f: u16, w: u16, d: u16, u: u16) -> Way
+    ensures { λ q. ⌜ WayAt k r x e p f w d u (q .e) (q .v) (q .stop) ⌝ }
+{
+    if k == 0 {
+        return Way {
+            e: e,
+            v: p,
+            stop: r,
+        };
+    }
+    if k == 1 {
+        return Way {
+            e: f,
+            v: w,
+            stop: x,
+        };
+    }
+    Way {
+        e: d,
+        v: u,
+        stop: x,
+    }
 }

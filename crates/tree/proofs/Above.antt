@@ -1,7 +1,7 @@
 -- The laws of a tree: which vertices are above which, which edges are in it, and where a climb leads.
 use mathlib.Core.Path.{_≡_, refl, sym, ap, _∙_, subst}
 use mathlib.Core.Logic.{_⊎_, inl, inr}
-use mathlib.Core.List.{List, [], _∷_, _++_, append-nil, append-assoc, List·Memᴰ as In, List·Memᴰ·head as first, List·Memᴰ·tail as later, List·Memᴰ·not-nil as not-in, List·Memᴰ·cases-cons as in-cons}
+use mathlib.Core.List.{List, [], _∷_, List·Memᴰ as In, List·Memᴰ·head as first, List·Memᴰ·tail as later, List·Memᴰ·not-nil as not-in, List·Memᴰ·cases-cons as in-cons}
 use Prim.Native.Nat.{ℕ, zero, suc, _≤_, _<_}
 use native.Mathlib.Omega.{arith}
 use native.Mathlib.Decide.{ℕ-discrete}
@@ -11,7 +11,7 @@ use Rattle.connectivity.specs.Walk.{Leg, Walk, last, then, froms, edgesOf, hits
 use Rattle.connectivity.proofs.Reach.{joins-sym, joins-vertex}
 use Rattle.connectivity.proofs.Degree.{hits-from, hits-on}
 use Rattle.connectivity.proofs.Legs.{leg}
-use Rattle.tree.specs.Tree.{Pointers, Child, Above, same, higher, Tree, OffTree, Back, Climb, there, on}
+use Rattle.tree.specs.Tree.{Pointers, Child, Above, same, higher, Tree, Preorder, OffTree, Back, Climb, there, on}
 
 pub same-suc : {x y : ℕ} → suc x ≡ suc y → x ≡ y
 same-suc p = omega (arith, p)
@@ -136,6 +136,16 @@ module _ {g : Graph} {t : Pointers} (tree : Tree g t) where
       go (inr a) (inr b) (inr k) l = (cc, b)
       go (inr a) (inl b) k l = let h : s ≡ w = above-once (p .above) (subst (λ (x : ℕ). Above g t x s) a (subst (Above g t y) b (q .above))) in (a ∙ sym h, b ∙ h)
 
+-- where what comes between a vertex and one below it is below it, the last number below a vertex tells what is
+pub preorder-from : {g : Graph} {t : Pointers} {last : ℕ → ℕ}
+    → ((u v w : ℕ) → Vertex g u → Vertex g v → Above g t u w → t .rank u ≤ t .rank v → t .rank v ≤ t .rank w → Above g t u v)
+    → ((c : ℕ) → Vertex g c → (z : ℕ) × Above g t c z × (last c ≡ t .rank z))
+    → ((c w : ℕ) → Above g t c w → Vertex g c → t .rank w ≤ last c) → Preorder g t last
+preorder-from between some most = record {
+  within = most;
+  below = λ c w hc hw low high. let (z, a, p) = some c hc in between c w z hc hw a low (omega (arith, high, p));
+}
+
 -- Climbs.
 
 -- what is in S, its parent is
@@ -217,22 +227,6 @@ climb-same (there s) (on d o j) = absurd (o s)
 climb-same (on c n k) (there r) = absurd (n r)
 climb-same {t = t} (on {v = v} c n k) (on d o j) = let r = climb-same k j in (ap (λ (l : List Leg). leg (t .first v) v ∷ l) (r .0), r .1)
 
--- A climb, leg by leg: `done` leads from w up to v.
-
-abbrev pub Climbing : Graph → Pointers → (ℕ → Type 0) → ℕ → List Leg → ℕ → Type 0
-Climbing g t S w done v = (rest : List Leg) (x : ℕ) → Climb g t S v rest x → Climb g t S w (done ++ rest) x
-
-pub climbing-start : {g : Graph} {t : Pointers} {S : ℕ → Type 0} {w : ℕ} → Climbing g t S w [] w
-climbing-start rest x k = k
-
-pub climbing-step : {g : Graph} {t : Pointers} {S : ℕ → Type 0} {w v : ℕ} (done : List Leg) → Climbing g t S w done v → Child g t v → (S v → ⊥)
-    → Climbing g t S w (done ++ (leg (t .first v) v ∷ [])) (t .parent v)
-climbing-step {g} {t} {S} {w} {v} done c h n rest x k =
-    subst (λ (l : List Leg). Climb g t S w l x) (sym (append-assoc done (leg (t .first v) v ∷ []) rest)) (c (leg (t .first v) v ∷ rest) x (on h n k))
-
-pub climbing-end : {g : Graph} {t : Pointers} {S : ℕ → Type 0} {w v : ℕ} (done : List Leg) → Climbing g t S w done v → S v → Climb g t S w done v
-climbing-end {g} {t} {S} {w} {v} done c s = subst (λ (l : List Leg). Climb g t S w l v) (append-nil done) (c [] v (there s))
-
 -- every climb ends, where S is decided and has a vertex above the start
 pub climb-to : {g : Graph} {t : Pointers} {S : ℕ → Type 0} → ((v : ℕ) → Dec (S v)) → {u v : ℕ} → Above g t u v → S u
     → (legs : List Leg) × (w : ℕ) × Climb g t S v legs w
@@ -240,6 +234,20 @@ climb-to d (same {v = v}) s = ([], v, there s)
 climb-to {t = t} d (higher {v = v} c a) s = elim (d v) [
   | yes h ↦ ([], v, there h)
   | no n ↦ let r = climb-to d a s in (leg (t .first v) v ∷ r .0, r .1, on c n (r .2))
+]
+
+-- from a vertex up to one above it
+pub way-up : {g : Graph} {t : Pointers} {u w : ℕ} → Above g t w u → (legs : List Leg) × Climb g t (λ y. y ≡ w) u legs w
+way-up {g} {t} {u} {w} a = let (legs, x, k) = climb-to (λ y. ℕ-discrete y w) a refl in
+    (legs, subst (λ (z : ℕ). Climb g t (λ y. y ≡ w) u legs z) (climb-end k) k)
+
+-- what is above the start is left, or above the end
+pub climb-cases : {g : Graph} {t : Pointers} {S : ℕ → Type 0} {v w z : ℕ} {legs : List Leg} → Climb g t S v legs w → Above g t z v
+    → In z (froms legs) ⊎ Above g t z w
+climb-cases (there h) a = inr a
+climb-cases (on c n k) a = elim (above-cases a) [
+  | inl p ↦ inl (first p)
+  | inr b ↦ elim (climb-cases k (b .1)) [ inl i ↦ inl (later i) | inr h ↦ inr h ]
 ]
 
 -- what is below c is c, or a child of c or below it

@@ -14,7 +14,7 @@ use Rattle.connectivity.proofs.Stage.{Stage}
 use Rattle.connectivity.proofs.Sound.{stage}
 use Rattle.connectivity.proofs.Link.{degree-two}
 use Rattle.connectivity.proofs.Grow.{next-edge, all-branches}
-use Rattle.tree.specs.Tree.{Pointers, Tree, Back, Climb, Held}
+use Rattle.tree.specs.Tree.{Pointers, Tree, Back, Climb}
 use Rattle.tree.specs.Filed.{Filed}
 use Rattle.tree.specs.State.{Along, Places}
 use Rattle.tree.proofs.Step.{step, step-once, step-held}
@@ -60,8 +60,8 @@ module _ {g : Graph} {built : List ℕ} {u w : ℕ} {legs : List Leg} (stage : S
   sum v = degree-append g (edgesOf legs) built v
 
   -- the branches are the old ones and the ends
-  pub ear-branch : (v : ℕ) → Branch g more v → (Branch g built v ⊎ (v ≡ u)) ⊎ (v ≡ w)
-  ear-branch v h = elim (ℕ-discrete v u) [
+  pub mader-branch : (v : ℕ) → Branch g more v → (Branch g built v ⊎ (v ≡ u)) ⊎ (v ≡ w)
+  mader-branch v h = elim (ℕ-discrete v u) [
     | yes p ↦ inl (inr p)
     | no n ↦ elim (ℕ-discrete v w) [
       | yes p ↦ inr p
@@ -73,25 +73,25 @@ module _ {g : Graph} {built : List ℕ} {u w : ℕ} {legs : List Leg} (stage : S
     ]
   ]
 
-  pub branch-ear-is : (v : ℕ) → (Branch g built v ⊎ (v ≡ u)) ⊎ (v ≡ w) → Branch g more v
-  branch-ear-is v (inl (inl b)) = omega (arith, sum v, b)
-  branch-ear-is v (inl (inr p)) = subst (Branch g more) (sym p) (omega (arith, sum u, start-degree (r .walk), degree-two u stage (r .begins)))
-  branch-ear-is v (inr p) = subst (Branch g more) (sym p) (omega (arith, sum w, stop-degree (r .walk), degree-two w stage (r .ends)))
+  pub mader-branch-is : (v : ℕ) → (Branch g built v ⊎ (v ≡ u)) ⊎ (v ≡ w) → Branch g more v
+  mader-branch-is v (inl (inl b)) = omega (arith, sum v, b)
+  mader-branch-is v (inl (inr p)) = subst (Branch g more) (sym p) (omega (arith, sum u, start-degree (r .walk), degree-two u stage (r .begins)))
+  mader-branch-is v (inr p) = subst (Branch g more) (sym p) (omega (arith, sum w, stop-degree (r .walk), degree-two w stage (r .ends)))
 
   -- what is built is what was, and the inner vertices
-  pub ear-built : (v : ℕ) → Built g more v → Built g built v ⊎ In v (inner legs)
-  ear-built v h = elim (decLe 1 (degree g built v)) [
+  pub mader-built : (v : ℕ) → Built g more v → Built g built v ⊎ In v (inner legs)
+  mader-built v h = elim (decLe 1 (degree g built v)) [
     | yes b ↦ inl b
     | no n ↦ inr (on-inner v (r .walk) (λ p. n (subst (Built g built) (sym p) (r .begins))) (λ p. n (subst (Built g built) (sym p) (r .ends))) (omega (arith, sum v, h, n)))
   ]
 
-  pub built-ear-is : (v : ℕ) → Built g built v ⊎ In v (inner legs) → Built g more v
-  built-ear-is v (inl b) = omega (arith, sum v, b)
-  built-ear-is v (inr i) = omega (arith, sum v, inner-least v (r .walk) i)
+  pub mader-built-is : (v : ℕ) → Built g built v ⊎ In v (inner legs) → Built g more v
+  mader-built-is v (inl b) = omega (arith, sum v, b)
+  mader-built-is v (inr i) = omega (arith, sum v, inner-least v (r .walk) i)
 
 -- the ends made branches, and the inside filed, the places are those of what is built with the step
 pub places-step : {g : Graph} {t : Pointers} {built : List ℕ} {place : ℕ → ℕ} {f s x : ℕ} {legs : List Leg} → Stage g built
     → MaderPath g built s (step f s legs) x
     → Filed g t (λ v. Built g built v ⊎ In v (froms legs)) (λ v. (Branch g built v ⊎ (v ≡ s)) ⊎ (v ≡ x)) place
     → Places g t (edgesOf (step f s legs) ++ built) place
-places-step stage r h = filed-map (built-ear-is stage r) (ear-built stage r) (branch-ear-is stage r) (ear-branch stage r) h
+places-step stage r h = filed-map (mader-built-is stage r) (mader-built stage r) (mader-branch-is stage r) (mader-branch stage r) h

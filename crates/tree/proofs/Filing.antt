@@ -1,4 +1,4 @@
--- Places: two vertices have the same place exactly if they lie inside one link; so a test on places tells an ear, and an exit.
+-- Places: two vertices have the same place exactly if they lie inside one link; so a test on places tells a Mader-path, and an exit.
 use mathlib.Core.Path.{_≡_, refl, sym, _∙_, subst}
 use mathlib.Core.Logic.{_⊎_, inl, inr}
 use mathlib.Core.List.{List, List·Memᴰ as In}
@@ -18,7 +18,7 @@ use Rattle.tree.specs.Tree.{Pointers, Above, same, higher, Tree, Back, O
 use Rattle.tree.specs.State.{Places}
 use Rattle.tree.proofs.Inside.{bare-ends, bare-first}
 use Rattle.tree.proofs.Leaving.{exit-law}
-use Rattle.tree.proofs.Step.{step, step-ear, step-at}
+use Rattle.tree.proofs.Step.{step, step-mader, step-at}
 
 module _ {g : Graph} {t : Pointers} {built : List ℕ} {place : ℕ → ℕ} (tree : Tree g t) (held : Held g t built) (filed : Places g t built place) where
   -- a built vertex that is no branch lies inside a link
@@ -61,10 +61,10 @@ module _ {g : Graph} {t : Pointers} {built : List ℕ} {place : ℕ → ℕ} (tr
   pub inside-place : {u v : ℕ} → Inside g built u v → place u ≡ place v
   inside-place {u} r = closed-reach (λ v. place u ≡ place v) (λ e x y b j p. p ∙ bare-place e x y b j) r refl
 
-  -- the test: a step from a branch, or to another place, is an ear
-  pub place-ear : {f s w x : ℕ} {legs : List Leg} → Back g t f s w → (In f built → ⊥) → Built g built s → Climb g t (Built g built) w legs x
+  -- the test: a step from a branch, or to another place, is a Mader-path
+  pub place-mader : {f s w x : ℕ} {legs : List Leg} → Back g t f s w → (In f built → ⊥) → Built g built s → Climb g t (Built g built) w legs x
       → (place s ≡ 1) ⊎ (place s ≡ place x → ⊥) → MaderPath g built s (step f s legs) x
-  place-ear {f} {s} {w} {x} b n h k test = step-ear tree held b n h k
+  place-mader {f} {s} {w} {x} b n h k test = step-mader tree held b n h k
       (λ p. elim test [ inl q ↦ filed .branch s q | inr m ↦ absurd (m (subst (λ (y : ℕ). place s ≡ place y) p refl)) ])
       (λ m o l. elim test [ inl q ↦ m (filed .branch s q) | inr r ↦ r (inside-place (link-bare l)) ])
 
@@ -77,13 +77,13 @@ module _ {g : Graph} {t : Pointers} {built : List ℕ} {place : ℕ → ℕ} (tr
       (λ v e u s w x legs i j n b k. let r = none v e u s w x legs (sym (inside-place i)) j n b k in
       (place-inside h (sym (r .0)), place-inside h (sym (r .1))))
 
-  -- a step over an edge at a vertex inside a link, one of whose ends is at another place, is an ear
-  pub exit-place-ear : {over : ℕ → ℕ} {v e u s w x : ℕ} {legs : List Leg} → Overs g t over → 2 ≤ place v → Joins g e v u → (In e built → ⊥)
+  -- a step over an edge at a vertex inside a link, one of whose ends is at another place, is a Mader-path
+  pub exit-place-mader : {over : ℕ → ℕ} {v e u s w x : ℕ} {legs : List Leg} → Overs g t over → 2 ≤ place v → Joins g e v u → (In e built → ⊥)
       → Back g t (over e) s w → Climb g t (Built g built) w legs x → (place s ≡ place v → place x ≡ place v → ⊥)
       → MaderPath g built s (step (over e) s legs) x
-  exit-place-ear {over} {v} {e} {u} {s} {w} {x} overs h j n b k out =
+  exit-place-mader {over} {v} {e} {u} {s} {w} {x} overs h j n b k out =
       let a = step-at tree held overs j n b k (filed .built v (omega (arith, h))) in
-      place-ear b (a .new) (a .begins) k (inr (λ q. elim (a .at) [
+      place-mader b (a .new) (a .begins) k (inr (λ q. elim (a .at) [
         | inl r ↦ let z : place s ≡ place v = subst (λ (y : ℕ). place s ≡ place y) r refl in out z (sym q ∙ z)
         | inr r ↦ let z : place x ≡ place v = subst (λ (y : ℕ). place x ≡ place y) r refl in out (q ∙ z) z
       ]))

@@ -1,48 +1,26 @@
--- The law of the exit: out of the inside of a link leads an ear over an edge that is not built, at one of its vertices.
-use mathlib.Core.Path.{_≡_, sym, _∙_, subst}
+-- The law of the exit: out of the inside of a link leads a step over an edge that is not built, at one of its vertices.
+use mathlib.Core.Path.{sym, _∙_, subst}
 use mathlib.Core.Logic.{inl, inr}
-use mathlib.Core.List.{List, [], _∷_, List·Memᴰ as In, List·Memᴰ·head as first, List·Memᴰ·tail as later, List·Memᴰ·cases-cons as in-cons, List·Memᴰ·eq-of-singleton as eq-of-singleton, Memᴰ·cast}
+use mathlib.Core.List.{List, [], _∷_, List·Memᴰ as In, List·Memᴰ·head as first, List·Memᴰ·tail as later}
 use Prim.Native.Nat.{ℕ}
 use native.Mathlib.Omega.{arith}
 use native.Mathlib.Decide.{decLe}
 use Rattle.connectivity.specs.Graph.{Graph, Joins}
 use Rattle.connectivity.specs.Reach.{Reach, here, Without, ThreeEdgeConnected}
-use Rattle.connectivity.specs.Walk.{Leg, Walk, last, then, froms, inner, edgesOf, hits, degree, Built, Branch}
+use Rattle.connectivity.specs.Walk.{Leg, inner, edgesOf, degree, Built, Branch}
 use Rattle.connectivity.specs.Link.{SameLink}
 use Rattle.connectivity.proofs.Lists.{in-dec}
 use Rattle.connectivity.proofs.Reach.{joins-sym, joins-vertex, closed-reach}
-use Rattle.connectivity.proofs.Degree.{hits-from, hits-on, in-degree, from-first, walk-from}
+use Rattle.connectivity.proofs.Degree.{hits-from, in-degree, walk-from}
 use Rattle.connectivity.proofs.Stage.{Stage}
-use Rattle.connectivity.proofs.Link.{lead, some-link, link-full, link-closed, link-bare}
-use Rattle.connectivity.proofs.Legs.{leg, final, final-cons}
+use Rattle.connectivity.proofs.Link.{lead, some-link, link-full, link-closed, link-bare, not-outer}
+use Rattle.connectivity.proofs.Legs.{leg, final}
 use Rattle.connectivity.proofs.Grow.{Inside, inside-built}
 use Rattle.tree.specs.Tree.{Pointers, Above, Tree, OffTree, Back, Overs, Climb, there, on, Held}
 use Rattle.tree.proofs.Above.{first-leads, tree-cases, climb-here, climb-one, climb-below, climb-last, climb-part, climb-join}
 use Rattle.tree.proofs.Inside.{built-is-vertex, built-up, first-new, climb-built, inside-between}
 
--- The outer edges of a link.
-
--- an edge of a walk that is not its last ends at vertices that the walk leaves from
-not-last : {g : Graph} {u w e x : ℕ} {legs : List Leg} → Walk g u legs w → In e (edgesOf legs) → hits g e x ≡ 1
-    → (e ≡ final legs → ⊥) → In x (froms legs)
-not-last (last d j) i h n = absurd (n (eq-of-singleton i))
-not-last {x = x} (then {u = u} d j k) i h n = elim (in-cons i) [
-  | inl p ↦ elim (hits-on x j (omega (arith, rw p at h))) [ inl q ↦ first q | inr q ↦ later (Memᴰ·cast q (from-first k)) ]
-  | inr m ↦ later (not-last k m h (λ p. n (p ∙ sym (final-cons (leg d u) k))))
-]
-
--- and one that is not its first either, at inner vertices
-not-outer : {g : Graph} {u w e x : ℕ} {legs : List Leg} → Walk g u legs w → In e (edgesOf legs) → hits g e x ≡ 1
-    → (e ≡ lead legs → ⊥) → (e ≡ final legs → ⊥) → In x (inner legs)
-not-outer (last d j) i h n m = absurd (n (eq-of-singleton i))
-not-outer (then {u = u} d j k) i h n m = elim (in-cons i) [
-  | inl p ↦ absurd (n p)
-  | inr q ↦ not-last k q h (λ p. m (p ∙ sym (final-cons (leg d u) k)))
-]
-
--- The law.
-
--- no edge that is not built, at a vertex inside the link of p, has an ear over it that leads out: both ends of the ear lie inside
+-- no edge that is not built, at a vertex inside the link of p, has a step over it that leads out: both ends of the step lie inside
 abbrev pub Closed : Graph → Pointers → (ℕ → ℕ) → List ℕ → ℕ → Type 0
 Closed g t over built p = (v e u s w x : ℕ) (legs : List Leg) → Inside g built p v → Joins g e v u → (In e built → ⊥)
     → Back g t (over e) s w → Climb g t (Built g built) w legs x → Inside g built p s × Inside g built p x
@@ -63,7 +41,7 @@ module _ {g : Graph} {t : Pointers} {over : ℕ → ℕ} {built : List ℕ} {p :
   inside-if : {v : ℕ} → Built g built v → Hangs g t built p v → Inside g built p v
   inside-if h k = subst (Inside g built p) (climb-here h (k .climb)) (k .inside)
 
-  -- the ear over an edge that is not in the tree is over the edge itself
+  -- the step over an edge that is not in the tree begins with the edge itself
   itself : {e u v s w : ℕ} → Joins g e u v → (In e built → ⊥) → Inside g built p u → Back g t e s w → Inside g built p s × Hangs g t built p w
   itself {e} {u} {v} {s} {w} j n i h =
       let (legs, x, k) = climb-built tree held (joins-vertex (joins-sym (h .joins))) in
@@ -129,7 +107,7 @@ module _ {g : Graph} {t : Pointers} {over : ℕ → ℕ} {built : List ℕ} {p :
     | no n ↦ elim (tree .upright e u v j) [ inl a ↦ down j n a h | inr a ↦ upward j n a h ]
   ]
 
--- out of the link of p leads an ear over an edge at one of its vertices: else the link's outer two edges would cut off what hangs on its inside
+-- out of the link of p leads a step over an edge at one of its vertices: else the link's outer two edges would cut off what hangs on its inside
 pub exit-law : {g : Graph} {t : Pointers} {over : ℕ → ℕ} {built : List ℕ} {p : ℕ} → ThreeEdgeConnected g → Tree g t → Overs g t over
     → Held g t built → Stage g built → Built g built p → (Branch g built p → ⊥) → Closed g t over built p → ⊥
 exit-law {g} {t} {over} {built} {p} three tree overs held s b n none =

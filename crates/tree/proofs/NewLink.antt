@@ -1,7 +1,7 @@
 -- The links after one more is built, which is named after its bottom; and how many links there are at most.
-use mathlib.Core.Path.{_≡_, refl, sym, _∙_, subst}
+use mathlib.Core.Path.{_≡_, sym, _∙_, subst}
 use mathlib.Core.Logic.{_⊎_, inl, inr}
-use mathlib.Core.List.{List, _∷_, List·Memᴰ as In, List·Memᴰ·head as first, List·Memᴰ·tail as later, List·Memᴰ·cases-cons as in-cons}
+use mathlib.Core.List.{List, _∷_, List·Memᴰ as In, List·Memᴰ·cases-cons as in-cons}
 use Prim.Native.Nat.{ℕ, suc, _+_, _≤_, _<_}
 use native.Mathlib.Omega.{arith}
 use native.Mathlib.Decide.{ℕ-discrete}
@@ -11,10 +11,10 @@ use Rattle.connectivity.specs.Graph.{Graph, Vertex}
 use Rattle.connectivity.specs.Walk.{Leg, froms}
 use Rattle.connectivity.proofs.Lists.{in-dec, range-is, length-range}
 use Rattle.connectivity.proofs.Degree.{part-length}
-use Rattle.tree.specs.Tree.{Pointers, Above, Tree, Climb, there, on}
+use Rattle.tree.specs.Tree.{Pointers, Above, Tree, Climb}
 use Rattle.tree.specs.Filed.{Grown, Tips}
 use Rattle.tree.specs.Links.{Shelved, Tipped, gone, tipped, Namer, branch, bottom, Links}
-use Rattle.tree.proofs.Above.{above-cases, above-once, climb-end, climb-to, climb-new, climb-child, climb-on, climb-between, climb-under}
+use Rattle.tree.proofs.Above.{above-cases, above-once, climb-end, way-up, climb-cases, climb-new, climb-child, climb-on, climb-between, climb-under}
 use Rattle.tree.proofs.Splitting.{tips-new, tips-old}
 
 -- different vertices are at most as many as the bound
@@ -27,19 +27,10 @@ links-most {g} l = omega (arith, vertices-most g (l .names) (l .once) (l .vertex
 
 -- A climb but for its last leg, which leaves y.
 
-climb-cases : {g : Graph} {t : Pointers} {S : ℕ → Type 0} {v w z : ℕ} {legs : List Leg} → Climb g t S v legs w → Above g t z v
-    → In z (froms legs) ⊎ Above g t z w
-climb-cases (there h) a = inr a
-climb-cases (on c n k) a = elim (above-cases a) [
-  | inl p ↦ inl (first p)
-  | inr b ↦ elim (climb-cases k (b .1)) [ inl i ↦ inl (later i) | inr h ↦ inr h ]
-]
-
 module _ {g : Graph} {t : Pointers} {S : ℕ → Type 0} {v w y : ℕ} {legs : List Leg} (tree : Tree g t) (k : Climb g t S v legs w)
     (iy : In y (froms legs)) (up : t .parent y ≡ w) where
   pub low-climb : (low : List Leg) × Climb g t (λ z. z ≡ y) v low y
-  low-climb = let (low, z, c) = climb-to (λ z. ℕ-discrete z y) (climb-on tree k iy) refl in
-      (low, subst (Climb g t (λ z. z ≡ y) v low) (climb-end c) c)
+  low-climb = way-up (climb-on tree k iy)
 
   pub low-on : {z : ℕ} → In z (froms (low-climb .0)) → In z (froms legs)
   low-on i = climb-between tree k iy (climb-under tree (low-climb .1) i) (climb-on tree (low-climb .1) i)

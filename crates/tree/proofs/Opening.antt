@@ -4,14 +4,13 @@ use mathlib.Core.Logic.{_⊎_, inl, inr, ⊎-swap}
 use mathlib.Core.List.{List, [], _∷_, List·Memᴰ as In, List·Memᴰ·head as first, List·Memᴰ·tail as later, List·Memᴰ·cases-cons as in-cons, Memᴰ·append-left as in-left, Memᴰ·append-right as in-right, Memᴰ·cast}
 use Prim.Native.Nat.{ℕ, _≤_}
 use native.Mathlib.Omega.{arith}
-use native.Mathlib.Decide.{ℕ-discrete, decLe}
-use Rattle.connectivity.specs.Lists.{Distinct}
+use native.Mathlib.Decide.{ℕ-discrete}
 use Rattle.connectivity.specs.Graph.{Graph, Joins}
-use Rattle.connectivity.specs.Walk.{Leg, Between, froms, inner, edgesOf, allInner, allEdges, hits, degree, Built, Branch}
+use Rattle.connectivity.specs.Walk.{Leg, froms, allEdges, hits, Built, Branch}
 use Rattle.connectivity.specs.Mader.{Theta, theta}
-use Rattle.connectivity.proofs.Distinct.{tail-distinct, left-distinct, right-distinct, apart-distinct}
-use Rattle.connectivity.proofs.Degree.{degree-append, hits-from, hits-on, in-degree, on-inner, inner-most}
-use Rattle.connectivity.proofs.Stage.{AllBetween, all-degree, all-inner}
+use Rattle.connectivity.proofs.Distinct.{tail-distinct, apart-distinct}
+use Rattle.connectivity.proofs.Degree.{hits-from, hits-on, in-degree}
+use Rattle.connectivity.proofs.Stage.{all-degree, all-most}
 use Rattle.connectivity.proofs.Legs.{leg}
 use Rattle.tree.specs.Tree.{Pointers, Child, Above, Tree, Passing, Climb, on}
 use Rattle.tree.specs.Filed.{Filed}
@@ -67,31 +66,6 @@ filed-ends {g} {t} {x} {place} one zero = record {
 
     small : (v : ℕ) → 2 ≤ place v → ⊥
     small v h = omega (arith, h, one v (filed v (omega (arith, h))))
-
--- away from their ends three paths have at most two edges at a vertex
-between-most : {g : Graph} {a b : ℕ} {legs : List Leg} (x : ℕ) → Between g a legs b → (x ≡ a → ⊥) → (x ≡ b → ⊥) → Distinct (inner legs) → degree g (edgesOf legs) x ≤ 2
-between-most x (inl k) n m d = inner-most x k n m d
-between-most x (inr k) n m d = inner-most x k m n d
-
-between-inner : {g : Graph} {a b : ℕ} {legs : List Leg} (x : ℕ) → Between g a legs b → (x ≡ a → ⊥) → (x ≡ b → ⊥) → Built g (edgesOf legs) x → In x (inner legs)
-between-inner x (inl k) n m h = on-inner x k n m h
-between-inner x (inr k) n m h = on-inner x k m n h
-
-all-most : {g : Graph} {a b : ℕ} (walks : List (List Leg)) (x : ℕ) → AllBetween g a walks b → (x ≡ a → ⊥) → (x ≡ b → ⊥) → Distinct (allInner walks)
-    → degree g (allEdges walks) x ≤ 2
-all-most [] x f n m d = omega arith
-all-most {g} (legs ∷ walks) x f n m d =
-    let sum = degree-append g (edgesOf legs) (allEdges walks) x in
-    let this = f legs (first refl) in
-    let p = between-most x this n m (left-distinct (inner legs) (allInner walks) d) in
-    let q = all-most walks x (λ l i. f l (later i)) n m (right-distinct (inner legs) d) in
-    elim (decLe 1 (degree g (edgesOf legs) x)) [
-      | yes h ↦ elim (decLe 1 (degree g (allEdges walks) x)) [
-        | yes i ↦ absurd (apart-distinct (inner legs) d (between-inner x this n m h) (all-inner walks x (λ l i. f l (later i)) n m i))
-        | no i ↦ omega (arith, sum, p, i)
-      ]
-      | no h ↦ omega (arith, sum, q, h)
-    ]
 
 module _ {g : Graph} {t : Pointers} {c f d w u x : ℕ} {p q r : List Leg} (tree : Tree g t) (child : Child g t c)
     (one-door : Passing g t c f (t .root) w) (other-door : Passing g t c d (t .root) u) (differ : f ≡ d → ⊥)

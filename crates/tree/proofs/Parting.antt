@@ -2,17 +2,17 @@
 -- The tips of the parts are known, and a new link is named after the vertex.
 use mathlib.Core.Path.{_≡_, refl, sym, ap, _∙_, subst}
 use mathlib.Core.Logic.{_⊎_, inl, inr}
-use mathlib.Core.List.{List, _∷_, List·Memᴰ as In, List·Memᴰ·head as first, List·Memᴰ·tail as later, List·Memᴰ·cases-cons as in-cons}
+use mathlib.Core.List.{List, _∷_, List·Memᴰ as In, List·Memᴰ·cases-cons as in-cons}
 use Prim.Native.Nat.{ℕ, suc, _+_, _≤_, _<_}
 use native.Mathlib.Omega.{arith}
 use native.Mathlib.Decide.{ℕ-discrete}
 use Rattle.connectivity.specs.Lists.{one}
 use Rattle.connectivity.specs.Graph.{Graph, Vertex}
 use Rattle.connectivity.specs.Walk.{Leg, froms}
-use Rattle.tree.specs.Tree.{Pointers, Child, Above, same, higher, Tree, Climb, there, on}
+use Rattle.tree.specs.Tree.{Pointers, Child, Above, same, higher, Tree, Climb}
 use Rattle.tree.specs.Filed.{Split, Marked, parted, Tips, Belows}
 use Rattle.tree.specs.Links.{Shelved, Tipped, gone, tipped, Namer, branch as on-branch, bottom as on-bottom, Links}
-use Rattle.tree.proofs.Above.{same-suc, above-trans, above-cases, above-both, above-once, not-over, parent-vertex, climb-to, climb-end, climb-on, climb-under, climb-above}
+use Rattle.tree.proofs.Above.{same-suc, above-trans, above-cases, above-both, above-once, not-over, parent-vertex, climb-cases, climb-on, climb-under, climb-above}
 use Rattle.tree.proofs.Splitting.{split-before, tips-upper, tips-lower, none-lower, tips-away}
 use Rattle.tree.proofs.Under.{link-up, link-down}
 use Rattle.tree.proofs.NewLink.{vertices-most}
@@ -23,19 +23,10 @@ pub above-vertex : {g : Graph} {t : Pointers} {u v : ℕ} → Tree g t → Above
 above-vertex tree same h = h
 above-vertex tree (higher c a) h = above-vertex tree a (parent-vertex tree c)
 
--- from a vertex up to one above it
-pub way-up : {g : Graph} {t : Pointers} {u w : ℕ} → Above g t w u → (legs : List Leg) × Climb g t (λ y. y ≡ w) u legs w
-way-up {g} {t} {u} {w} a = let (legs, x, k) = climb-to (λ y. ℕ-discrete y w) a refl in
-    (legs, subst (λ (z : ℕ). Climb g t (λ y. y ≡ w) u legs z) (climb-end k) k)
-
--- it passes all that lies between
+-- a climb passes all that lies between its ends
 climb-all : {g : Graph} {t : Pointers} {S : ℕ → Type 0} {u w y : ℕ} {legs : List Leg} → Tree g t → Climb g t S u legs w → Above g t w y → Above g t y u
     → In y (froms legs) ⊎ (y ≡ w)
-climb-all tree (there s) a b = inr (above-once tree b a)
-climb-all tree (on c n k) a b = elim (above-cases b) [
-  | inl p ↦ inl (first p)
-  | inr (d, h) ↦ elim (climb-all tree k a h) [ inl i ↦ inl (later i) | inr q ↦ inr q ]
-]
+climb-all tree k a b = elim (climb-cases k b) [ inl i ↦ inl i | inr h ↦ inr (above-once tree h a) ]
 
 -- and nothing else
 climb-in : {g : Graph} {t : Pointers} {S : ℕ → Type 0} {u w y : ℕ} {legs : List Leg} → Tree g t → Climb g t S u legs w → In y (froms legs) ⊎ (y ≡ w)

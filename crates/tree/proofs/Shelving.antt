@@ -1,17 +1,14 @@
--- The places alone tell what is built and what is a branch; they go on telling it when a vertex becomes a branch and when a link is added.
-use mathlib.Core.Path.{_≡_, refl, sym, _∙_, subst}
+-- The places alone tell what is built and what is a branch; they go on telling it when a vertex becomes a branch.
+use mathlib.Core.Path.{_≡_, refl, sym, subst}
 use mathlib.Core.Logic.{_⊎_, inl, inr}
-use mathlib.Core.List.{List, List·Memᴰ as In}
 use Prim.Native.Nat.{ℕ, _≤_}
 use native.Mathlib.Omega.{arith}
 use native.Mathlib.Decide.{decLe}
 use Rattle.connectivity.specs.Graph.{Graph}
-use Rattle.connectivity.specs.Walk.{Leg, froms}
-use Rattle.tree.specs.Tree.{Pointers, Tree, Climb}
-use Rattle.tree.specs.Filed.{Filed, Marked, already, parted, Grown, Noted, Belows}
+use Rattle.tree.specs.Tree.{Pointers, Tree}
+use Rattle.tree.specs.Filed.{Filed, Marked, already, parted, Belows}
 use Rattle.tree.specs.Links.{Shelved}
-use Rattle.tree.proofs.Above.{UpClosed}
-use Rattle.tree.proofs.Splitting.{filed-map, filed-grown, belows-grown}
+use Rattle.tree.proofs.Splitting.{filed-map}
 use Rattle.tree.proofs.State.{filed-marked, belows-marked, belows-map}
 
 module _ {g : Graph} {t : Pointers} {B K : ℕ → Type 0} {place : ℕ → ℕ} (f : Filed g t B K place) where
@@ -51,33 +48,5 @@ module _ {g : Graph} {t : Pointers} {place after : ℕ → ℕ} {v : ℕ} (tree 
   pub marked-branch : after v ≡ 1
   marked-branch = filed-branch now h (inr refl)
 
-  pub marked-kept : {y : ℕ} → place y ≡ 1 → after y ≡ 1
-  marked-kept {y} p = filed-branch now (omega (arith, p)) (inl p)
-
   pub marked-belows : {below : ℕ → ℕ} → Belows g t (λ y. 1 ≤ place y) place below → Belows g t (λ y. 1 ≤ after y) after below
   marked-belows b = belows-map (λ y. marked-on) (λ y. marked-off) (belows-marked tree f m b)
-
--- what a climb to a branch leaves has become a link
-module _ {g : Graph} {t : Pointers} {place after : ℕ → ℕ} {w x m : ℕ} {legs : List Leg} (tree : Tree g t) (f : Shelved g t place)
-    (k : Climb g t (λ y. 1 ≤ place y) w legs x) (kx : place x ≡ 1) (s : Grown place after legs m) where
-  kb : (y : ℕ) → place y ≡ 1 → 1 ≤ place y
-  kb y p = omega (arith, p)
-
-  then : Filed g t (λ y. (1 ≤ place y) ⊎ In y (froms legs)) (λ y. place y ≡ 1) after
-  then = filed-grown tree f kb k kx s
-
-  pub grown-shelved : Shelved g t after
-  grown-shelved = filed-own then (λ y p. inl (kb y p))
-
-  pub grown-on : {y : ℕ} → (1 ≤ place y) ⊎ In y (froms legs) → 1 ≤ after y
-  grown-on b = filed-built then b
-
-  pub grown-off : {y : ℕ} → 1 ≤ after y → (1 ≤ place y) ⊎ In y (froms legs)
-  grown-off {y} b = then .built y b
-
-  pub grown-branch : {y : ℕ} → place y ≡ 1 → after y ≡ 1
-  grown-branch {y} p = filed-branch then (inl (kb y p)) p
-
-  pub grown-belows : {below noted : ℕ → ℕ} → UpClosed g t (λ y. 1 ≤ place y) → Belows g t (λ y. 1 ≤ place y) place below → Noted t below noted legs
-      → Belows g t (λ y. 1 ≤ after y) after noted
-  grown-belows up b n = belows-map (λ y. grown-on) (λ y. grown-off) (belows-grown tree f kb k kx s up b n)

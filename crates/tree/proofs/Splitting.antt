@@ -2,7 +2,7 @@
 use mathlib.Core.Path.{_≡_, refl, sym, ap, _∙_, subst}
 use mathlib.Core.Logic.{_⊎_, inl, inr}
 use mathlib.Core.List.{List, [], _∷_, List·Memᴰ as In, List·Memᴰ·head as first, List·Memᴰ·tail as later, List·Memᴰ·not-nil as not-in, List·Memᴰ·cases-cons as in-cons}
-use Prim.Native.Nat.{ℕ, suc, _≤_}
+use Prim.Native.Nat.{ℕ, _≤_}
 use native.Mathlib.Omega.{arith}
 use native.Mathlib.Decide.{ℕ-discrete, decLe}
 use Rattle.connectivity.specs.Graph.{Graph}
@@ -233,10 +233,7 @@ module _ {g : Graph} {t : Pointers} {B K : ℕ → Type 0} {place after : ℕ �
       lowest = λ y r. tips .lowest y (is-lower r .0);
     }
 
-    -- a part without a vertex
-    pub none-upper : v ≡ top → (y : ℕ) → after y ≡ a → ⊥
-    none-upper p y e = let (q, m, h) = is-upper e in m (above-once tree h (subst (λ (x : ℕ). Above g t x y) (sym p) (tips .highest y q)))
-
+    -- below the bottom there is no part
     pub none-lower : v ≡ bottom → (y : ℕ) → after y ≡ b → ⊥
     none-lower p y e = let (q, m, h) = is-lower e in m (above-once tree (subst (Above g t y) (sym p) (tips .lowest y q)) h)
 

@@ -1,21 +1,20 @@
 -- The state between steps, without a table: the steps so far, the places and the children noted below. A step keeps it.
-use mathlib.Core.Path.{_≡_, refl, sym, ap, _∙_, subst}
+use mathlib.Core.Path.{_≡_, refl, sym, _∙_, subst}
 use mathlib.Core.Logic.{_⊎_, inl, inr}
 use mathlib.Core.List.{List, [], _∷_, List·Memᴰ as In}
-use Prim.Native.Nat.{ℕ, suc, _≤_}
+use Prim.Native.Nat.{ℕ}
 use native.Mathlib.Omega.{arith}
 use Rattle.connectivity.specs.Graph.{Graph}
-use Rattle.connectivity.specs.Walk.{Leg, froms, allEdges, Built, Branch}
+use Rattle.connectivity.specs.Walk.{Leg, allEdges, Built, Branch}
 use Rattle.connectivity.specs.Mader.{MaderPath}
 use Rattle.connectivity.proofs.Legs.{leg}
 use Rattle.tree.specs.Tree.{Pointers, Child, Above, Tree, Back, Passing, Climb}
 use Rattle.tree.specs.State.{State}
-use Rattle.tree.specs.Filed.{Filed, Split, Marked, already, parted, Grown, Noted, Belows}
-use Rattle.tree.proofs.Above.{climb-end}
+use Rattle.tree.specs.Filed.{Filed, Marked, already, parted, Grown, Noted, Belows}
 use Rattle.tree.proofs.Inside.{built-up}
 use Rattle.tree.proofs.Step.{step}
 use Rattle.tree.proofs.Splitting.{filed-already, filed-split, filed-grown, belows-split, belows-grown}
-use Rattle.tree.proofs.Along.{along-stage, along-step, ear-built, built-ear-is, places-step}
+use Rattle.tree.proofs.Along.{along-stage, along-step, mader-built, mader-built-is, places-step}
 use Rattle.tree.proofs.Opening.{Ends, OnWalks, to-root, along-begin, begun-on, on-begun, places-begin}
 
 -- the same places under another name
@@ -62,7 +61,7 @@ state-step {g} {t} {walks} {s = s} {x = x} tree st b n k r mark-s mark-x grown n
     record {
       along = along-step tree (st .along) b n k r;
       filed = places-step (along-stage (st .along)) r (filed-grown tree q is-built k (inr refl) grown);
-      belows = belows-map (built-ear-is (along-stage (st .along)) r) (ear-built (along-stage (st .along)) r)
+      belows = belows-map (mader-built-is (along-stage (st .along)) r) (mader-built (along-stage (st .along)) r)
           (belows-grown tree q is-built k (inr refl) grown (built-up tree (st .along .held)) h note);
     }
   where

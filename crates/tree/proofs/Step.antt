@@ -1,8 +1,8 @@
 -- A step along the tree: an edge that is not in it, from its built upper end, and the way up from its lower end to the first built vertex. What
--- is built with it is held as before, and it is an ear out of a link, or where every built vertex is a branch.
+-- is built with it is held as before, and it is a Mader-path out of a link, or where every built vertex is a branch.
 use mathlib.Core.Path.{_≡_, sym, _∙_, subst}
 use mathlib.Core.Logic.{_⊎_, inl, inr}
-use mathlib.Core.List.{List, _∷_, _++_, List·Memᴰ as In, List·Memᴰ·head as first, List·Memᴰ·tail as later, List·Memᴰ·cases-cons as in-cons, List·Memᴰ·append-cases as in-cases, Memᴰ·append-left as in-left, Memᴰ·append-right as in-right, Memᴰ·cast}
+use mathlib.Core.List.{List, _∷_, _++_, List·Memᴰ as In, List·Memᴰ·tail as later, List·Memᴰ·cases-cons as in-cons, List·Memᴰ·append-cases as in-cases, Memᴰ·append-left as in-left, Memᴰ·append-right as in-right, Memᴰ·cast}
 use Prim.Native.Nat.{ℕ, _+_}
 use native.Mathlib.Omega.{arith}
 use native.Mathlib.Decide.{decLe}
@@ -46,10 +46,10 @@ module _ {g : Graph} {t : Pointers} {built : List ℕ} {f s w x : ℕ} {legs : L
   step-once d = join-distinct (edgesOf (step f s legs))
       (one {x = f} (λ i. let r = climb-edge tree k i in b .off (r .0) (r .1) (r .3)) (climb-edges tree k)) d step-new
 
-  -- it is an ear under the conditions on its ends
-  pub step-ear : (s ≡ x → Branch g built s) → ((Branch g built s → ⊥) → (Branch g built x → ⊥) → SameLink g built s x → ⊥)
+  -- it is a Mader-path under the conditions on its ends
+  pub step-mader : (s ≡ x → Branch g built s) → ((Branch g built s → ⊥) → (Branch g built x → ⊥) → SameLink g built s x → ⊥)
       → MaderPath g built s (step f s legs) x
-  step-ear c l = record {
+  step-mader c l = record {
     walk = step-walk;
     begins = hs;
     ends = climb-end k;
@@ -158,9 +158,9 @@ module _ {g : Graph} {t : Pointers} {over : ℕ → ℕ} {built : List ℕ} {v e
         ]
   ]
 
-  -- where v lies inside the link of p and the step leads out of it, it is an ear
-  pub exit-ear : {p : ℕ} → Built g built p → Inside g built p v → (Inside g built p s → Inside g built p x → ⊥) → MaderPath g built s (step (over e) s legs) x
-  exit-ear {p} hp i out = let a = step-at (inside-built hp i) in step-ear tree held b (a .new) (a .begins) k
+  -- where v lies inside the link of p and the step leads out of it, it is a Mader-path
+  pub exit-mader : {p : ℕ} → Built g built p → Inside g built p v → (Inside g built p s → Inside g built p x → ⊥) → MaderPath g built s (step (over e) s legs) x
+  exit-mader {p} hp i out = let a = step-at (inside-built hp i) in step-mader tree held b (a .new) (a .begins) k
       (λ q. elim (a .at) [
         | inl r ↦ absurd (out (subst (Inside g built p) (sym r) i) (subst (Inside g built p) (sym r ∙ q) i))
         | inr r ↦ absurd (out (subst (Inside g built p) (sym r ∙ sym q) i) (subst (Inside g built p) (sym r) i))
@@ -170,7 +170,7 @@ module _ {g : Graph} {t : Pointers} {over : ℕ → ℕ} {built : List ℕ} {v e
         | inr r ↦ let h = subst (Inside g built p) (sym r) i in out (reach-trans h (reach-sym (link-bare l))) h
       ])
 
-  -- where every built vertex is a branch, it is an ear
-  pub branch-ear : ((y : ℕ) → Built g built y → Branch g built y) → Built g built v → MaderPath g built s (step (over e) s legs) x
-  branch-ear all hv = let a = step-at hv in
-      step-ear tree held b (a .new) (a .begins) k (λ q. all s (a .begins)) (λ m o l. m (all s (a .begins)))
+  -- where every built vertex is a branch, it is a Mader-path
+  pub branch-mader : ((y : ℕ) → Built g built y → Branch g built y) → Built g built v → MaderPath g built s (step (over e) s legs) x
+  branch-mader all hv = let a = step-at hv in
+      step-mader tree held b (a .new) (a .begins) k (λ q. all s (a .begins)) (λ m o l. m (all s (a .begins)))

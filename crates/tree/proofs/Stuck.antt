@@ -19,12 +19,12 @@ use Rattle.tree.specs.State.{Along, Places}
 use Rattle.tree.specs.Filed.{Tips, Belows}
 use Rattle.tree.proofs.Inside.{inside-dec, built-up, climb-built}
 use Rattle.tree.proofs.Leaving.{exit-law}
-use Rattle.tree.proofs.Step.{step, step-at, over-back, exit-ear, branch-ear}
-use Rattle.tree.proofs.Filing.{exit-places, exit-place-ear}
+use Rattle.tree.proofs.Step.{step, step-at, over-back, exit-mader, branch-mader}
+use Rattle.tree.proofs.Filing.{exit-places, exit-place-mader}
 use Rattle.tree.proofs.Under.{ends-below, from-below}
 use Rattle.tree.proofs.Along.{along-stage, along-more}
 
--- Where no step along the tree is an ear, every edge is built.
+-- Where no step along the tree is a Mader-path, every edge is built.
 
 module _ {g : Graph} {t : Pointers} {over : ℕ → ℕ} {walks : List (List Leg)} (three : ThreeEdgeConnected g) (tree : Tree g t) (overs : Overs g t over)
     (a : Along g t walks)
@@ -39,7 +39,7 @@ module _ {g : Graph} {t : Pointers} {over : ℕ → ℕ} {walks : List (List Leg
   stays {p} hp n v e u s w x legs i j m b k hv = let l = some-link p (along-stage a) hp n in go (inside-dec l s) (inside-dec l x)
     where
       out : (Inside g built p s → Inside g built p x → ⊥) → ⊥
-      out o = stuck (over e) s w x legs b (step-at tree (a .held) overs j m b k hv .new) k (exit-ear tree (a .held) overs j m b k hp i o)
+      out o = stuck (over e) s w x legs b (step-at tree (a .held) overs j m b k hv .new) k (exit-mader tree (a .held) overs j m b k hp i o)
 
       go : Dec (Inside g built p s) → Dec (Inside g built p x) → Inside g built p s × Inside g built p x
       go (yes q) (yes r) = (q, r)
@@ -61,7 +61,7 @@ module _ {g : Graph} {t : Pointers} {over : ℕ → ℕ} {walks : List (List Leg
     | no n ↦
         let (s, w, b) = over-back tree overs j in
         let (legs, x, k) = climb-built tree (a .held) (joins-vertex (joins-sym (b .joins))) in
-        absurd (stuck (over e) s w x legs b (step-at tree (a .held) overs j n b k h .new) k (branch-ear tree (a .held) overs j n b k branches h))
+        absurd (stuck (over e) s w x legs b (step-at tree (a .held) overs j n b k h .new) k (branch-mader tree (a .held) overs j n b k branches h))
   ]
 
   pub never-stuck : (e : ℕ) → Edge g e → In e built
@@ -89,11 +89,11 @@ module _ {g : Graph} {t : Pointers} {over : ℕ → ℕ} {built : List ℕ} {pla
         | no n ↦ let (c, e, d) = ends-below tree (built-up tree held) filed h tips large a q k n in absurd (r c e d)
       ]
 
-  -- and where one passes, the step over it is an ear
+  -- and where one passes, the step over it is a Mader-path
   pub exit-passes : {v e u s w x : ℕ} {legs : List Leg} → place v ≡ m → Joins g e v u → (In e built → ⊥) → Back g t (over e) s w
       → Climb g t (Built g built) w legs x → (place s ≡ m → ⊥) ⊎ ((c : ℕ) × (below bottom ≡ suc c) × Above g t c w)
       → MaderPath g built s (step (over e) s legs) x
-  exit-passes {v} {x = x} p j n b k test = exit-place-ear tree held filed overs (omega (arith, large, p)) j n b k (λ q r. elim test [
+  exit-passes {v} {x = x} p j n b k test = exit-place-mader tree held filed overs (omega (arith, large, p)) j n b k (λ q r. elim test [
     | inl o ↦ o (q ∙ p)
     | inr (c, e, d) ↦ from-below tree (built-up tree held) filed h tips large (b .above) (q ∙ p) k e d (r ∙ p)
   ])

@@ -4,7 +4,7 @@ use Prim.Native.Nat.{_-_}
 use native.Mathlib.Omega.{arith}
 use lib.ListN.{length}
 use Rattle.record.specs.Progress.{Finishing, Going}
-use Rattle.record.proofs.Progress.{now-long, order-room, begins-room, going-first, going-most, going-long, nexting, adding, going-then, recorded}
+use Rattle.record.proofs.Progress.{now-long, order-room, begins-room, going-first, going-long, nexting, adding, going-then, recorded}
 use Rattle.record.proofs.build.finish.Statement.{statement}
 use Rattle.record.proofs.build.finish.Tie as tie
 

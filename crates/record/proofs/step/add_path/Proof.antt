@@ -1,40 +1,35 @@
 -- `add_path` meets its contract: both ends become branches, the inside a link, and the rows of the walk are written.
-use mathlib.Core.Path.{_≡_, _∙_}
 use borrow.Author.Needs.{needs}
-use Rattle.record.proofs.Stepping.{f-ended, upper-at, lower-at, end, toward, one-more, ending, building, stepped-by}
+use Rattle.record.proofs.Stepping.{f-ended, toward-at, one-more-at, ending-at, building-at, stepped-by}
 use Rattle.record.proofs.step.add_path.Statement.{statement}
 use Rattle.record.proofs.step.add_path.Tie as tie
+
+-- the entry, from after the three vertices are found
+abbrev entry : tie.After-first-marked → tie.Start
+entry x = x .before .before .before .before .before .before .before .before .before .before .before .before .before .before
 
 upper-requires : tie.Need-upper-requires
 upper-requires c κs = f-ended (c .before .before .before .before .before .before .before .before .before .before .pre)
 
-upper-is : (o : tie.After-upper) → o .upper .result ≡ o .before .before .before .before .before .before .before .before .before .before .before .pre .chosen .upper
-upper-is o = o .upper .ensures ∙ upper-at (o .before .before .before .before .before .before .before .before .before .before .before .pre)
-
 other-end-requires : tie.Need-other-end-requires
 other-end-requires c κs = f-ended (c .before .before .before .before .before .before .before .before .before .before .before .pre) .below
 
-lower-is : (o : tie.After-other-end) → o .other-end .result ≡ o .before .before .before .before .before .before .before .before .before .before .before .before .pre .chosen .lower
-lower-is o = (rw (upper-is (o .before)) at (o .other-end .ensures)) ∙ lower-at (o .before .before .before .before .before .before .before .before .before .before .before .before .pre)
-
 first-marked-requires : tie.Need-first-marked-requires
-first-marked-requires c κs = rw (lower-is (c .before)) (toward (c .before .before .before .before .before .before .before .before .before .before .before .before .before .pre))
-
-end-is : (o : tie.After-first-marked) → o .first-marked .result ≡ end (o .before .before .before .before .before .before .before .before .before .before .before .before .before .before .pre)
-end-is o = (rw (lower-is (o .before .before)) at (o .first-marked .ensures)) (toward (o .before .before .before .before .before .before .before .before .before .before .before .before .before .before .pre))
+first-marked-requires c κs = let o = c .before in toward-at (o .before .before .before .before .before .before .before .before .before .before .before .before .pre) (o .before .upper .ensures) (o .other-end .ensures)
 
 write-walk-requires : tie.Need-write-walk-requires
-write-walk-requires c κs = rw (lower-is (c .before .before .before)) (rw (end-is (c .before)) (one-more (c .before .before .before .before .before .before .before .before .before .before .before .before .before .before .before .pre)))
+write-walk-requires c κs = let x = c .before in one-more-at (entry x .pre) (x .before .before .before .upper .ensures) (x .before .before .other-end .ensures) (x .first-marked .ensures)
 
 split-both-requires : tie.Need-split-both-requires
-split-both-requires c κs = rw (upper-is (c .before .before .before .before .before .before .before .before .before .before .before)) (rw (end-is (c .before .before .before .before .before .before .before .before)) (ending (c .before .before .before .before .before .before .before .before .before .before .before .before .before .before .before .before .before .before .before .before .before .before .pre)))
+split-both-requires c κs = let x = c .before .before .before .before .before .before .before .before in
+    ending-at (entry x .pre) (x .before .before .before .upper .ensures) (x .before .before .other-end .ensures) (x .first-marked .ensures)
 
 build-walk-requires : tie.Need-build-walk-requires
 build-walk-requires c κs =
     let o = c .before .before .before .before .before .before .before .before .before .before .before in
-    let e = o .split-both .ensures in
-    let s = o .before .before .before .before .before .before .before .before .before .before .before .before .before .before .before .before .before .before .before .before .before .before .before .pre in
-    rw (lower-is (o .before .before .before .before .before .before .before .before .before .before .before)) (rw (end-is (o .before .before .before .before .before .before .before .before .before)) (building s (o .split-both .last .1 .1 .1 .1 .1 .1 .1 .0) (o .split-both .last .1 .1 .1 .1 .1 .1 .1 .1 .0) (o .split-both .last .1 .1 .1 .1 .1 .1 .1 .1 .1 .0) (rw (upper-is (o .before .before .before .before .before .before .before .before .before .before .before .before)) at (rw (end-is (o .before .before .before .before .before .before .before .before .before)) at (e .3)) (ending s)) (e .0, e .1, e .2)))
+    let x = o .before .before .before .before .before .before .before .before .before in
+    building-at (entry x .pre) (x .before .before .before .upper .ensures) (x .before .before .other-end .ensures) (x .first-marked .ensures)
+    (o .split-both .last .1 .1 .1 .1 .1 .1 .1 .0) (o .split-both .last .1 .1 .1 .1 .1 .1 .1 .1 .0) (o .split-both .last .1 .1 .1 .1 .1 .1 .1 .1 .1 .0) (o .split-both .ensures)
 
 same-length : tie.Need-same-length
 same-length c = search needs
