@@ -38,7 +38,7 @@ add-rows-requires c κs =
     let l = c .before .before .before .before .before .before .before .before .before .before .before .before .before .before in
     let r = l .loop .inv .5 (l .before .before .before .before .before .before .before .before .before .before .before .before .before .before .before .before .before .pre) in
     let h = c .before .before .before .before .before .before .before .before .before .before .before .before .if1 .taken in
-    adding r h (c .before .before .before .before .before .before .next-edge .ensures (nexting r h) .1)
+    adding r (omega (arith, h)) (c .before .before .before .before .before .before .next-edge .ensures (nexting r (omega (arith, h))) .1)
 
 loop-less : tie.Need-loop-less Inv-loop μ-loop
 loop-less c =
@@ -46,7 +46,7 @@ loop-less c =
     let l = a .before .before .before .before .before .before .before .before .before .before .before .before .before .before .before in
     let r = l .loop .inv .5 (l .before .before .before .before .before .before .before .before .before .before .before .before .before .before .before .before .before .pre) in
     let h = a .before .before .before .before .before .before .before .before .before .before .before .before .before .if1 .taken in
-    omega (arith, h, a .add-rows .ensures (adding r h (a .before .before .before .before .before .before .before .next-edge .ensures (nexting r h) .1)) .more-rows)
+    omega (arith, h, a .add-rows .ensures (adding r (omega (arith, h)) (a .before .before .before .before .before .before .before .next-edge .ensures (nexting r (omega (arith, h))) .1)) .more-rows)
 
 loop-again : tie.Need-loop-again Inv-loop μ-loop
 loop-again c =
@@ -61,8 +61,8 @@ loop-again c =
       a .add-rows .kept .1 .1 .1 .1 .1 .1 .1 .1 .1 .1 .0 ∙ i .4,
       λ d.
           let r = i .5 d in
-          let e = a .before .before .before .before .before .before .before .next-edge .ensures (nexting r h) in
-          going-then r h (a .add-rows .last .1 .1 .1 .1 .1 .1 .1 .0) (a .add-rows .last .1 .1 .1 .1 .1 .1 .1 .1 .0) (a .add-rows .last .1 .1 .1 .1 .1 .1 .1 .1 .1 .0) (a .add-rows .last .1 .1 .1 .1 .1 .1 .1 .1 .1 .1 .0) (a .add-rows .last .1 .1 .1 .1 .1 .1 .1 .1 .1 .1 .1 .0) (e .0) (a .add-rows .ensures (adding r h (e .1))),
+          let e = a .before .before .before .before .before .before .before .next-edge .ensures (nexting r (omega (arith, h))) in
+          going-then r (omega (arith, h)) (a .add-rows .last .1 .1 .1 .1 .1 .1 .1 .0) (a .add-rows .last .1 .1 .1 .1 .1 .1 .1 .1 .0) (a .add-rows .last .1 .1 .1 .1 .1 .1 .1 .1 .1 .0) (a .add-rows .last .1 .1 .1 .1 .1 .1 .1 .1 .1 .1 .0) (a .add-rows .last .1 .1 .1 .1 .1 .1 .1 .1 .1 .1 .1 .0) (e .0) (a .add-rows .ensures (adding r (omega (arith, h)) (e .1))),
     )
 
 same-length : tie.Need-same-length Inv-loop μ-loop
@@ -89,7 +89,7 @@ same-length-6 c =
 returns : tie.Need-returns Inv-loop μ-loop
 returns c =
     let l = c .before .before in
-    λ d. let r = l .loop .inv .5 d in (going-long r ∙ sym (now-long (d .ground .rooted) (d .recording)), recorded r (c .if1 .left))
+    λ d. let r = l .loop .inv .5 d in (going-long r ∙ sym (now-long (d .ground .rooted) (d .recording)), recorded r (omega (arith, c .if1 .left)))
 
 pub finish-spec : {M : Type 1} → statement M
 finish-spec =
