@@ -22,7 +22,7 @@ use Rattle.record.proofs.ThreeRows.{x-child}
 
 -- The doors, and where the ways up meet.
 
-module _ {n root : ℕ} {ends incident begins first order number last over : List ℕ} (s : Ground n root ends incident begins first number last over)
+module _ {n root : ℕ} {ends incident begins first order number last : List ℕ} {over : ℕ → ℕ} (s : Ground n root ends incident begins first number last over)
     (l : Listed n root order number) {i k : ℕ} (o : NextDoor ends incident begins first number (read last (read order 1)) root (read begins root) i)
     (h : NextDoor ends incident begins first number (read last (read order 1)) root (i + 1) k) where
   abbrev g : Graph
@@ -108,12 +108,12 @@ module _ {ends incident begins first order number last places : List ℕ} {root 
 
 -- What writing and building the walks ask, and what they leave behind.
 
-module _ {ends incident begins first order number last places below tops bottoms used : List ℕ} {room : ℕ}
-    (c : Beginning ends incident begins first order number last places below tops bottoms used room) where
+module _ {ends incident begins first order number last places below tips over : List ℕ} {room : ℕ}
+    (c : Beginning ends incident begins first order number last places below tips over room) where
   abbrev pub finding : Finding ends incident begins first order number last (read order 0) places
   finding = record {
     n = c .n;
-    over = c .over;
+    over = read over;
     ground = c .ground;
     listing = c .listing;
     places-blank = c .places-blank;
@@ -124,7 +124,7 @@ module _ {ends incident begins first order number last places below tops bottoms
     abbrev pub rowed : Rowed ends first (read order 0) x e p f w d u room
     rowed = let r = m .1 finding in record { n = c .n; rank = read number; climbs = r .climbs; edge = r .edge; parent = r .parent; fits = c .fits }
 
-    abbrev pub raw : Raw ends first (read order 0) x e p f w d u places' below tops bottoms used
+    abbrev pub raw : Raw ends first (read order 0) x e p f w d u places' below tips over
     raw = let r = m .1 finding in record {
       n = c .n;
       rank = read number;
@@ -133,29 +133,24 @@ module _ {ends incident begins first order number last places below tops bottoms
       parent = r .parent;
       places-blank = r .blank;
       below-blank = c .below-blank;
-      used-blank = c .used-blank;
       roomy = record {
         below-long = c .roomy .below-long;
         places-long = omega (arith, m .0, c .roomy .places-long);
-        tops-long = c .roomy .tops-long;
-        bottoms-long = c .roomy .bottoms-long;
+        tips-long = c .roomy .tips-long;
       };
-      used-long = c .used-long;
+      over-long = c .over-long;
     }
 
-pub begun : {ends incident begins first order number last places below tops bottoms used : List ℕ} (before : List ℕ)
-    (c : Beginning ends incident begins first order number last places below tops bottoms used (length before)) (places-1 : List ℕ) {x e p f w d u : ℕ}
+pub begun : {ends incident begins first order number last places below tips over : List ℕ} (before : List ℕ)
+    (c : Beginning ends incident begins first order number last places below tips over (length before)) (places-1 : List ℕ) {x e p f w d u : ℕ}
     → ForkedBy ends incident begins first order number last (read order 0) places places-1 x e p f w d u
-    → (after places' below' tops' bottoms' used' : List ℕ) {count next : ℕ} → RowedBy ends first (read order 0) x e p f w d u before after count
-    → RaisedBy ends first (read order 0) x e p f w d u places-1 below tops bottoms used places' below' tops' bottoms' used' next
-    → Begun (c .n) (read order 0) ends first (read number) before after places' below' tops' bottoms' used' count next
-begun {order = order} before c places-1 {x} {e} {p} {f} {w} {d} {u} m after places' below' tops' bottoms' used' r b =
+    → (after places' below' tips' over' : List ℕ) {count next : ℕ} → RowedBy ends first (read order 0) x e p f w d u before after count
+    → RaisedBy ends first (read order 0) x e p f w d u places-1 below tips over places' below' tips' over' next
+    → Begun (c .n) (read order 0) ends first (read number) (read over) before after places' below' tips' over' count 3 next
+begun {order = order} before c places-1 {x} {e} {p} {f} {w} {d} {u} m after places' below' tips' over' r b =
     let k = m .1 (finding c) .climbs in
     let z = r (rowed c places-1 m) in
     record {
       walks = threeWalks (read order 0) x f e d (k .low) (k .high) (k .side);
-      three = refl;
-      holds = b (raw c places-1 m);
-      written = z .0;
-      count = z .1;
+      recording = record { holds = b (raw c places-1 m); written = z .0; row-is = z .1; step-is = refl; fits = c .fits };
     }

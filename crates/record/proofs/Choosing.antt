@@ -3,7 +3,7 @@
 use mathlib.Core.Path.{_≡_, refl, sym, subst}
 use mathlib.Core.Logic.{_⊎_, inl, inr}
 use mathlib.Core.List.{List, List·Memᴰ as In}
-use Prim.Native.Nat.{ℕ, suc, _+_, _-_, _≤_, _<_}
+use Prim.Native.Nat.{ℕ, suc, _+_, _*_, _-_, _≤_, _<_}
 use native.Mathlib.Omega.{arith}
 use native.Mathlib.Decide.{ℕ-discrete, decLe, decLt}
 use lib.ListN.{length}
@@ -22,17 +22,18 @@ use Rattle.tree.proofs.Step.{over-back, step-at, branch-mader}
 use Rattle.tree.proofs.Stuck.{exit-passes}
 use Rattle.tree.proofs.Shelving.{filed-built}
 use Rattle.tree.proofs.NewLink.{links-most}
-use Rattle.graph.specs.Marks.{read, Marked}
+use Rattle.graph.specs.Marks.{read}
 use Rattle.graph.proofs.Joined.{bound-is, vertex-below, joins-edge, joins-below}
 use Rattle.record.specs.Standing.{treeOf}
+use Rattle.record.specs.Linking.{topOf, bottomOf}
 use Rattle.record.specs.Leaving.{Leaving, Exit}
 use Rattle.record.specs.Cursors.{NextLink, Ahead, Opening, Opened}
 use Rattle.record.specs.Recording.{Chosen, Behind, Nexting}
 use Rattle.record.proofs.Counting.{done-every}
 
 -- over an edge at a vertex, where every climb makes a Mader-path
-module _ {ends incident begins first order number last over places below tops bottoms used : List ℕ} {next empty at slot : ℕ}
-    (c : Nexting ends incident begins first order number last over places below tops bottoms used next empty at slot) where
+module _ {ends incident begins first order number last places below tips over : List ℕ} {next empty at slot : ℕ}
+    (c : Nexting ends incident begins first order number last places below tips over next empty at slot) where
   abbrev pub g : Graph
   g = graph (plan (c .n) ends)
 
@@ -45,24 +46,21 @@ module _ {ends incident begins first order number last over places below tops bo
   tree : Tree g t
   tree = c .ground .rooted .tree
 
-  pub tops-room : next ≤ length tops
-  tops-room = omega (arith, links-most (c .holds .links), bound-is (c .n) ends, c .holds .roomy .tops-long)
-
-  pub bottoms-room : next ≤ length bottoms
-  bottoms-room = omega (arith, links-most (c .holds .links), bound-is (c .n) ends, c .holds .roomy .bottoms-long)
+  pub tips-room : 2 * next ≤ length tips
+  tips-room = omega (arith, links-most (c .holds .links), bound-is (c .n) ends, c .holds .roomy .tips-long)
 
   pub next-large : empty ≤ next
   next-large = c .behind .most
 
-  new-edge : {e : ℕ} → read used e ≡ 0 → In e built → ⊥
-  new-edge {e} z i = omega (arith, z, c .holds .uses .on e i)
+  new-edge : {e : ℕ} → 1 ≤ read over e → In e built → ⊥
+  new-edge {e} h i = omega (arith, h, c .holds .uses .on e i)
 
-  used-edge : {e : ℕ} → Marked (read used) e → In e built
-  used-edge {e} m = elim (in-dec e built) [ yes i ↦ i | no n ↦ absurd (m (c .holds .uses .off e n)) ]
+  built-edge : {e : ℕ} → Edge g e → read over e ≡ 0 → In e built
+  built-edge {e} h z = elim (in-dec e built) [ yes i ↦ i | no n ↦ absurd (omega (arith, z, c .holds .uses .off e n, c .ground .some e h)) ]
 
   -- what is listed at a vertex of the order is behind the cursor, and built, or ahead
   behind-or : (i k : ℕ) → i < c .n → read begins (read order i) ≤ k → k < read begins (read order i + 1)
-      → Marked (read used) (read incident k) ⊎ Ahead (read order) (read begins) at slot (c .n) i k
+      → read over (read incident k) ≡ 0 ⊎ Ahead (read order) (read begins) at slot (c .n) i k
   behind-or i k h a b = elim (decLt i at) [
     | yes w ↦ inl (c .behind .passed i k w a b)
     | no w ↦ elim (decLt k slot) [
@@ -76,7 +74,7 @@ module _ {ends incident begins first order number last over places below tops bo
 
   -- The links.
 
-  module _ {m : ℕ} (l : NextLink (read tops) next empty m) where
+  module _ {m : ℕ} (l : NextLink (topOf tips) next empty m) where
     no-inside : (k : ℕ) → empty ≤ k → k < m → (y : ℕ) → read places y ≡ k → ⊥
     no-inside k a b = elim (c .holds .links .each k (omega (arith, a, c .behind .least)) (omega (arith, b, l .most))) [
       | gone z n ↦ n
@@ -84,9 +82,9 @@ module _ {ends incident begins first order number last over places below tops bo
     ]
 
     pub links-behind : {at' slot' : ℕ} → at' < c .n → read begins (read order at') ≤ slot' → slot' ≤ read begins (read order at' + 1)
-        → ((i k : ℕ) → i < at' → read begins (read order i) ≤ k → k < read begins (read order i + 1) → Marked (read used) (read incident k))
-        → ((k : ℕ) → read begins (read order at') ≤ k → k < slot' → Marked (read used) (read incident k))
-        → Behind (c .n) (read incident) (read begins) (read order) (read places) (read used) next m at' slot'
+        → ((i k : ℕ) → i < at' → read begins (read order i) ≤ k → k < read begins (read order i + 1) → read over (read incident k) ≡ 0)
+        → ((k : ℕ) → read begins (read order at') ≤ k → k < slot' → read over (read incident k) ≡ 0)
+        → Behind (c .n) (read incident) (read begins) (read order) (read places) (read over) next m at' slot'
     links-behind a b d p q = record {
       least = omega (arith, c .behind .least, l .least);
       most = l .most;
@@ -99,34 +97,35 @@ module _ {ends incident begins first order number last over places below tops bo
     }
 
     -- the other cursor where it was
-    pub links-same : Behind (c .n) (read incident) (read begins) (read order) (read places) (read used) next m at slot
+    pub links-same : Behind (c .n) (read incident) (read begins) (read order) (read places) (read over) next m at slot
     links-same = links-behind (c .behind .at-below) (c .behind .from) (c .behind .to) (c .behind .passed) (c .behind .before)
 
     -- one has an inside
     module _ (some : m < next) where
-      tips-of : (a : ℕ) × (b : ℕ) × (read tops m ≡ suc a) × (read bottoms m ≡ suc b) × Tips g t (read places) m a b
+      tips-of : (a : ℕ) × (b : ℕ) × (topOf tips m ≡ suc a) × (bottomOf tips m ≡ suc b) × Tips g t (read places) m a b
       tips-of = elim (c .holds .links .each m (omega (arith, c .behind .least, l .least)) some) [
         | gone z n ↦ absurd (omega (arith, z, l .some some))
         | tipped a b p q s ↦ (a, b, p, q, s)
       ]
 
-      pub has-top : 1 ≤ read tops m
+      pub has-top : 1 ≤ topOf tips m
       has-top = l .some some
 
-      pub has-bottom : 1 ≤ read bottoms m
+      pub has-bottom : 1 ≤ bottomOf tips m
       has-bottom = let r = tips-of in omega (arith, r .3)
 
-      pub tips-at : Tips g t (read places) m (read tops m - 1) (read bottoms m - 1)
+      pub tips-at : Tips g t (read places) m (topOf tips m - 1) (bottomOf tips m - 1)
       tips-at =
           let (a, b, p, q, s) = tips-of in
-          let u : a ≡ read tops m - 1 = omega (arith, p) in
-          let v : b ≡ read bottoms m - 1 = omega (arith, q) in
-          subst (λ (x : ℕ). Tips g t (read places) m x (read bottoms m - 1)) u (subst (λ (x : ℕ). Tips g t (read places) m a x) v s)
+          let u : a ≡ topOf tips m - 1 = omega (arith, p) in
+          let v : b ≡ bottomOf tips m - 1 = omega (arith, q) in
+          subst (λ (x : ℕ). Tips g t (read places) m x (bottomOf tips m - 1)) u (subst (λ (x : ℕ). Tips g t (read places) m a x) v s)
 
-      abbrev pub leaving : Leaving ends incident begins first number last over places below used (read tops m - 1) (read bottoms m - 1)
+      abbrev pub leaving : Leaving ends incident begins first number last places below over (topOf tips m - 1) (bottomOf tips m - 1)
       leaving = record {
         n = c .n;
         root = read order 0;
+        whole = c .whole;
         ground = c .ground;
         walks = c .walks;
         state = c .holds .state;
@@ -136,10 +135,10 @@ module _ {ends incident begins first order number last over places below tops bo
         tips = tips-at;
         places-long = c .holds .roomy .places-long;
         below-long = c .holds .roomy .below-long;
-        used-long = c .holds .used-long;
+        over-long = c .holds .over-long;
       }
 
-      pub exit-chosen : {f : ℕ} → Exit g t built (λ e. read over e - 1) (read places) (read below) m (read bottoms m - 1) f → Chosen g t built f
+      pub exit-chosen : {f : ℕ} → Exit g t built (λ e. c .whole e - 1) (read places) (read below) m (bottomOf tips m - 1) f → Chosen g t built f
       exit-chosen {f} x = subst (Chosen g t built) (sym (x .is-over)) (record {
         upper = x .upper;
         lower = x .lower;
@@ -150,7 +149,7 @@ module _ {ends incident begins first order number last over places below tops bo
             (omega (arith, c .behind .least, l .least)) (x .inside) (x .joins) (x .new) back k (x .out);
       })
         where
-          back : Back g t (read over (x .edge) - 1) (x .upper) (x .lower)
+          back : Back g t (c .whole (x .edge) - 1) (x .upper) (x .lower)
           back = subst (λ (d : ℕ). Back g t d (x .upper) (x .lower)) (x .is-over) (x .back)
 
           some-climb : (legs : List Leg) × (y : ℕ) × Climb g t (Built g built) (x .lower) legs y
@@ -168,7 +167,7 @@ module _ {ends incident begins first order number last over places below tops bo
       ]
 
       -- an edge is left, and it is ahead
-      pub some-left : ((i k : ℕ) → Ahead (read order) (read begins) at slot (c .n) i k → Marked (read used) (read incident k)) → ⊥
+      pub some-left : ((i k : ℕ) → Ahead (read order) (read begins) at slot (c .n) i k → read over (read incident k) ≡ 0) → ⊥
       some-left f = omega (arith, c .left, done-every (c .ground .rooted .admitted) (c .holds .state .along .steps) (c .holds .state .along .once) each)
         where
           each : (e : ℕ) → Edge g e → In e built
@@ -180,9 +179,9 @@ module _ {ends incident begins first order number last over places below tops bo
               let (q, r) = c .listing .placed v below in
               let s = subst (λ (x : ℕ). read begins x ≤ k) (sym r) a in
               let u = subst (λ (x : ℕ). k < read begins (x + 1)) (sym r) b in
-              subst (λ (x : ℕ). In x built) p (used-edge (elim (behind-or (read number v) k q s u) [ inl w ↦ w | inr w ↦ f (read number v) k w ]))
+              built-edge h (subst (λ (x : ℕ). read over x ≡ 0) p (elim (behind-or (read number v) k q s u) [ inl w ↦ w | inr w ↦ f (read number v) k w ]))
 
-      abbrev pub opening : Opening incident begins order used at slot
+      abbrev pub opening : Opening incident begins order over at slot
       opening = record {
         n = c .n;
         ends = ends;
@@ -190,21 +189,21 @@ module _ {ends incident begins first order number last over places below tops bo
         grouped = c .ground .grouped;
         valid = λ k h. c .listing .at k h .0;
         order-long = c .listing .order-long;
-        used-long = c .holds .used-long;
+        over-long = c .holds .over-long;
         at-below = c .behind .at-below;
         slot-from = c .behind .from;
         slot-to = c .behind .to;
         some = some-left;
       }
 
-      module _ {at' slot' : ℕ} (o : Opened (read incident) (read begins) (read order) (read used) at slot (c .n) at' slot') where
-        passed : (i k : ℕ) → i < at' → read begins (read order i) ≤ k → k < read begins (read order i + 1) → Marked (read used) (read incident k)
+      module _ {at' slot' : ℕ} (o : Opened (read incident) (read begins) (read order) (read over) at slot (c .n) at' slot') where
+        passed : (i k : ℕ) → i < at' → read begins (read order i) ≤ k → k < read begins (read order i + 1) → read over (read incident k) ≡ 0
         passed i k h a b = elim (behind-or i k (omega (arith, h, o .here .most)) a b) [ inl w ↦ w | inr w ↦ o .passed i k w h ]
 
-        before : (k : ℕ) → read begins (read order at') ≤ k → k < slot' → Marked (read used) (read incident k)
+        before : (k : ℕ) → read begins (read order at') ≤ k → k < slot' → read over (read incident k) ≡ 0
         before k a b = elim (behind-or at' k (o .here .most) a (omega (arith, b, o .here .to))) [ inl w ↦ w | inr w ↦ o .before k w b ]
 
-        pub opened-behind : Behind (c .n) (read incident) (read begins) (read order) (read places) (read used) next m at' slot'
+        pub opened-behind : Behind (c .n) (read incident) (read begins) (read order) (read places) (read over) next m at' slot'
         opened-behind = links-behind (o .here .most) (o .here .from) (omega (arith, o .here .to)) passed before
 
         at-vertex : read order at' < c .n
@@ -224,31 +223,29 @@ module _ {ends incident begins first order number last over places below tops bo
               let (k, a, b, p) = c .ground .grouped .listed (t .first v) (t .parent v) v (joins-sym (tree .joins v h)) in
               let less : read number (t .parent v) < at' = omega (arith, tree .falls v h, c .listing .at at' (o .here .most) .1) in
               let mark = passed (read number (t .parent v)) k less (subst (λ (x : ℕ). read begins x ≤ k) (sym r) a) (subst (λ (x : ℕ). k < read begins (x + 1)) (sym r) b) in
-              in-degree g v (subst (λ (x : ℕ). In x built) p (used-edge mark)) (hits-from (tree .joins v h))
+              in-degree g v (built-edge (tree .joins v h .edge) (subst (λ (x : ℕ). read over x ≡ 0) p mark)) (hits-from (tree .joins v h))
         ]
 
         pub slot-room : slot' < length incident
         slot-room = omega (arith, o .here .to, c .ground .grouped .inside (read order at') at-vertex, c .ground .grouped .long)
 
         pub over-room : read incident slot' < length over
-        over-room = omega (arith, joins-edge (c .n) ends (read incident slot') (read order at') (slot-joins .0) (slot-joins .1), c .ground .over-long)
+        over-room = omega (arith, joins-edge (c .n) ends (read incident slot') (read order at') (slot-joins .0) (slot-joins .1), c .holds .over-long)
 
         pub slot-small : read incident slot' < limits .edges
         slot-small = omega (arith, joins-edge (c .n) ends (read incident slot') (read order at') (slot-joins .0) (slot-joins .1), c .ground .rooted .admitted .edges)
-
-        pub over-some : 1 ≤ read over (read incident slot')
-        over-some = c .ground .some (read incident slot') (slot-joins .1 .edge)
 
         pub opened-chosen : Chosen g t built (read over (read incident slot') - 1)
         opened-chosen =
             let (u, j) = slot-joins in
             let n = new-edge (o .new) in
+            let as-first = c .holds .uses .off (read incident slot') n in
             let (s, w, b) = over-back tree (c .ground .overs) j in
             let (rest, y, k) = climb-built tree (c .holds .state .along .held) (joins-vertex (joins-sym (b .joins))) in
-            record {
+            subst (λ (d : ℕ). Chosen g t built (d - 1)) (sym as-first) (record {
               upper = s;
               lower = w;
               back = b;
               new = step-at tree (c .holds .state .along .held) (c .ground .overs) j n b k at-built .new;
               path = λ legs x i. branch-mader tree (c .holds .state .along .held) (c .ground .overs) j n b i all-branches at-built;
-            }
+            })

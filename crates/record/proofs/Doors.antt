@@ -74,7 +74,7 @@ passed-step {ends} {incident} {first} {number} {end} {r} {from} {k} p n = record
 
 -- The first child of the root, and the edges that lead past its first edge.
 
-module _ {n root : ℕ} {ends incident begins first order number last over : List ℕ} (s : Ground n root ends incident begins first number last over)
+module _ {n root : ℕ} {ends incident begins first order number last : List ℕ} {over : ℕ → ℕ} (s : Ground n root ends incident begins first number last over)
     (l : Listed n root order number) where
   abbrev g : Graph
   g = graph (plan n ends)

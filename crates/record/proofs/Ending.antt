@@ -12,15 +12,15 @@ use Rattle.tree.specs.Links.{Shelved}
 use Rattle.tree.proofs.Shelving.{marked-shelved, marked-on, marked-off, marked-branch, marked-belows}
 use Rattle.graph.specs.Marks.{read}
 use Rattle.record.specs.Standing.{treeOf}
-use Rattle.record.specs.Linking.{Filing, Splitting, Parted, Ending, BothParted}
+use Rattle.record.specs.Linking.{topOf, bottomOf, Filing, Splitting, Parted, Ending, BothParted}
 
 -- a vertex has become a branch
-pub filing-parted : {n root : ℕ} {ends first : List ℕ} {rank : ℕ → ℕ} {below places tops bottoms : List ℕ} (places' tops' bottoms' : List ℕ) {v next next' : ℕ}
-    → Filing n root ends first rank below places tops bottoms next → 1 ≤ read places v
-    → Parted (graph (plan n ends)) (treeOf n ends root first rank) v next (read places) (read places') (read tops') (read bottoms') next'
-    → length places' ≡ length places → length tops' ≡ length tops → length bottoms' ≡ length bottoms
-    → Filing n root ends first rank below places' tops' bottoms' next'
-filing-parted places' tops' bottoms' f h p a b d = record {
+pub filing-parted : {n root : ℕ} {ends first : List ℕ} {rank : ℕ → ℕ} {below places tips : List ℕ} (places' tips' : List ℕ) {v next next' : ℕ}
+    → Filing n root ends first rank below places tips next → 1 ≤ read places v
+    → Parted (graph (plan n ends)) (treeOf n ends root first rank) v next (read places) (read places') (topOf tips') (bottomOf tips') next'
+    → length places' ≡ length places → length tips' ≡ length tips
+    → Filing n root ends first rank below places' tips' next'
+filing-parted places' tips' f h p a b = record {
   rooted = f .rooted;
   shelved = marked-shelved (f .rooted .tree) (f .shelved) h (p .marked);
   belows = marked-belows (f .rooted .tree) (f .shelved) h (p .marked) (f .belows);
@@ -28,8 +28,7 @@ filing-parted places' tops' bottoms' f h p a b d = record {
   roomy = record {
     below-long = f .roomy .below-long;
     places-long = omega (arith, a, f .roomy .places-long);
-    tops-long = omega (arith, b, f .roomy .tops-long);
-    bottoms-long = omega (arith, d, f .roomy .bottoms-long);
+    tips-long = omega (arith, b, f .roomy .tips-long);
   };
 }
 
@@ -57,12 +56,12 @@ module _ {g : Graph} {t : Pointers} {v w next next' : ℕ} {place place' top' bo
   pub both-belows : {below : ℕ → ℕ} → Belows g t (λ y. 1 ≤ place y) place below → Belows g t (λ y. 1 ≤ place' y) place' below
   both-belows h = marked-belows tree middle-shelved (middle-on hw) (b .marked-two) (marked-belows tree f hv (b .marked-one) h)
 
-pub filing-both : {n root : ℕ} {ends first : List ℕ} {rank : ℕ → ℕ} {below places tops bottoms : List ℕ} (places' tops' bottoms' : List ℕ) {v w next next' : ℕ}
-    → Filing n root ends first rank below places tops bottoms next → 1 ≤ read places v → 1 ≤ read places w
-    → BothParted (graph (plan n ends)) (treeOf n ends root first rank) v w next (read places) (read places') (read tops') (read bottoms') next'
-    → length places' ≡ length places → length tops' ≡ length tops → length bottoms' ≡ length bottoms
-    → Filing n root ends first rank below places' tops' bottoms' next'
-filing-both places' tops' bottoms' f hv hw b p q r = record {
+pub filing-both : {n root : ℕ} {ends first : List ℕ} {rank : ℕ → ℕ} {below places tips : List ℕ} (places' tips' : List ℕ) {v w next next' : ℕ}
+    → Filing n root ends first rank below places tips next → 1 ≤ read places v → 1 ≤ read places w
+    → BothParted (graph (plan n ends)) (treeOf n ends root first rank) v w next (read places) (read places') (topOf tips') (bottomOf tips') next'
+    → length places' ≡ length places → length tips' ≡ length tips
+    → Filing n root ends first rank below places' tips' next'
+filing-both places' tips' f hv hw b p q = record {
   rooted = f .rooted;
   shelved = both-shelved (f .rooted .tree) (f .shelved) hv hw b;
   belows = both-belows (f .rooted .tree) (f .shelved) hv hw b (f .belows);
@@ -70,28 +69,27 @@ filing-both places' tops' bottoms' f hv hw b p q r = record {
   roomy = record {
     below-long = f .roomy .below-long;
     places-long = omega (arith, p, f .roomy .places-long);
-    tops-long = omega (arith, q, f .roomy .tops-long);
-    bottoms-long = omega (arith, r, f .roomy .bottoms-long);
+    tips-long = omega (arith, q, f .roomy .tips-long);
   };
 }
 
 -- from one to the other
-module _ {ends first below depth : List ℕ} {v w next : ℕ} {places tops bottoms : List ℕ} (c : Ending ends first below depth v w next places tops bottoms) where
+module _ {ends first below : List ℕ} {v w next : ℕ} {places tips : List ℕ} (c : Ending ends first below v w next places tips) where
   abbrev g : Graph
   g = graph (plan (c .splitting .n) ends)
 
   abbrev t : Pointers
   t = treeOf (c .splitting .n) ends (c .splitting .root) first (c .splitting .rank)
 
-  module _ (places₁ tops₁ bottoms₁ : List ℕ) {next₁ : ℕ} (one : Parted g t v next (read places) (read places₁) (read tops₁) (read bottoms₁) next₁)
-      (same : (length places₁ ≡ length places) × (length tops₁ ≡ length tops) × (length bottoms₁ ≡ length bottoms)) where
-    pub filing-one : Filing (c .splitting .n) (c .splitting .root) ends first (c .splitting .rank) below places₁ tops₁ bottoms₁ next₁
-    filing-one = filing-parted places₁ tops₁ bottoms₁ (c .splitting .filing) (c .splitting .built) one (same .0) (same .1) (same .2)
+  module _ (places₁ tips₁ : List ℕ) {next₁ : ℕ} (one : Parted g t v next (read places) (read places₁) (topOf tips₁) (bottomOf tips₁) next₁)
+      (same : (length places₁ ≡ length places) × (length tips₁ ≡ length tips)) where
+    pub filing-one : Filing (c .splitting .n) (c .splitting .root) ends first (c .splitting .rank) below places₁ tips₁ next₁
+    filing-one = filing-parted places₁ tips₁ (c .splitting .filing) (c .splitting .built) one (same .0) (same .1)
 
     pub still-built : 1 ≤ read places₁ w
     still-built = marked-on (c .splitting .filing .rooted .tree) (c .splitting .filing .shelved) (c .splitting .built) (one .marked) (c .built)
 
-    abbrev pub splitting-two : Splitting ends first below depth w next₁ places₁ tops₁ bottoms₁
+    abbrev pub splitting-two : Splitting ends first below w next₁ places₁ tips₁
     splitting-two = record {
       n = c .splitting .n;
       root = c .splitting .root;
@@ -99,7 +97,6 @@ module _ {ends first below depth : List ℕ} {v w next : ℕ} {places tops botto
       filing = filing-one;
       vertex = c .vertex;
       built = still-built;
-      depth-long = c .splitting .depth-long;
     }
 
     pub both-parted : {place' top' bottom' : ℕ → ℕ} {next' : ℕ} → Parted g t w next₁ (read places₁) place' top' bottom' next' → next ≤ next₁ → next₁ ≤ next'

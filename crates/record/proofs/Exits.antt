@@ -64,11 +64,11 @@ module _ (ends number places : List ℕ) (f own from to s : ℕ) (p : s ≡ uppe
 -- The edges at a vertex: those before place k fail.
 
 abbrev pub Failing : (ℕ → ℕ) → (ℕ → ℕ) → (ℕ → ℕ) → ℕ → (ℕ → Type 0) → ℕ → Type 0
-Failing incident begins used v P k = (j : ℕ) → Free incident begins used v j → j < k → P (incident j) → ⊥
+Failing incident begins over v P k = (j : ℕ) → Free incident begins over v j → j < k → P (incident j) → ⊥
 
-pub failing-more : (incident begins used : ℕ → ℕ) (v k : ℕ) (P : ℕ → Type 0) → Failing incident begins used v P k → (used (incident k) ≡ 0 → P (incident k) → ⊥)
-    → Failing incident begins used v P (k + 1)
-failing-more incident begins used v k P f n j h l p = elim (ℕ-discrete j k) [
-  | yes q ↦ n (subst (λ (i : ℕ). used (incident i) ≡ 0) q (h .new)) (subst (λ (i : ℕ). P (incident i)) q p)
+pub failing-more : (incident begins over : ℕ → ℕ) (v k : ℕ) (P : ℕ → Type 0) → Failing incident begins over v P k → (1 ≤ over (incident k) → P (incident k) → ⊥)
+    → Failing incident begins over v P (k + 1)
+failing-more incident begins over v k P f n j h l p = elim (ℕ-discrete j k) [
+  | yes q ↦ n (subst (λ (i : ℕ). 1 ≤ over (incident i)) q (h .new)) (subst (λ (i : ℕ). P (incident i)) q p)
   | no m ↦ f j h (omega (arith, l, m)) p
 ]

@@ -24,8 +24,7 @@ use Rattle.depth.proofs.Above.{between, edge-above, no-root}
 use Rattle.tree.specs.Tree as t
 use Rattle.tree.specs.Tree.{Pointers, Child, Tree}
 use Rattle.record.specs.Standing.{Rooted, Grouped, Listed, Together, treeOf}
-use Rattle.record.specs.Numbers.{Ordering, Numbered, Deepening, Lowering}
-use Rattle.record.proofs.Climbing.{child-rises}
+use Rattle.record.specs.Numbers.{Ordering, Numbered, Lowering}
 
 module _ {n : ℕ} {ends incident begins dead first₀ order₀ cursor₀ first order cursor : List ℕ} {count : ℕ} (tabled : Tabled limits (plan n ends) incident begins)
     (three : ThreeEdgeConnected (graph (plan n ends))) (live : (e : ℕ) → Live dead e) (clear : (v : ℕ) → v < n → read first₀ v ≡ 0)
@@ -167,18 +166,6 @@ module _ {n : ℕ} {ends incident begins dead first₀ order₀ cursor₀ first 
         (between (Crossing (plan n ends) incident begins dead) (λ e i j z c k. sym (far-is (joins-sym (c .joins))) ∙ far-is (joins-sym (k .joins))) n 0 0 (read first₀) (read first) (read order) count (f .tree)
         (p .0) (q .0) (omega arith) (omega (arith, p .3, q .3)) (r .0) (omega (arith, q .3, r .3)) (omega (arith, r .1, count-is))
         (subst (d.Above up (read order (p .0))) (sym (r .2)) (subst (λ (z : ℕ). d.Above up z w) (sym (p .2)) (from-above b))))))
-
-    pub deepening : {depth : ℕ} → n ≤ length first → n ≤ length order → n ≤ depth → Deepening n ends first order depth
-    deepening x y z = record {
-      admitted = a;
-      valid = valid;
-      rises = λ k l h. child-rises (rooted x) (record {
-        vertex = admitted-vertex a (read order k) (valid k h);
-        other = λ q. f .tree .once 0 k (omega arith) l (omega (arith, count-is)) (sym q);
-      });
-      order-long = y;
-      depth-long = z;
-    }
 
     -- and all that `lower_all` asks
     pub lowering : {ends-set over : List ℕ} → Grouped n ends incident ends-set → n ≤ length first → n ≤ length order → n ≤ length number → n ≤ length last → length ends / 2 ≤ length over

@@ -4,6 +4,7 @@ pub mod Written
 pub mod Paths
 pub mod Rising
 pub mod Meeting
+pub mod TwoTips
 pub mod NewWalk
 pub mod Counting
 pub mod Ending

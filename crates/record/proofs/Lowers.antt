@@ -59,7 +59,7 @@ module _ {n : ℕ} {ends incident begins first order number last₀ over₀ : Li
   }
 
   pub lowered-end : {last over : List ℕ} {k : ℕ} → LoweredFrom n ends root first number last₀ over₀ k last over → k ≤ 1
-      → Ground n root ends incident begins first number last over
+      → Ground n root ends incident begins first number last (read over)
   lowered-end {last} {over} {k} w h = record {
     rooted = c .rooted;
     three = c .three;
@@ -69,7 +69,6 @@ module _ {n : ℕ} {ends incident begins first order number last₀ over₀ : Li
     some = done .1;
     number-long = c .listing .number-long;
     last-long = omega (arith, w .last-long, c .last-long);
-    over-long = omega (arith, w .over-long, c .over-long);
   }
     where
       one : k ≡ 1

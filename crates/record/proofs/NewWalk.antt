@@ -2,7 +2,7 @@
 use mathlib.Core.Path.{_≡_, refl, sym, ap, _∙_, subst}
 use mathlib.Core.Logic.{inl, inr}
 use mathlib.Core.List.{List, [], _∷_, List·Memᴰ as In, List·Memᴰ·not-nil as not-in}
-use Prim.Native.Nat.{ℕ, _+_, _≤_, _<_}
+use Prim.Native.Nat.{ℕ, _+_, _*_, _≤_, _<_}
 use native.Mathlib.Omega.{arith}
 use lib.ListN.{length, set, length-set}
 use lib.Seq.{getD-set-same, getD-set-other}
@@ -19,14 +19,15 @@ use Rattle.graph.specs.Marks.{read}
 use Rattle.graph.proofs.Joined.{bound-is, vertex-below}
 use Rattle.record.specs.Ways.{nextUp, Marking, MarkedUp, Raising, Raised, RaisedUp}
 use Rattle.record.specs.Standing.{treeOf}
-use Rattle.record.specs.Linking.{Building, Walked}
+use Rattle.record.specs.Linking.{topOf, bottomOf, withTips, Building, Walked}
 use Rattle.record.proofs.Climbing.{parent-is, climb-way}
+use Rattle.record.proofs.TwoTips.{top-same, bottom-same, top-other, bottom-other}
 
 in-some : {x : ℕ} (legs : List Leg) → In x (froms legs) → 1 ≤ length legs
 in-some [] i = absurd (not-in i)
 in-some (l ∷ legs) i = omega arith
 
-module _ {ends first places below tops bottoms used : List ℕ} {e v stop next : ℕ} (c : Building ends first e v stop next places below tops bottoms used) where
+module _ {ends first places below tips over : List ℕ} {e v stop next : ℕ} (c : Building ends first e v stop next places below tips over) where
   abbrev pub g : Graph
   g = graph (plan (c .n) ends)
 
@@ -43,17 +44,17 @@ module _ {ends first places below tops bottoms used : List ℕ} {e v stop next :
     away = away;
   }
 
-  pub edge-room : e < length used
-  edge-room = omega (arith, c .edge, c .used-long)
+  pub edge-room : e < length over
+  edge-room = omega (arith, c .edge, c .over-long)
 
-  pub walked-none : v ≡ stop → Walked g t e (c .legs) next (read places) (read below) (read used) (read places) (read below) (read tops) (read bottoms) (read (set used e 1)) next
+  pub walked-none : v ≡ stop → Walked g t e (c .legs) next (read places) (read below) (read over) (read places) (read below) (topOf tips) (bottomOf tips) (read (set over e 0)) next
   walked-none p = record {
     grown = grown-by (λ y i. absurd (off i)) (λ y n. refl);
     noted = record { new = λ y i. absurd (off i); away = λ z n. refl };
     links = c .filing .links;
-    used-edge = getD-set-same used e 1 0 edge-room;
-    used-on = λ d i. absurd (away i);
-    used-off = λ d n i. getD-set-other used e d 1 0 n;
+    over-edge = getD-set-same over e 0 0 edge-room;
+    over-on = λ d i. absurd (away i);
+    over-off = λ d n i. getD-set-other over e d 0 0 n;
   }
     where
       none : c .legs ≡ []
@@ -65,15 +66,15 @@ module _ {ends first places below tops bottoms used : List ℕ} {e v stop next :
       away : {d : ℕ} → In d (edgesOf (c .legs)) → ⊥
       away {d} i = not-in (subst (λ (l : List Leg). In d (edgesOf l)) none i)
 
-  abbrev pub raising : Raising ends first v stop (length below) (length (set used e 1))
+  abbrev pub raising : Raising ends first v stop (length below) (length (set over e 0))
   raising = record {
     way = climb-way (c .filing .rooted) (c .climb) (c .from);
     room = c .filing .roomy .below-long;
-    edges = omega (arith, c .used-long, length-set used e 1);
+    edges = omega (arith, c .over-long, length-set over e 0);
   }
 
-  module _ (d : v ≡ stop → ⊥) (below' used' : List ℕ) (top : ℕ) (up : RaisedUp ends first v stop below (set used e 1) below' used' top) where
-    raised : Raised ends first (c .legs) stop (read below) (read (set used e 1)) (read below') (read used') top
+  module _ (d : v ≡ stop → ⊥) (below' over' : List ℕ) (top : ℕ) (up : RaisedUp ends first v stop below (set over e 0) below' over' top) where
+    raised : Raised ends first (c .legs) stop (read below) (read (set over e 0)) (read below') (read over') top
     raised = up .2 raising
 
     pub bottom-on : In v (froms (c .legs))
@@ -122,20 +123,23 @@ module _ {ends first places below tops bottoms used : List ℕ} {e v stop next :
         bound-is (c .n) ends,
       )
 
-      pub walked : Walked g t e (c .legs) next (read places) (read below) (read used) (read places') (read below') (read (set tops next (top + 1)))
-          (read (set bottoms next (v + 1))) (read used') (next + 1)
+      tips-room : 2 * next + 2 ≤ length tips
+      tips-room = omega (arith, next-room, c .filing .roomy .tips-long)
+
+      pub walked : Walked g t e (c .legs) next (read places) (read below) (read over) (read places') (read below') (topOf (withTips tips next (top + 1) (v + 1)))
+          (bottomOf (withTips tips next (top + 1) (v + 1))) (read over') (next + 1)
       walked = record {
         grown = walked-grown;
         noted = walked-noted;
         links = links-grown (c .filing .rooted .tree) (c .filing .shelved) (c .climb) (c .branch) walked-grown (c .filing .links) bottom-on top-on top-up
-            (getD-set-same tops next (top + 1) 0 (omega (arith, next-room, c .filing .roomy .tops-long)) ∙ omega arith)
-            (getD-set-same bottoms next (v + 1) 0 (omega (arith, next-room, c .filing .roomy .bottoms-long)) ∙ omega arith)
-            (λ m n. getD-set-other tops next m (top + 1) 0 n)
-            (λ m n. getD-set-other bottoms next m (v + 1) 0 n);
-        used-edge = elim (in-dec e (edgesOf (c .legs))) [
-          | yes i ↦ raised .used-on e i
-          | no n ↦ raised .used-off e n ∙ getD-set-same used e 1 0 edge-room
+            (top-same tips next (top + 1) (v + 1) tips-room ∙ omega arith)
+            (bottom-same tips next (top + 1) (v + 1) tips-room ∙ omega arith)
+            (top-other tips next (top + 1) (v + 1))
+            (bottom-other tips next (top + 1) (v + 1));
+        over-edge = elim (in-dec e (edgesOf (c .legs))) [
+          | yes i ↦ raised .over-on e i
+          | no n ↦ raised .over-off e n ∙ getD-set-same over e 0 0 edge-room
         ];
-        used-on = raised .used-on;
-        used-off = λ f n i. raised .used-off f i ∙ getD-set-other used e f 1 0 n;
+        over-on = raised .over-on;
+        over-off = λ f n i. raised .over-off f i ∙ getD-set-other over e f 0 0 n;
       }

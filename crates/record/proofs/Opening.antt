@@ -24,26 +24,26 @@ use Rattle.tree.proofs.Opening.{Ends, filed-ends, climb-one, climb-two, climb-t
 use Rattle.tree.proofs.Shelving.{filed-built, filed-branch, filed-own}
 use Rattle.graph.specs.Marks.{read}
 use Rattle.record.specs.Standing.{treeOf}
-use Rattle.record.specs.Linking.{Roomy, Building, Walked, WalkedBy}
+use Rattle.record.specs.Linking.{topOf, bottomOf, Roomy, Building, Walked, WalkedBy}
 use Rattle.record.specs.Leaving.{Uses}
 use Rattle.record.specs.Recording.{Holds}
 use Rattle.record.specs.Opening.{Climbs, threeWalks, Raw, WayAt}
 use Rattle.record.proofs.Climbing.{climb-to-below}
 use Rattle.record.proofs.ThreeRows.{x-child, x-below, root-below, parent-below, w-below, u-below, f-below, d-below, e-below}
 
--- The marks of the edges.
+-- The edges that are built.
 
-uses-next : {g : Graph} {t : Pointers} {e next next' : ℕ} {legs : List Leg} {built : List ℕ} {place below used place' below' top' bottom' used' : ℕ → ℕ}
-    → Uses built used → Walked g t e legs next place below used place' below' top' bottom' used' next' → Uses (e ∷ (edgesOf legs ++ built)) used'
-uses-next {e = e} {legs = legs} {built = built} {used = used} {used' = used'} h w = record {
+uses-next : {g : Graph} {t : Pointers} {e next next' : ℕ} {legs : List Leg} {built : List ℕ} {whole place below over place' below' top' bottom' over' : ℕ → ℕ}
+    → Uses built whole over → Walked g t e legs next place below over place' below' top' bottom' over' next' → Uses (e ∷ (edgesOf legs ++ built)) whole over'
+uses-next {e = e} {legs = legs} {built = built} {over = over} {over' = over'} h w = record {
   on = λ d i. elim (ℕ-discrete d e) [
-    | yes p ↦ rw p (w .used-edge)
+    | yes p ↦ rw p (w .over-edge)
     | no n ↦ elim (in-dec d (edgesOf legs)) [
-      | yes j ↦ w .used-on d j
-      | no m ↦ w .used-off d n m ∙ h .on d (old d n m i)
+      | yes j ↦ w .over-on d j
+      | no m ↦ w .over-off d n m ∙ h .on d (old d n m i)
     ]
   ];
-  off = λ d n. w .used-off d (λ p. n (first-in p)) (λ i. n (later (in-left built i))) ∙ h .off d (λ i. n (later (in-right (edgesOf legs) i)));
+  off = λ d n. w .over-off d (λ p. n (first-in p)) (λ i. n (later (in-left built i))) ∙ h .off d (λ i. n (later (in-right (edgesOf legs) i)));
 }
   where
     old : (d : ℕ) → (d ≡ e → ⊥) → (In d (edgesOf legs) → ⊥) → In d (e ∷ (edgesOf legs ++ built)) → In d built
@@ -56,14 +56,14 @@ up-grown : {g : Graph} {t : Pointers} {B : ℕ → Type 0} {v y : ℕ} {legs : L
 up-grown tree f k z c (inl h) = inl (f z c h)
 up-grown {B = B} tree f k z c (inr i) = elim (climb-next tree k i) [ inl j ↦ inr j | inr p ↦ inl (subst B (sym p) (climb-end k)) ]
 
--- After some of the walks: what is built, its places, the children noted below, the links, and the marks of the edges.
-pub record Stands (n root : ℕ) (ends first : List ℕ) (rank : ℕ → ℕ) (x : ℕ) (B : ℕ → Type 0) (built places below tops bottoms used : List ℕ) (next : ℕ) : Type 0 where
+-- After some of the walks: what is built, its places, the children noted below, the links, and the edges.
+pub record Stands (n root : ℕ) (ends first : List ℕ) (rank whole : ℕ → ℕ) (x : ℕ) (B : ℕ → Type 0) (built places below tips over : List ℕ) (next : ℕ) : Type 0 where
   pub filed : Filed (graph (plan n ends)) (treeOf n ends root first rank) B (λ v. Ends (treeOf n ends root first rank) x v) (read places)
   pub belows : Belows (graph (plan n ends)) (treeOf n ends root first rank) B (read places) (read below)
-  pub links : Links (graph (plan n ends)) (treeOf n ends root first rank) (read places) (read tops) (read bottoms) next
-  pub uses : Uses built (read used)
-  pub roomy : Roomy n below places tops bottoms
-  pub used-long : length ends / 2 ≤ length used
+  pub links : Links (graph (plan n ends)) (treeOf n ends root first rank) (read places) (topOf tips) (bottomOf tips) next
+  pub uses : Uses built whole (read over)
+  pub roomy : Roomy n below places tips
+  pub over-long : length ends / 2 ≤ length over
 
 module _ {n root : ℕ} {ends first : List ℕ} {rank : ℕ → ℕ} {x f w d u : ℕ} (c : Climbs n root ends first rank x f w d u) where
   abbrev g : Graph
@@ -72,10 +72,10 @@ module _ {n root : ℕ} {ends first : List ℕ} {rank : ℕ → ℕ} {x f w d u 
   abbrev t : Pointers
   t = treeOf n ends root first rank
 
-  module _ {B : ℕ → Type 0} {built places below tops bottoms used : List ℕ} {next v y e : ℕ} {legs : List Leg}
-      (s : Stands n root ends first rank x B built places below tops bottoms used next) (kb : (z : ℕ) → Ends t x z → B z)
+  module _ {B : ℕ → Type 0} {whole : ℕ → ℕ} {built places below tips over : List ℕ} {next v y e : ℕ} {legs : List Leg}
+      (s : Stands n root ends first rank whole x B built places below tips over next) (kb : (z : ℕ) → Ends t x z → B z)
       (k : Climb g t B v legs y) (ky : Ends t x y) (hv : v < n) (he : e < length ends / 2) where
-    abbrev pub building : Building ends first e v y next places below tops bottoms used
+    abbrev pub building : Building ends first e v y next places below tips over
     building = record {
       n = n;
       root = root;
@@ -93,15 +93,15 @@ module _ {n root : ℕ} {ends first : List ℕ} {rank : ℕ → ℕ} {x f w d u 
       from = hv;
       to = climb-to-below (c .rooted) k hv;
       edge = he;
-      used-long = s .used-long;
+      over-long = s .over-long;
     }
 
     -- one walk more
-    stands-grown : (places' below' tops' bottoms' used' : List ℕ) (next' : ℕ)
-        → WalkedBy ends first e v y next places below tops bottoms used places' below' tops' bottoms' used' next'
+    stands-grown : (places' below' tips' over' : List ℕ) (next' : ℕ)
+        → WalkedBy ends first e v y next places below tips over places' below' tips' over' next'
         → (Grown (read places) (read places') legs next → Noted t (read below) (read below') legs → Belows g t (λ z. B z ⊎ In z (froms legs)) (read places') (read below'))
-        → Stands n root ends first rank x (λ z. B z ⊎ In z (froms legs)) (e ∷ (edgesOf legs ++ built)) places' below' tops' bottoms' used' next'
-    stands-grown places' below' tops' bottoms' used' next' b h = let m = b .5 building .0 in record {
+        → Stands n root ends first rank whole x (λ z. B z ⊎ In z (froms legs)) (e ∷ (edgesOf legs ++ built)) places' below' tips' over' next'
+    stands-grown places' below' tips' over' next' b h = let m = b .4 building .0 in record {
       filed = filed-grown (c .rooted .tree) (s .filed) kb k ky (m .grown);
       belows = h (m .grown) (m .noted);
       links = m .links;
@@ -109,21 +109,20 @@ module _ {n root : ℕ} {ends first : List ℕ} {rank : ℕ → ℕ} {x f w d u 
       roomy = record {
         below-long = omega (arith, b .1, s .roomy .below-long);
         places-long = omega (arith, b .0, s .roomy .places-long);
-        tops-long = omega (arith, b .2, s .roomy .tops-long);
-        bottoms-long = omega (arith, b .3, s .roomy .bottoms-long);
+        tips-long = omega (arith, b .2, s .roomy .tips-long);
       };
-      used-long = omega (arith, b .4, s .used-long);
+      over-long = omega (arith, b .3, s .over-long);
     }
 
-    stands-next : UpClosed g t B → (places' below' tops' bottoms' used' : List ℕ) (next' : ℕ)
-        → WalkedBy ends first e v y next places below tops bottoms used places' below' tops' bottoms' used' next'
-        → Stands n root ends first rank x (λ z. B z ⊎ In z (froms legs)) (e ∷ (edgesOf legs ++ built)) places' below' tops' bottoms' used' next'
-    stands-next up places' below' tops' bottoms' used' next' b = stands-grown places' below' tops' bottoms' used' next' b
+    stands-next : UpClosed g t B → (places' below' tips' over' : List ℕ) (next' : ℕ)
+        → WalkedBy ends first e v y next places below tips over places' below' tips' over' next'
+        → Stands n root ends first rank whole x (λ z. B z ⊎ In z (froms legs)) (e ∷ (edgesOf legs ++ built)) places' below' tips' over' next'
+    stands-next up places' below' tips' over' next' b = stands-grown places' below' tips' over' next' b
         (λ grown noted. belows-grown (c .rooted .tree) (s .filed) kb k ky grown up (s .belows) noted)
 
 -- All three.
 
-module _ {ends first : List ℕ} {root x e p f w d u : ℕ} (places below tops bottoms used : List ℕ) (c : Raw ends first root x e p f w d u places below tops bottoms used) where
+module _ {ends first : List ℕ} {root x e p f w d u : ℕ} (places below tips over : List ℕ) (c : Raw ends first root x e p f w d u places below tips over) where
   abbrev b : Climbs (c .n) root ends first (c .rank) x f w d u
   b = c .climbs
 
@@ -184,7 +183,7 @@ module _ {ends first : List ℕ} {root x e p f w d u : ℕ} (places below tops b
     | no n ↦ absurd (omega (arith, h, getD-set-other below p v (x + 1) 0 n, c .below-blank v))
   ]
 
-  stands-0 : Stands (c .n) root ends first (c .rank) x (λ v. Ends tr x v) [] places-0 below-0 tops bottoms used 2
+  stands-0 : Stands (c .n) root ends first (c .rank) (read over) x (λ v. Ends tr x v) [] places-0 below-0 tips over 2
   stands-0 = record {
     filed = filed-0;
     belows = record { child = below-child; only = λ y h k l. absurd (small _ l) };
@@ -197,14 +196,13 @@ module _ {ends first : List ℕ} {root x e p f w d u : ℕ} (places below tops b
       vertex = λ o i. absurd (not-in i);
       namer = λ o i. absurd (not-in i);
     };
-    uses = record { on = λ d i. absurd (not-in i); off = λ d n. c .used-blank d };
+    uses = record { on = λ d i. absurd (not-in i); off = λ d n. refl };
     roomy = record {
       below-long = omega (arith, length-set below p (x + 1), c .roomy .below-long);
       places-long = omega (arith, length-set (set places root 1) x 1, length-set places root 1, c .roomy .places-long);
-      tops-long = c .roomy .tops-long;
-      bottoms-long = c .roomy .bottoms-long;
+      tips-long = c .roomy .tips-long;
     };
-    used-long = c .used-long;
+    over-long = c .over-long;
   }
 
   -- From x up to the root.
@@ -244,26 +242,26 @@ module _ {ends first : List ℕ} {root x e p f w d u : ℕ} (places below tops b
   climb-3 = climb-three (b .rooted .tree) (b .child) (b .one) (b .other) (b .differ) (b .meets) (b .to-x) (b .up)
 
   -- After k of the walks.
-  pub data Stage (k : ℕ) (places' below' tops' bottoms' used' : List ℕ) (next : ℕ) : Type 0 where
-    none : k ≡ 0 → Stands (c .n) root ends first (c .rank) x (λ v. Ends tr x v) [] places' below' tops' bottoms' used' next
+  pub data Stage (k : ℕ) (places' below' tips' over' : List ℕ) (next : ℕ) : Type 0 where
+    none : k ≡ 0 → Stands (c .n) root ends first (c .rank) (read over) x (λ v. Ends tr x v) [] places' below' tips' over' next
         → ((place noted : ℕ → ℕ) → Noted tr (read below') noted (b .high) → Belows gr tr (λ v. Ends tr x v ⊎ In v (froms (b .high))) place noted)
-        → Stage k places' below' tops' bottoms' used' next
+        → Stage k places' below' tips' over' next
     one : k ≡ 1
-        → Stands (c .n) root ends first (c .rank) x (λ v. Ends tr x v ⊎ In v (froms (b .high))) (e ∷ (edgesOf (b .high) ++ [])) places' below' tops' bottoms' used' next
-        → Stage k places' below' tops' bottoms' used' next
+        → Stands (c .n) root ends first (c .rank) (read over) x (λ v. Ends tr x v ⊎ In v (froms (b .high))) (e ∷ (edgesOf (b .high) ++ [])) places' below' tips' over' next
+        → Stage k places' below' tips' over' next
     two : k ≡ 2
-        → Stands (c .n) root ends first (c .rank) x (λ v. (Ends tr x v ⊎ In v (froms (b .high))) ⊎ In v (froms (b .low)))
-        (f ∷ (edgesOf (b .low) ++ (e ∷ (edgesOf (b .high) ++ [])))) places' below' tops' bottoms' used' next
-        → Stage k places' below' tops' bottoms' used' next
-    all : k ≡ 3 → Holds (c .n) root ends first (c .rank) (threeWalks root x f e d (b .low) (b .high) (b .side)) places' below' tops' bottoms' used' next
-        → Stage k places' below' tops' bottoms' used' next
+        → Stands (c .n) root ends first (c .rank) (read over) x (λ v. (Ends tr x v ⊎ In v (froms (b .high))) ⊎ In v (froms (b .low)))
+        (f ∷ (edgesOf (b .low) ++ (e ∷ (edgesOf (b .high) ++ [])))) places' below' tips' over' next
+        → Stage k places' below' tips' over' next
+    all : k ≡ 3 → Holds (c .n) root ends first (c .rank) (read over) (threeWalks root x f e d (b .low) (b .high) (b .side)) places' below' tips' over' next
+        → Stage k places' below' tips' over' next
 
-  pub stage-start : {places-1 below-1 : List ℕ} → places-1 ≡ places-0 → below-1 ≡ below-0 → Stage 0 places-1 below-1 tops bottoms used 2
+  pub stage-start : {places-1 below-1 : List ℕ} → places-1 ≡ places-0 → below-1 ≡ below-0 → Stage 0 places-1 below-1 tips over 2
   stage-start q r = rw (q, r) (none refl stands-0 (λ place noted. belows-1))
 
-  module _ {k next edge v stop : ℕ} {places-1 below-1 tops-1 bottoms-1 used-1 : List ℕ} (s : Stage k places-1 below-1 tops-1 bottoms-1 used-1 next) (h : k < 3)
+  module _ {k next edge v stop : ℕ} {places-1 below-1 tips-1 over-1 : List ℕ} (s : Stage k places-1 below-1 tips-1 over-1 next) (h : k < 3)
       (a : WayAt k root x e p f w d u edge v stop) where
-    pub stage-building : Building ends first edge v stop next places-1 below-1 tops-1 bottoms-1 used-1
+    pub stage-building : Building ends first edge v stop next places-1 below-1 tips-1 over-1
     stage-building = elim s [
       | none q m _ ↦ let (i, j, l) = a .one q in rw (i, j, l) (building b m (λ z h. h) climb-1 (inl refl) p-below edge-1)
       | one q m ↦ let (i, j, l) = a .two q in rw (i, j, l) (building b m (λ z h. inl h) climb-2 (inr refl) (w-below b) (f-below b))
@@ -271,35 +269,35 @@ module _ {ends first : List ℕ} {root x e p f w d u : ℕ} (places below tops b
       | all q _ ↦ absurd (omega (arith, q, h))
     ]
 
-    pub stage-next : (places-2 below-2 tops-2 bottoms-2 used-2 : List ℕ) (next-2 : ℕ)
-        → WalkedBy ends first edge v stop next places-1 below-1 tops-1 bottoms-1 used-1 places-2 below-2 tops-2 bottoms-2 used-2 next-2
-        → Stage (k + 1) places-2 below-2 tops-2 bottoms-2 used-2 next-2
-    stage-next places-2 below-2 tops-2 bottoms-2 used-2 next-2 o = elim s [
+    pub stage-next : (places-2 below-2 tips-2 over-2 : List ℕ) (next-2 : ℕ)
+        → WalkedBy ends first edge v stop next places-1 below-1 tips-1 over-1 places-2 below-2 tips-2 over-2 next-2
+        → Stage (k + 1) places-2 below-2 tips-2 over-2 next-2
+    stage-next places-2 below-2 tips-2 over-2 next-2 o = elim s [
       | none q m g ↦
           let (i, j, l) = a .one q in
           one (omega (arith, q))
-          (stands-grown b m (λ z h. h) climb-1 (inl refl) p-below edge-1 places-2 below-2 tops-2 bottoms-2 used-2 next-2 (rw (i, j, l) at o) (λ grown noted. g _ _ noted))
+          (stands-grown b m (λ z h. h) climb-1 (inl refl) p-below edge-1 places-2 below-2 tips-2 over-2 next-2 (rw (i, j, l) at o) (λ grown noted. g _ _ noted))
       | one q m ↦
           let (i, j, l) = a .two q in
           two (omega (arith, q))
-          (stands-next b m (λ z h. inl h) climb-2 (inr refl) (w-below b) (f-below b) up-1 places-2 below-2 tops-2 bottoms-2 used-2 next-2 (rw (i, j, l) at o))
+          (stands-next b m (λ z h. inl h) climb-2 (inr refl) (w-below b) (f-below b) up-1 places-2 below-2 tips-2 over-2 next-2 (rw (i, j, l) at o))
       | two q m ↦
           let (i, j, l) = a .three q in
           let r = stands-next b m (λ z h. inl (inl h)) climb-3 (inr refl) (u-below b) (d-below b) (up-grown (b .rooted .tree) up-1 climb-2)
-          places-2 below-2 tops-2 bottoms-2 used-2 next-2 (rw (i, j, l) at o) in
+          places-2 below-2 tips-2 over-2 next-2 (rw (i, j, l) at o) in
           all (omega (arith, q)) record {
             state = subst (λ (y : ℕ). State gr tr (threeWalks root x f y d (b .low) (b .high) (b .side)) (read places-2) (read below-2)) (sym (c .edge))
                 (state-begin (b .rooted .tree) (b .child) (b .one) (b .other) (b .differ) (b .meets) (b .to-x) (b .up) (r .filed) (r .belows));
             links = r .links;
             uses = r .uses;
             roomy = r .roomy;
-            used-long = r .used-long;
+            over-long = r .over-long;
           }
       | all q _ ↦ absurd (omega (arith, q, h))
     ]
 
-  pub stage-end : {k next : ℕ} {places-1 below-1 tops-1 bottoms-1 used-1 : List ℕ} → Stage k places-1 below-1 tops-1 bottoms-1 used-1 next → 3 ≤ k
-      → Holds (c .n) root ends first (c .rank) (threeWalks root x f e d (b .low) (b .high) (b .side)) places-1 below-1 tops-1 bottoms-1 used-1 next
+  pub stage-end : {k next : ℕ} {places-1 below-1 tips-1 over-1 : List ℕ} → Stage k places-1 below-1 tips-1 over-1 next → 3 ≤ k
+      → Holds (c .n) root ends first (c .rank) (read over) (threeWalks root x f e d (b .low) (b .high) (b .side)) places-1 below-1 tips-1 over-1 next
   stage-end (none q _ _) h = absurd (omega (arith, q, h))
   stage-end (one q _) h = absurd (omega (arith, q, h))
   stage-end (two q _) h = absurd (omega (arith, q, h))

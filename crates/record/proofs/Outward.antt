@@ -49,8 +49,8 @@ module _ {g : Graph} {t : Pointers} {last : ℕ → ℕ} {next from to : ℕ} (t
 
 -- The tables.
 
-module _ {ends incident begins first number last over places below used : List ℕ} {top bottom : ℕ}
-    (c : Leaving ends incident begins first number last over places below used top bottom) where
+module _ {ends incident begins first number last places below over : List ℕ} {top bottom : ℕ}
+    (c : Leaving ends incident begins first number last places below over top bottom) where
   abbrev g : Graph
   g = graph (plan (c .n) ends)
 
@@ -99,15 +99,20 @@ module _ {ends incident begins first number last over places below used : List �
     lower = omega (arith, lower-is b, joins-below (c .n) ends f s w (b .joins), c .ground .number-long);
   }
 
-  reading : {e v u : ℕ} → Joins g e v u → Reading ends number over places (length used) e
+  -- an edge that is not built stands in the table as at first
+  new-edge : {e : ℕ} → 1 ≤ read over e → In e built → ⊥
+  new-edge {e} h i = omega (arith, h, c .uses .on e i)
+
+  as-first : {e : ℕ} → 1 ≤ read over e → read over e ≡ c .whole e
+  as-first {e} h = c .uses .off e (new-edge h)
+
+  reading : {e v u : ℕ} → Joins g e v u → Reading ends number places over e
   reading {e} {v} {u} j = record {
-    used-long = omega (arith, joins-edge (c .n) ends e v u j, c .used-long);
-    over-long = omega (arith, joins-edge (c .n) ends e v u j, c .ground .over-long);
-    some = c .ground .some e (j .edge);
-    test = let (s, w, b) = over-back tree (c .ground .overs) j in testing b;
+    long = omega (arith, joins-edge (c .n) ends e v u j, c .over-long);
+    test = λ h. let (s, w, b) = over-back tree (c .ground .overs) j in subst (λ (x : ℕ). Testing ends number places (x - 1)) (sym (as-first h)) (testing b);
   }
 
-  pub looking : {y : ℕ} → read places y ≡ c .link → Looking ends incident begins number over places (length used) y
+  pub looking : {y : ℕ} → read places y ≡ c .link → Looking ends incident begins number places over y
   looking {y} p = let r = c .ground .grouped in record {
     room = sized y p .0;
     inside = omega (arith, r .inside y (inside-below p), r .long);
@@ -118,7 +123,7 @@ module _ {ends incident begins first number last over places below used : List �
   -- what the answer at a vertex of the link tells
 
   module _ {from to v r : ℕ} (u : Under (read number) (read last) (read below bottom) from to) (p : read places v ≡ c .link)
-      (x : ExitAt ends incident begins number over places used v from to r) where
+      (x : ExitAt ends incident begins number places over v from to r) where
     -- the test, in the tree's terms
     passes-leads : {f s w : ℕ} → Back g t f s w → Passes ends number places f (read places v) from to → Leads (read places s) (c .link) (read number w) from to
     passes-leads b = leads-as (ap (read places) (upper-is b)) p (ap (read number) (lower-is b))
@@ -126,17 +131,19 @@ module _ {ends incident begins first number last over places below used : List �
     leads-passes : {f s w : ℕ} → Back g t f s w → Leads (read places s) (c .link) (read number w) from to → Passes ends number places f (read places v) from to
     leads-passes b = leads-as (sym (ap (read places) (upper-is b))) (sym p) (sym (ap (read number) (lower-is b)))
 
-    pub stays-at : r ≡ 0 → Stays g t built (λ e. read over e - 1) (read places) (read below) (c .link) bottom v
+    pub stays-at : r ≡ 0 → Stays g t built (λ e. c .whole e - 1) (read places) (read below) (c .link) bottom v
     stays-at z e y s w j n b = let (k, h, l, q) = c .ground .grouped .listed e v y j in
         leads-not-out tree (c .ground .preorder) child-vertex u (λ i. x .none z k
-        (record { from = h; to = l; new = subst (λ (d : ℕ). read used d ≡ 0) (sym q) (c .uses .off e n) })
-        (subst (λ (d : ℕ). Passes ends number places (read over d - 1) (read places v) from to) (sym q) (leads-passes b i)))
+        (record { from = h; to = l; new = subst (λ (d : ℕ). 1 ≤ read over d) (sym q) (omega (arith, c .uses .off e n, c .ground .some e (j .edge))) })
+        (subst (λ (d : ℕ). Passes ends number places (d - 1) (read places v) from to) (sym (ap (read over) q ∙ c .uses .off e n)) (leads-passes b i)))
 
-    pub leaves-at : (r ≡ 0 → ⊥) → Exit g t built (λ e. read over e - 1) (read places) (read below) (c .link) bottom (r - 1)
+    pub leaves-at : (r ≡ 0 → ⊥) → Exit g t built (λ e. c .whole e - 1) (read places) (read below) (c .link) bottom (r - 1)
     leaves-at n =
         let (k, h, q, i) = x .some n in
         let (y, j) = c .ground .grouped .joins v k (inside-below p) (h .from) (h .to) in
         let (s, w, b) = over-back tree (c .ground .overs) j in
+        let o = as-first (h .new) in
+        let a : r - 1 ≡ c .whole (read incident k) - 1 = ap (λ (d : ℕ). d - 1) (q ∙ o) in
         record {
           at = v;
           edge = read incident k;
@@ -145,16 +152,17 @@ module _ {ends incident begins first number last over places below used : List �
           lower = w;
           inside = p;
           joins = j;
-          new = λ m. omega (arith, h .new, c .uses .on (read incident k) m);
-          is-over = ap (λ (d : ℕ). d - 1) q;
-          back = subst (λ (d : ℕ). Back g t d s w) (sym (ap (λ (d : ℕ). d - 1) q)) b;
-          out = leads-out tree (c .ground .preorder) child-vertex u (joins-vertex (joins-sym (b .joins))) (passes-leads b i);
+          new = new-edge (h .new);
+          is-over = a;
+          back = subst (λ (d : ℕ). Back g t d s w) (sym a) b;
+          out = leads-out tree (c .ground .preorder) child-vertex u (joins-vertex (joins-sym (b .joins)))
+              (passes-leads b (subst (λ (d : ℕ). Passes ends number places (d - 1) (read places v) from to) o i));
         }
 
   -- The two ends.
 
   abbrev pub Still : ℕ → Type 0
-  Still y = Stays g t built (λ e. read over e - 1) (read places) (read below) (c .link) bottom y
+  Still y = Stays g t built (λ e. c .whole e - 1) (read places) (read below) (c .link) bottom y
 
   abbrev pub Sought : ℕ → ℕ → Type 0
   Sought a b = Between g t (read places) (c .link) Still a b

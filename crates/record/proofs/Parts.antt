@@ -1,8 +1,8 @@
 -- A vertex becomes a branch, in the tables: what `split` and `cut` read, and that what `split` writes is right.
-use mathlib.Core.Path.{_≡_, refl, sym, ap, _∙_, subst}
+use mathlib.Core.Path.{_≡_, refl, sym, _∙_, subst}
 use mathlib.Core.Logic.{inl, inr}
 use mathlib.Core.List.{List}
-use Prim.Native.Nat.{ℕ, suc, _+_, _-_, _≤_, _<_}
+use Prim.Native.Nat.{ℕ, suc, _+_, _-_, _*_, _≤_, _<_}
 use native.Mathlib.Omega.{arith}
 use lib.ListN.{length, set, length-set}
 use lib.Seq.{getD-set-same, getD-set-other}
@@ -16,26 +16,31 @@ use Rattle.tree.proofs.NewLink.{links-most}
 use Rattle.tree.proofs.Parting.{Lone, Renamed, Stays, Becomes, Lying, Within, within, tips-vertices, not-top, not-bottom, part-room, part-whole, part-top, part-bottom, part-upper, part-lower}
 use Rattle.graph.specs.Marks.{read}
 use Rattle.graph.proofs.Joined.{bound-is, below-vertex, vertex-below}
-use Rattle.record.specs.Ways.{nextUp, Marking, MarkedOn, MarkedUp}
+use Rattle.record.specs.Ways.{nextUp, Way, Marking, MarkedOn, MarkedUp}
 use Rattle.record.specs.Standing.{treeOf}
-use Rattle.record.specs.Linking.{Splitting, Parted, PartedBy}
+use Rattle.record.specs.Linking.{topOf, bottomOf, withTips, Splitting, Parted, PartedBy}
 use Rattle.record.specs.Parting.{Cutting, CutAt, InsideCut, whole, off-top, off-bottom, off-upper, off-lower}
 use Rattle.record.proofs.Climbing.{parent-is, child-rises, climb-way}
+use Rattle.record.proofs.TwoTips.{tips-length, top-same, bottom-same, top-other, bottom-other}
 
--- Tables in which one or two numbers are written.
+-- Tables in which a number or the tips of one or two links are written.
 
 lone-set : (places : List ℕ) (v : ℕ) → v < length places → Lone (read places) (read (set places v 1)) v
 lone-set places v h = record { at = getD-set-same places v 1 0 h; off = λ y n. getD-set-other places v y 1 0 n }
 
-set-own : (table : List ℕ) (x : ℕ) {own m : ℕ} → own ≡ m → own < length table → read (set table own x) m ≡ x
-set-own table x {own} e h = ap (read (set table own x)) (sym e) ∙ getD-set-same table own x 0 h
+module _ (tips : List ℕ) (own a b next : ℕ) where
+  stays-top : Stays (topOf tips) (topOf (withTips tips own a b)) next own
+  stays-top = record { off = λ k h n. top-other tips own a b k n }
 
-stays-set : (table : List ℕ) (x : ℕ) {own next m : ℕ} → own ≡ m → Stays (read table) (read (set table own x)) next m
-stays-set table x {own} e = record { off = λ k h n. getD-set-other table own k x 0 (λ p. n (p ∙ e)) }
+  stays-bottom : Stays (bottomOf tips) (bottomOf (withTips tips own a b)) next own
+  stays-bottom = record { off = λ k h n. bottom-other tips own a b k n }
 
-stays-two : (table : List ℕ) (x y next : ℕ) {own m : ℕ} → own ≡ m → Stays (read table) (read (set (set table own x) next y)) next m
-stays-two table x y next {own} e =
-    record { off = λ k h n. getD-set-other (set table own x) next k y 0 (λ p. omega (arith, p, h)) ∙ getD-set-other table own k x 0 (λ p. n (p ∙ e)) }
+  module _ (x y : ℕ) where
+    tops-two : Stays (topOf tips) (topOf (withTips (withTips tips own a b) next x y)) next own
+    tops-two = record { off = λ k h n. top-other (withTips tips own a b) next x y k (λ p. omega (arith, p, h)) ∙ top-other tips own a b k n }
+
+    bottoms-two : Stays (bottomOf tips) (bottomOf (withTips (withTips tips own a b) next x y)) next own
+    bottoms-two = record { off = λ k h n. bottom-other (withTips tips own a b) next x y k (λ p. omega (arith, p, h)) ∙ bottom-other tips own a b k n }
 
 renamed : {place after : ℕ → ℕ} {legs : List Leg} {w m : ℕ} → MarkedOn legs w m place after → Renamed place after legs w m
 renamed r = record { on = r .on; end = r .end; off = r .off }
@@ -66,7 +71,7 @@ cut-between {v} {top} {bottom} {down} up r t b h l e k m o = subst (λ (x : ℕ)
 
 -- What `split` reads.
 
-module _ {ends first below depth places tops bottoms : List ℕ} {v next : ℕ} (c : Splitting ends first below depth v next places tops bottoms) where
+module _ {ends first below places tips : List ℕ} {v next : ℕ} (c : Splitting ends first below v next places tips) where
   abbrev here : Graph
   here = graph (plan (c .n) ends)
 
@@ -82,11 +87,8 @@ module _ {ends first below depth places tops bottoms : List ℕ} {v next : ℕ} 
   most : next ≤ c .n + 2
   most = omega (arith, links-most (c .filing .links), bound-is (c .n) ends)
 
-  pub own-tops : own < length tops
-  own-tops = omega (arith, most, c .filing .links .below v, c .filing .roomy .tops-long)
-
-  pub own-bottoms : own < length bottoms
-  own-bottoms = omega (arith, most, c .filing .links .below v, c .filing .roomy .bottoms-long)
+  pub own-room : 2 * own + 2 ≤ length tips
+  own-room = omega (arith, most, c .filing .links .below v, c .filing .roomy .tips-long)
 
   pub own-small : own < limits .vertices + 2
   own-small = omega (arith, most, c .filing .links .below v, c .filing .rooted .admitted .vertices)
@@ -107,10 +109,10 @@ module _ {ends first below depth places tops bottoms : List ℕ} {v next : ℕ} 
     large : 2 ≤ own
     large = omega (arith, n, c .built)
 
-    tips-of : Within here stem (read places) (read tops) (read bottoms) v
+    tips-of : Within here stem (read places) (topOf tips) (bottomOf tips) v
     tips-of = within (c .filing .links) large
 
-    lying : Lying here stem (read places) (read below) (read tops) (read bottoms) next v (tips-of .high) (tips-of .low)
+    lying : Lying here stem (read places) (read below) (topOf tips) (bottomOf tips) next v (tips-of .high) (tips-of .low)
     lying = record {
       tree = c .filing .rooted .tree;
       shelved = c .filing .shelved;
@@ -120,17 +122,30 @@ module _ {ends first below depth places tops bottoms : List ℕ} {v next : ℕ} 
       tips = tips-of .tips;
     }
 
-    is-high : v + 1 ≡ read tops own → v ≡ tips-of .high
+    is-high : v + 1 ≡ topOf tips own → v ≡ tips-of .high
     is-high p = omega (arith, p, tips-of .at-high)
 
-    is-low : v + 1 ≡ read bottoms own → v ≡ tips-of .low
+    is-low : v + 1 ≡ bottomOf tips own → v ≡ tips-of .low
     is-low p = omega (arith, p, tips-of .at-low)
 
     tip-below : (tips-of .high < c .n) × (tips-of .low < c .n)
     tip-below = let (a, b) = tips-vertices (c .filing .rooted .tree) (tips-of .tips) at-v in (vertex-below (c .n) ends _ a, vertex-below (c .n) ends _ b)
 
+    high-is : tips-of .high ≡ topOf tips own - 1
+    high-is = omega (arith, tips-of .at-high)
+
+    low-is : tips-of .low ≡ bottomOf tips own - 1
+    low-is = omega (arith, tips-of .at-low)
+
+    -- the ways from v up to the top, and from the bottom up to v
+    upper-whole : Way ends first v (topOf tips own - 1)
+    upper-whole = subst (Way ends first v) high-is (climb-way (c .filing .rooted) (way-up (tips-of .tips .highest v refl) .1) (c .vertex))
+
+    lower-whole : Way ends first (bottomOf tips own - 1) v
+    lower-whole = subst (λ (w : ℕ). Way ends first w v) low-is (climb-way (c .filing .rooted) (way-up (tips-of .tips .lowest v refl) .1) (tip-below .1))
+
     -- v is not the top
-    module _ (m : v + 1 ≡ read tops own → ⊥) where
+    module _ (m : v + 1 ≡ topOf tips own → ⊥) where
       under : v ≡ tips-of .high → ⊥
       under p = m (omega (arith, p, tips-of .at-high))
 
@@ -143,17 +158,13 @@ module _ {ends first below depth places tops bottoms : List ℕ} {v next : ℕ} 
       up-below : stem .parent v < c .n
       up-below = vertex-below (c .n) ends _ (parent-vertex (c .filing .rooted .tree) child)
 
-    pub split-cutting : Cutting ends first below depth v (read tops own) (read bottoms own)
+    pub split-cutting : Cutting ends first below v (topOf tips own) (bottomOf tips own)
     split-cutting = record {
       small = omega (arith, c .vertex, c .filing .rooted .admitted .vertices);
       below-long = omega (arith, c .vertex, c .filing .roomy .below-long);
       some-top = omega (arith, tips-of .at-high);
       some-bottom = omega (arith, tips-of .at-low);
-      deep = record {
-        at = omega (arith, c .vertex, c .depth-long);
-        at-top = omega (arith, tips-of .at-high, tip-below .0, c .depth-long);
-        at-bottom = omega (arith, tips-of .at-low, tip-below .1, c .depth-long);
-      };
+      between = λ m o. record { upper = upper-whole; lower = lower-whole };
       rises = λ m. child-rises (c .filing .rooted) (child m);
       up-small = λ m. omega (arith, up-is m, up-below m, c .filing .rooted .admitted .vertices);
     }
@@ -161,29 +172,29 @@ module _ {ends first below depth places tops bottoms : List ℕ} {v next : ℕ} 
     -- What it writes, where no link is new.
 
     -- the tips of the link that is cut
-    at-top : (x : ℕ) → read (set tops own x) own ≡ x
-    at-top x = set-own tops x refl own-tops
+    at-top : (a b : ℕ) → topOf (withTips tips own a b) own ≡ a
+    at-top a b = top-same tips own a b own-room
 
-    at-bottom : (x : ℕ) → read (set bottoms own x) own ≡ x
-    at-bottom x = set-own bottoms x refl own-bottoms
+    at-bottom : (a b : ℕ) → bottomOf (withTips tips own a b) own ≡ b
+    at-bottom a b = bottom-same tips own a b own-room
 
     abbrev Cuts : ℕ → ℕ → ℕ → ℕ → Type 0
-    Cuts = CutAt v (read tops own) (read bottoms own) (nextUp ends first v + 1) (read below v)
+    Cuts = CutAt v (topOf tips own) (bottomOf tips own) (nextUp ends first v + 1) (read below v)
 
     split-kept : {t b h l : ℕ} → Cuts t b h l → h ≡ 0
-        → Parted here stem v next (read places) (read (set places v 1)) (read (set tops own t)) (read (set bottoms own b)) next
+        → Parted here stem v next (read places) (read (set places v 1)) (topOf (withTips tips own t b)) (bottomOf (withTips tips own t b)) next
     split-kept {t} {b} (whole p q) z =
-        parted-by (part-whole lying (stays-set tops t refl) (stays-set bottoms b refl) lone (is-high p) (is-low q) (at-top t))
-    split-kept {t} {b} (off-top p o) z = parted-by (part-top lying (stays-set tops t refl) (stays-set bottoms b refl) lone
-        (is-high p) (λ q. o (omega (arith, q, tips-of .at-low))) (at-top t) (at-bottom b ∙ tips-of .at-low))
-    split-kept {t} {b} (off-bottom m q) z = parted-by (part-bottom lying (stays-set tops t refl) (stays-set bottoms b refl) lone
-        (is-low q) (under m) (at-top t ∙ tips-of .at-high) (at-bottom b ∙ omega (arith, up-is m)))
+        parted-by (part-whole lying (stays-top tips own t b next) (stays-bottom tips own t b next) lone (is-high p) (is-low q) (at-top t b))
+    split-kept {t} {b} (off-top p o) z = parted-by (part-top lying (stays-top tips own t b next) (stays-bottom tips own t b next) lone
+        (is-high p) (λ q. o (omega (arith, q, tips-of .at-low))) (at-top t b) (at-bottom t b ∙ tips-of .at-low))
+    split-kept {t} {b} (off-bottom m q) z = parted-by (part-bottom lying (stays-top tips own t b next) (stays-bottom tips own t b next) lone
+        (is-low q) (under m) (at-top t b ∙ tips-of .at-high) (at-bottom t b ∙ omega (arith, up-is m)))
     split-kept (off-upper m o) z = absurd (omega (arith, z, tips-of .at-high))
     split-kept (off-lower m o) z = absurd (omega (arith, z, not-bottom lying (λ q. o (omega (arith, q, tips-of .at-low))) .3))
 
     -- And where one is: v is neither tip.
 
-    module _ (m : v + 1 ≡ read tops own → ⊥) (o : v + 1 ≡ read bottoms own → ⊥) where
+    module _ (m : v + 1 ≡ topOf tips own → ⊥) (o : v + 1 ≡ bottomOf tips own → ⊥) where
       over : v ≡ tips-of .low → ⊥
       over q = o (omega (arith, q, tips-of .at-low))
 
@@ -208,59 +219,68 @@ module _ {ends first below depth places tops bottoms : List ℕ} {v next : ℕ} 
       abbrev lower-marking : Marking ends first (tips-of .low) (down .0) (length (set places v 1))
       lower-marking = record { way = climb-way (c .filing .rooted) (lower .1) (tip-below .1); room = places-long }
 
-      high-is : tips-of .high ≡ read tops own - 1
-      high-is = omega (arith, tips-of .at-high)
-
-      low-is : tips-of .low ≡ read bottoms own - 1
-      low-is = omega (arith, tips-of .at-low)
-
       down-is : down .0 ≡ read below v - 1
       down-is = omega (arith, down .3)
 
       above-is : stem .parent v ≡ nextUp ends first v + 1 - 1
       above-is = omega (arith, up-is m)
 
-      upper-way : Marking ends first (nextUp ends first v + 1 - 1) (read tops own - 1) (length (set places v 1))
+      upper-way : Marking ends first (nextUp ends first v + 1 - 1) (topOf tips own - 1) (length (set places v 1))
       upper-way = marking-as above-is high-is upper-marking
 
-      lower-way : Marking ends first (read bottoms own - 1) (read below v - 1) (length (set places v 1))
+      lower-way : Marking ends first (bottomOf tips own - 1) (read below v - 1) (length (set places v 1))
       lower-way = marking-as low-is down-is lower-marking
 
       abbrev x : ℕ
       x = read below v
 
       abbrev y : ℕ
-      y = read tops own
+      y = topOf tips own
 
       abbrev z : ℕ
-      z = read bottoms own
+      z = bottomOf tips own
 
       abbrev u : ℕ
       u = nextUp ends first v + 1
 
-      module _ (places' : List ℕ) where
-        after-upper : MarkedUp ends first (nextUp ends first v + 1 - 1) (read tops own - 1) next (set places v 1) places'
-            → Parted here stem v next (read places) (read places') (read (set (set tops own (read below v)) next (read tops own)))
-            (read (set (set bottoms own (read bottoms own)) next (nextUp ends first v + 1))) (next + 1)
-        after-upper k = parted-by (part-upper lying
-            (stays-two tops x y next refl) (stays-two bottoms z u next refl)
-            (under m) over lone (upper .1) (renamed (marked-as (set places v 1) places' above-is high-is k .1 upper-marking))
-            (getD-set-other (set tops own x) next own y 0 old ∙ at-top x)
-            (getD-set-other (set bottoms own z) next own u 0 old ∙ at-bottom z ∙ tips-of .at-low)
-            (getD-set-same (set tops own x) next y 0 (omega (arith, length-set tops own x, room, c .filing .roomy .tops-long)) ∙ tips-of .at-high)
-            (getD-set-same (set bottoms own z) next u 0 (omega (arith, length-set bottoms own z, room, c .filing .roomy .bottoms-long))
-            ∙ omega (arith, up-is m)))
+      -- the tips of both links then
+      new-room : (a b : ℕ) → 2 * next + 2 ≤ length (withTips tips own a b)
+      new-room a b = omega (arith, tips-length tips own a b, room, c .filing .roomy .tips-long)
 
-        after-lower : MarkedUp ends first (read bottoms own - 1) (read below v - 1) next (set places v 1) places'
-            → Parted here stem v next (read places) (read places') (read (set (set tops own (read tops own)) next (read below v)))
-            (read (set (set bottoms own (nextUp ends first v + 1)) next (read bottoms own))) (next + 1)
+      old-top : (a b h l : ℕ) → topOf (withTips (withTips tips own a b) next h l) own ≡ a
+      old-top a b h l = top-other (withTips tips own a b) next h l own old ∙ at-top a b
+
+      old-bottom : (a b h l : ℕ) → bottomOf (withTips (withTips tips own a b) next h l) own ≡ b
+      old-bottom a b h l = bottom-other (withTips tips own a b) next h l own old ∙ at-bottom a b
+
+      new-top : (a b h l : ℕ) → topOf (withTips (withTips tips own a b) next h l) next ≡ h
+      new-top a b h l = top-same (withTips tips own a b) next h l (new-room a b)
+
+      new-bottom : (a b h l : ℕ) → bottomOf (withTips (withTips tips own a b) next h l) next ≡ l
+      new-bottom a b h l = bottom-same (withTips tips own a b) next h l (new-room a b)
+
+      module _ (places' : List ℕ) where
+        after-upper : MarkedUp ends first (u - 1) (y - 1) next (set places v 1) places'
+            → Parted here stem v next (read places) (read places') (topOf (withTips (withTips tips own x z) next y u))
+            (bottomOf (withTips (withTips tips own x z) next y u)) (next + 1)
+        after-upper k = parted-by (part-upper lying
+            (tops-two tips own x z next y u) (bottoms-two tips own x z next y u)
+            (under m) over lone (upper .1) (renamed (marked-as (set places v 1) places' above-is high-is k .1 upper-marking))
+            (old-top x z y u)
+            (old-bottom x z y u ∙ tips-of .at-low)
+            (new-top x z y u ∙ tips-of .at-high)
+            (new-bottom x z y u ∙ omega (arith, up-is m)))
+
+        after-lower : MarkedUp ends first (z - 1) (x - 1) next (set places v 1) places'
+            → Parted here stem v next (read places) (read places') (topOf (withTips (withTips tips own y u) next x z))
+            (bottomOf (withTips (withTips tips own y u) next x z)) (next + 1)
         after-lower k = parted-by (part-lower lying
-            (stays-two tops y x next refl) (stays-two bottoms u z next refl)
+            (tops-two tips own y u next x z) (bottoms-two tips own y u next x z)
             (under m) over lone (down .3) (lower .1) (renamed (marked-as (set places v 1) places' low-is down-is k .1 lower-marking))
-            (getD-set-other (set tops own y) next own x 0 old ∙ at-top y ∙ tips-of .at-high)
-            (getD-set-other (set bottoms own u) next own z 0 old ∙ at-bottom u ∙ omega (arith, up-is m))
-            (getD-set-same (set tops own y) next x 0 (omega (arith, length-set tops own y, room, c .filing .roomy .tops-long)) ∙ down .3)
-            (getD-set-same (set bottoms own u) next z 0 (omega (arith, length-set bottoms own u, room, c .filing .roomy .bottoms-long)) ∙ tips-of .at-low))
+            (old-top y u x z ∙ tips-of .at-high)
+            (old-bottom y u x z ∙ omega (arith, up-is m))
+            (new-top y u x z ∙ down .3)
+            (new-bottom y u x z ∙ tips-of .at-low))
 
     pub split-new : {t b h l : ℕ} → Cuts t b h l → (h ≡ 0 → ⊥) → (next < c .n + 2) × (1 ≤ l) × Marking ends first (l - 1) (h - 1) (length (set places v 1))
     split-new (whole p q) z = absurd (z refl)
@@ -270,7 +290,8 @@ module _ {ends first below depth places tops bottoms : List ℕ} {v next : ℕ} 
     split-new (off-lower m o) z = (room m o, omega (arith, tips-of .at-low), lower-way m o)
 
     split-after : (places' : List ℕ) {t b h l : ℕ} → Cuts t b h l → (h ≡ 0 → ⊥) → MarkedUp ends first (l - 1) (h - 1) next (set places v 1) places'
-        → Parted here stem v next (read places) (read places') (read (set (set tops own t) next h)) (read (set (set bottoms own b) next l)) (next + 1)
+        → Parted here stem v next (read places) (read places') (topOf (withTips (withTips tips own t b) next h l))
+        (bottomOf (withTips (withTips tips own t b) next h l)) (next + 1)
     split-after places' (whole p q) z k = absurd (z refl)
     split-after places' (off-top p o) z k = absurd (z refl)
     split-after places' (off-bottom m q) z k = absurd (z refl)
@@ -279,22 +300,19 @@ module _ {ends first below depth places tops bottoms : List ℕ} {v next : ℕ} 
 
 -- What `split` promises.
 
-module _ {ends first below depth places tops bottoms : List ℕ} {v next : ℕ} where
-  pub split-already : read places v ≡ 1 → PartedBy ends first below depth v next places tops bottoms places tops bottoms next
-  split-already p = (refl, refl, refl, λ c. (record { marked = already p (λ y. refl); links = c .filing .links; gone = λ m h i none. none }, omega arith))
+module _ {ends first below places tips : List ℕ} {v next : ℕ} where
+  pub split-already : read places v ≡ 1 → PartedBy ends first below v next places tips places tips next
+  split-already p = (refl, refl, λ c. (record { marked = already p (λ y. refl); links = c .filing .links; gone = λ m h i none. none }, omega arith))
 
   module _ (t b h l : ℕ) (n : read places v ≡ 1 → ⊥)
-      (d : CutAt v (read tops (read places v)) (read bottoms (read places v)) (nextUp ends first v + 1) (read below v) t b h l) where
-    pub split-old : h ≡ 0
-        → PartedBy ends first below depth v next places tops bottoms (set places v 1) (set tops (read places v) t) (set bottoms (read places v) b) next
-    split-old z = (length-set places v 1, length-set tops (read places v) t, length-set bottoms (read places v) b, λ c. (split-kept c n d z, omega arith))
+      (d : CutAt v (topOf tips (read places v)) (bottomOf tips (read places v)) (nextUp ends first v + 1) (read below v) t b h l) where
+    pub split-old : h ≡ 0 → PartedBy ends first below v next places tips (set places v 1) (withTips tips (read places v) t b) next
+    split-old z = (length-set places v 1, tips-length tips (read places v) t b, λ c. (split-kept c n d z, omega arith))
 
     pub split-more : (places' : List ℕ) → (h ≡ 0 → ⊥) → MarkedUp ends first (l - 1) (h - 1) next (set places v 1) places'
-        → PartedBy ends first below depth v next places tops bottoms places' (set (set tops (read places v) t) next h)
-        (set (set bottoms (read places v) b) next l) (next + 1)
+        → PartedBy ends first below v next places tips places' (withTips (withTips tips (read places v) t b) next h l) (next + 1)
     split-more places' z k = (
       k .0 ∙ length-set places v 1,
-      length-set (set tops (read places v) t) next h ∙ length-set tops (read places v) t,
-      length-set (set bottoms (read places v) b) next l ∙ length-set bottoms (read places v) b,
+      tips-length (withTips tips (read places v) t b) next h l ∙ tips-length tips (read places v) t b,
       λ c. (split-after c n places' d z k, omega arith),
     )

@@ -1,27 +1,29 @@
 -- How a record comes on: the rows of each step are written behind those before it, the cursors stay behind what is built, and in the end every edge is.
-use mathlib.Core.Path.{_≡_, sym, subst}
+use mathlib.Core.Path.{_≡_, sym, _∙_, subst}
 use mathlib.Core.List.{List, _∷_, _++_, Memᴰ·append-right as in-right}
 use Prim.Native.Nat.{ℕ, _+_, _-_, _*_, _/_, _≤_, _<_}
 use native.Mathlib.Omega.{arith}
 use lib.ListN.{length, take, drop, length-append}
-use Rattle.connectivity.specs.Plan.{plan, graph}
+use Rattle.connectivity.specs.Plan.{plan, graph, limits}
 use Rattle.connectivity.specs.Walk.{Leg, edgesOf, allEdges}
 use Rattle.connectivity.specs.Mader.{rows, stepRows}
 use Rattle.connectivity.proofs.Legs.{legs-edges}
 use Rattle.connectivity.proofs.Build.{rows-length}
 use Rattle.tree.proofs.Along.{along-end}
-use Rattle.graph.specs.Marks.{read, Marked}
+use Rattle.graph.specs.Marks.{read}
 use Rattle.connectivity.proofs.Lists.{in-dec}
-use Rattle.record.specs.Ways.{Written}
+use Rattle.record.specs.Ways.{Written, MetFirst, OverUp, upperEnd, farEnd}
 use Rattle.record.specs.Standing.{Rooted, treeOf}
-use Rattle.record.specs.Recording.{Stepping, Stepped, Chosen, Behind, Nexting, Beginning, Begun, Recorded}
-use Rattle.record.specs.Progress.{Recording, Adding, Added, Going, Finishing, Ready}
+use Rattle.record.specs.Linking.{BothBy, WalkedBy}
+use Rattle.record.specs.Recording.{Recording, Stepping, Stepped, Chosen, Behind, Nexting, Recorded}
+use Rattle.record.specs.Progress.{Adding, Added, Going, Finishing}
 use Rattle.record.proofs.Written.{written-length, written-part, part-long}
+use Rattle.record.proofs.Stepping.{stepped-by}
 use Rattle.record.proofs.Counting.{steps-most, done-most, done-all}
 
 -- what is written so far
-module _ {n root : ℕ} {ends first : List ℕ} {rank : ℕ → ℕ} {walks : List (List Leg)} {before now places below tops bottoms used : List ℕ} {row step next : ℕ}
-    (rooted : Rooted n ends root first rank) (r : Recording n root ends first rank walks before now places below tops bottoms used row step next) where
+module _ {n root : ℕ} {ends first : List ℕ} {rank whole : ℕ → ℕ} {walks : List (List Leg)} {before now places below tips over : List ℕ} {row step next : ℕ}
+    (rooted : Rooted n ends root first rank) (r : Recording n root ends first rank whole walks before now places below tips over row step next) where
   pub rows-long : length (rows walks) ≡ 3 * row
   rows-long = omega (arith, rows-length walks, r .row-is)
 
@@ -35,28 +37,28 @@ module _ {n root : ℕ} {ends first : List ℕ} {rank : ℕ → ℕ} {walks : Li
   step-most = omega (arith, r .row-is, r .step-is, steps-most (r .holds .state .along .steps))
 
 -- one step more
-module _ {ends first number depth : List ℕ} {f row step next : ℕ} {places below tops bottoms used now : List ℕ}
-    (c : Adding ends first number depth f row step next places below tops bottoms used now) where
+module _ {ends first number : List ℕ} {f row step next : ℕ} {places below tips over now : List ℕ}
+    (c : Adding ends first number f row step next places below tips over now) where
   pub row-room : 3 * row ≤ length now
   row-room = omega (arith, row-most (c .rooted) (c .recording), now-long (c .rooted) (c .recording), c .recording .fits)
 
-  abbrev pub stepping : Stepping ends first number depth f next places below tops bottoms used (length (take (length now - 3 * row) (drop (3 * row) now)))
+  abbrev pub stepping : Stepping ends first number f next places below tips over (length (take (length now - 3 * row) (drop (3 * row) now)))
   stepping = record {
     n = c .n;
     root = c .root;
+    whole = c .whole;
     rooted = c .rooted;
     walks = c .walks;
     holds = c .recording .holds;
     chosen = c .chosen;
     number-long = c .number-long;
-    depth-long = c .depth-long;
     fits = omega (arith, part-long now (3 * row), now-long (c .rooted) (c .recording), c .recording .row-is, c .recording .fits);
   }
 
-  module _ (part places' below' tops' bottoms' used' : List ℕ) {count next' : ℕ}
-      (s : Stepped (c .n) (c .root) ends first (read number) (c .walks) step next (take (length now - 3 * row) (drop (3 * row) now)) part places places' below' tops' bottoms' used' count next') where
-    recording-then : Recording (c .n) (c .root) ends first (read number) (s .legs ∷ c .walks) (c .before) (take (3 * row) now ++ (part ++ drop (length now - 3 * row) (drop (3 * row) now)))
-        places' below' tops' bottoms' used' (row + count) (step + 1) next'
+  module _ (part places' below' tips' over' : List ℕ) {count next' : ℕ}
+      (s : Stepped (c .n) (c .root) ends first (read number) (c .whole) (c .walks) step next (take (length now - 3 * row) (drop (3 * row) now)) part places places' below' tips' over' count next') where
+    recording-then : Recording (c .n) (c .root) ends first (read number) (c .whole) (s .legs ∷ c .walks) (c .before) (take (3 * row) now ++ (part ++ drop (length now - 3 * row) (drop (3 * row) now)))
+        places' below' tips' over' (row + count) (step + 1) next'
     recording-then = record {
       holds = s .holds;
       written = written-part (rows (c .walks)) (stepRows (length (c .walks)) (s .legs)) (c .before) now part (3 * row) (c .recording .written) (rows-long (c .rooted) (c .recording))
@@ -72,8 +74,8 @@ module _ {ends first number depth : List ℕ} {f row step next : ℕ} {places be
     pub step-then : step + 1 ≤ length ends / 2
     step-then = omega (arith, step-most (c .rooted) recording-then, row-then)
 
-    pub added : Added (c .n) (c .root) ends first (read number) (c .walks) (c .before) (take (3 * row) now ++ (part ++ drop (length now - 3 * row) (drop (3 * row) now)))
-        places places' below' tops' bottoms' used' row next (row + count) (step + 1) next'
+    pub added : Added (c .n) (c .root) ends first (read number) (c .whole) (c .walks) (c .before) (take (3 * row) now ++ (part ++ drop (length now - 3 * row) (drop (3 * row) now)))
+        places places' below' tips' over' row next (row + count) (step + 1) next'
     added = record {
       legs = s .legs;
       recording = recording-then;
@@ -82,10 +84,30 @@ module _ {ends first number depth : List ℕ} {f row step next : ℕ} {places be
       gone = s .gone;
     }
 
+-- a step, part after part
+module _ {ends first number : List ℕ} {f row step next : ℕ} {places below tips over now : List ℕ} (count : ℕ) (places₂ tips₂ places₃ below₃ tips₃ over₃ part : List ℕ) {s w x next₂ next₃ : ℕ}
+    (p : s ≡ upperEnd ends number f) (q : w ≡ farEnd ends f s) (m : MetFirst ends first places w x)
+    (r : OverUp ends first f s w x step (take (length now - 3 * row) (drop (3 * row) now)) part count)
+    (e : BothBy ends first below s x next places tips places₂ tips₂ next₂)
+    (k : WalkedBy ends first f w x next₂ places₂ below tips₂ over places₃ below₃ tips₃ over₃ next₃)
+    (c : Adding ends first number f row step next places below tips over now) where
+  taken : Stepped (c .n) (c .root) ends first (read number) (c .whole) (c .walks) step next (take (length now - 3 * row) (drop (3 * row) now)) part places places₃ below₃ tips₃ over₃ count next₃
+  taken = stepped-by step count (take (length now - 3 * row) (drop (3 * row) now)) places₂ tips₂ places₃ below₃ tips₃ over₃ part p q m r e k (stepping c)
+
+  pub path-fits : (row + count ≤ limits .edges) × (step + 1 ≤ limits .edges)
+  path-fits = (
+    omega (arith, row-then c part places₃ below₃ tips₃ over₃ taken, c .rooted .admitted .edges),
+    omega (arith, step-then c part places₃ below₃ tips₃ over₃ taken, c .rooted .admitted .edges),
+  )
+
+  pub path-added : Added (c .n) (c .root) ends first (read number) (c .whole) (c .walks) (c .before) (take (3 * row) now ++ (part ++ drop (length now - 3 * row) (drop (3 * row) now)))
+      places places₃ below₃ tips₃ over₃ row next (row + count) (step + 1) next₃
+  path-added = added c part places₃ below₃ tips₃ over₃ taken
+
 -- Step after step.
 
-module _ {n : ℕ} {ends incident begins first order number last depth over before now places below tops bottoms used : List ℕ} {row step next empty at slot : ℕ}
-    (r : Going n ends incident begins first order number last depth over before now places below tops bottoms used row step next empty at slot) where
+module _ {n : ℕ} {ends incident begins first order number last : List ℕ} {whole : ℕ → ℕ} {before now places below tips over : List ℕ} {row step next empty at slot : ℕ}
+    (r : Going n ends incident begins first order number last whole before now places below tips over row step next empty at slot) where
   pub going-most : row ≤ length ends / 2
   going-most = row-most (r .ground .rooted) (r .recording)
 
@@ -94,9 +116,10 @@ module _ {n : ℕ} {ends incident begins first order number last depth over befo
 
   -- an edge is left
   module _ (left : row < length ends / 2) where
-    abbrev pub nexting : Nexting ends incident begins first order number last over places below tops bottoms used next empty at slot
+    abbrev pub nexting : Nexting ends incident begins first order number last places below tips over next empty at slot
     nexting = record {
       n = n;
+      whole = whole;
       ground = r .ground;
       listing = r .listing;
       walks = r .walks;
@@ -106,28 +129,27 @@ module _ {n : ℕ} {ends incident begins first order number last depth over befo
     }
 
     module _ {f : ℕ} (h : Chosen (graph (plan n ends)) (treeOf n ends (read order 0) first (read number)) (allEdges (r .walks)) f) where
-      abbrev pub adding : Adding ends first number depth f row step next places below tops bottoms used now
+      abbrev pub adding : Adding ends first number f row step next places below tips over now
       adding = record {
         n = n;
         root = read order 0;
+        whole = whole;
         rooted = r .ground .rooted;
         walks = r .walks;
         before = before;
         recording = r .recording;
         chosen = h;
         number-long = r .ground .number-long;
-        depth-long = r .depth-long;
       }
 
     -- what is built stays so, and links without an inside stay without
-    pub going-then : {places' : List ℕ} (below' tops' bottoms' used' now' : List ℕ) {empty' at' slot' row' step' next' : ℕ}
-        → Behind n (read incident) (read begins) (read order) (read places) (read used) next empty' at' slot'
-        → Added n (read order 0) ends first (read number) (r .walks) before now' places places' below' tops' bottoms' used' row next row' step' next'
-        → Going n ends incident begins first order number last depth over before now' places' below' tops' bottoms' used' row' step' next' empty' at' slot'
-    going-then {places'} below' tops' bottoms' used' now' b a = record {
+    pub going-then : {places' : List ℕ} (below' tips' over' now' : List ℕ) {empty' at' slot' row' step' next' : ℕ}
+        → Behind n (read incident) (read begins) (read order) (read places) (read over) next empty' at' slot'
+        → Added n (read order 0) ends first (read number) whole (r .walks) before now' places places' below' tips' over' row next row' step' next'
+        → Going n ends incident begins first order number last whole before now' places' below' tips' over' row' step' next' empty' at' slot'
+    going-then {places'} below' tips' over' now' b a = record {
       ground = r .ground;
       listing = r .listing;
-      depth-long = r .depth-long;
       walks = a .legs ∷ r .walks;
       recording = a .recording;
       behind = record {
@@ -142,10 +164,10 @@ module _ {n : ℕ} {ends incident begins first order number last depth over befo
       };
     }
       where
-        still : (e : ℕ) → Marked (read used) e → Marked (read used') e
-        still e m z = elim (in-dec e (allEdges (r .walks))) [
-          | yes i ↦ omega (arith, z, a .recording .holds .uses .on e (in-right (edgesOf (a .legs)) i))
-          | no o ↦ m (r .recording .holds .uses .off e o)
+        still : (e : ℕ) → read over e ≡ 0 → read over' e ≡ 0
+        still e z = elim (in-dec e (allEdges (a .legs ∷ r .walks))) [
+          | yes i ↦ a .recording .holds .uses .on e i
+          | no o ↦ a .recording .holds .uses .off e o ∙ sym (r .recording .holds .uses .off e (λ i. o (in-right (edgesOf (a .legs)) i))) ∙ z
         ]
 
   -- every edge is built
@@ -159,8 +181,8 @@ module _ {n : ℕ} {ends incident begins first order number last depth over befo
   }
 
 -- the cursors at first
-module _ {ends incident begins first order number last depth over places below tops bottoms used now : List ℕ} {row step next : ℕ}
-    (c : Finishing ends incident begins first order number last depth over places below tops bottoms used now row step next) where
+module _ {ends incident begins first order number last places below tips over now : List ℕ} {row step next : ℕ}
+    (c : Finishing ends incident begins first order number last places below tips over now row step next) where
   some-vertex : 0 < c .n
   some-vertex = omega (arith, c .ground .rooted .admitted .two)
 
@@ -174,11 +196,10 @@ module _ {ends incident begins first order number last depth over places below t
   begins-room = omega (arith, top-below, c .ground .grouped .room)
 
   pub going-first : {empty at slot : ℕ} → empty ≡ 2 → at ≡ 0 → slot ≡ read begins (read order 0)
-      → Going (c .n) ends incident begins first order number last depth over (c .before) now places below tops bottoms used row step next empty at slot
+      → Going (c .n) ends incident begins first order number last (c .whole) (c .before) now places below tips over row step next empty at slot
   going-first {empty} {at} {slot} p q u = record {
     ground = c .ground;
     listing = c .listing;
-    depth-long = c .depth-long;
     walks = c .walks;
     recording = c .recording;
     behind = rw p (rw q (rw u (record {
@@ -191,41 +212,4 @@ module _ {ends incident begins first order number last depth over places below t
       passed = λ i k h. absurd (omega (arith, h));
       before = λ k a b. absurd (omega (arith, a, b));
     })));
-  }
-
--- The first three walks.
-
-module _ {ends incident begins first order number last depth over places below tops bottoms used : List ℕ} {room : ℕ}
-    (c : Ready ends incident begins first order number last depth over places below tops bottoms used room) where
-  abbrev pub beginning : Beginning ends incident begins first order number last places below tops bottoms used room
-  beginning = record {
-    n = c .n;
-    over = over;
-    ground = c .ground;
-    listing = c .listing;
-    places-blank = c .places-blank;
-    below-blank = c .below-blank;
-    used-blank = c .used-blank;
-    roomy = c .roomy;
-    used-long = c .used-long;
-    fits = c .fits;
-  }
-
-  abbrev pub finishing : (before now places' below' tops' bottoms' used' : List ℕ) {count next : ℕ} → length before ≡ room
-      → Begun (c .n) (read order 0) ends first (read number) before now places' below' tops' bottoms' used' count next
-      → Finishing ends incident begins first order number last depth over places' below' tops' bottoms' used' now count 3 next
-  finishing before now places' below' tops' bottoms' used' p b = record {
-    n = c .n;
-    before = before;
-    ground = c .ground;
-    listing = c .listing;
-    depth-long = c .depth-long;
-    walks = b .walks;
-    recording = record {
-      holds = b .holds;
-      written = b .written;
-      row-is = b .count;
-      step-is = sym (b .three);
-      fits = omega (arith, c .fits, p);
-    };
   }

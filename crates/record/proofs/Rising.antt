@@ -135,9 +135,9 @@ module _ {ends first before now : List ℕ} {v stop m at : ℕ} {w : Way ends fi
 
 -- Edges, and who is below whom.
 
-pub record Lifts {ends first : List ℕ} {v stop : ℕ} (w : Way ends first v stop) (below used below' used' : List ℕ) (top at : ℕ) : Type 0 where
+pub record Lifts {ends first : List ℕ} {v stop : ℕ} (w : Way ends first v stop) (below over below' over' : List ℕ) (top at : ℕ) : Type 0 where
   pub on : Onward w at
-  pub sets : Sets (edgesOf (on .done)) 1 used used'
+  pub sets : Sets (edgesOf (on .done)) 0 over over'
   pub long : length below' ≡ length below
   pub leads : (y : ℕ) → In y (froms (on .done)) → In (nextUp ends first y) (froms (on .done)) ⊎ (nextUp ends first y ≡ at)
   pub noted : (y : ℕ) → In y (froms (on .done)) → read below' (nextUp ends first y) ≡ suc y
@@ -146,13 +146,13 @@ pub record Lifts {ends first : List ℕ} {v stop : ℕ} (w : Way ends first v st
   pub top-up : 1 ≤ length (on .done) → nextUp ends first top ≡ at
 
 abbrev pub LiftsAll : List ℕ → List ℕ → ℕ → ℕ → List ℕ → List ℕ → List ℕ → List ℕ → ℕ → ℕ → Type 0
-LiftsAll ends first v stop below used below' used' top at =
-    (c : Raising ends first v stop (length below) (length used)) → Lifts (c .way) below used below' used' top at
+LiftsAll ends first v stop below over below' over' top at =
+    (c : Raising ends first v stop (length below) (length over)) → Lifts (c .way) below over below' over' top at
 
-pub lifts-start : (ends first below used : List ℕ) (v stop : ℕ) → LiftsAll ends first v stop below used below used v v
-lifts-start ends first below used v stop = λ c. record {
+pub lifts-start : (ends first below over : List ℕ) (v stop : ℕ) → LiftsAll ends first v stop below over below over v v
+lifts-start ends first below over v stop = λ c. record {
   on = onward-start (c .way);
-  sets = sets-none 1 used;
+  sets = sets-none 0 over;
   long = refl;
   leads = λ y i. absurd (not-in i);
   noted = λ y i. absurd (not-in i);
@@ -161,20 +161,20 @@ lifts-start ends first below used v stop = λ c. record {
   top-up = λ h. absurd (omega (arith, h));
 }
 
-module _ {ends first below used below' used' : List ℕ} {v stop top at : ℕ} {w : Way ends first v stop} (r : Lifts w below used below' used' top at) where
-  pub lifts-end : at ≡ stop → Raised ends first (w .legs) stop (read below) (read used) (read below') (read used') top
+module _ {ends first below over below' over' : List ℕ} {v stop top at : ℕ} {w : Way ends first v stop} (r : Lifts w below over below' over' top at) where
+  pub lifts-end : at ≡ stop → Raised ends first (w .legs) stop (read below) (read over) (read below') (read over') top
   lifts-end p =
-      subst (λ (l : List Leg). Raised ends first l stop (read below) (read used) (read below') (read used') top) (sym (onward-end (r .on) p))
+      subst (λ (l : List Leg). Raised ends first l stop (read below) (read over) (read below') (read over') top) (sym (onward-end (r .on) p))
       (record {
         noted = r .noted;
         below-off = r .away;
-        used-on = r .sets .new;
-        used-off = r .sets .away;
+        over-on = r .sets .new;
+        over-off = r .sets .away;
         top-on = r .top-on;
         top-up = λ h. r .top-up h ∙ p;
       })
 
-  module _ (d : at ≡ stop → ⊥) (room : w .n ≤ length below) (edges : length ends / 2 ≤ length used) where
+  module _ (d : at ≡ stop → ⊥) (room : w .n ≤ length below) (edges : length ends / 2 ≤ length over) where
     abbrev step : Onward w (nextUp ends first at)
     step = onward-step (r .on) d
 
@@ -182,10 +182,10 @@ module _ {ends first below used below' used' : List ℕ} {v stop top at : ℕ} {
     leads-new : (y : ℕ) → In y (froms (r .on .done)) → nextUp ends first y ≡ nextUp ends first at → ⊥
     leads-new y i p = onward-new step (step-done (r .on) (elim (r .leads y i) [ inl j ↦ inl (Memᴰ·cast (sym p) j) | inr q ↦ inr (sym p ∙ q) ]))
 
-    pub lifts-step : Lifts w below used (set below' (nextUp ends first at) (at + 1)) (set used' (read first at - 1) 1) at (nextUp ends first at)
+    pub lifts-step : Lifts w below over (set below' (nextUp ends first at) (at + 1)) (set over' (read first at - 1) 0) at (nextUp ends first at)
     lifts-step = let o = onward-next (r .on) d in let to = nextUp ends first at in record {
       on = step;
-      sets = subst (λ (l : List ℕ). Sets l 1 used (set used' (read first at - 1) 1)) (sym (edges-snoc (r .on .done) (leg (read first at - 1) at)))
+      sets = subst (λ (l : List ℕ). Sets l 0 over (set over' (read first at - 1) 0)) (sym (edges-snoc (r .on .done) (leg (read first at - 1) at)))
           (sets-more (read first at - 1) (omega (arith, o .edge, edges)) (r .sets));
       long = length-set below' to (at + 1) ∙ r .long;
       leads = λ y i. elim (step-cases (r .on) i) [

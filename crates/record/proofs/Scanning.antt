@@ -1,17 +1,17 @@
 -- The search for an edge that is not built, turn by turn.
-use mathlib.Core.Path.{subst}
+use mathlib.Core.Path.{_≡_, subst}
 use mathlib.Core.List.{List}
 use Prim.Native.Nat.{ℕ, _+_, _≤_, _<_}
 use native.Mathlib.Omega.{arith}
 use native.Mathlib.Decide.{ℕ-discrete, decLt}
 use lib.ListN.{length}
-use Rattle.graph.specs.Marks.{read, Marked}
+use Rattle.graph.specs.Marks.{read}
 use Rattle.graph.proofs.Joined.{joins-edge}
 use Rattle.record.specs.Cursors.{NextSlot, Slots, Ahead, Opening, Opened, Scanned}
 
-module _ {incident begins order used : List ℕ} {at slot : ℕ} (c : Opening incident begins order used at slot) where
+module _ {incident begins order over : List ℕ} {at slot : ℕ} (c : Opening incident begins order over at slot) where
   abbrev State : ℕ → ℕ → Type 0
-  State i from = Scanned (read incident) (read begins) (read order) (read used) at slot (c .n) i from
+  State i from = Scanned (read incident) (read begins) (read order) (read over) at slot (c .n) i from
 
   abbrev At : ℕ → ℕ → Type 0
   At i k = Ahead (read order) (read begins) at slot (c .n) i k
@@ -35,21 +35,21 @@ module _ {incident begins order used : List ℕ} {at slot : ℕ} (c : Opening in
     pub scanned-vertex : (read order i < c .n) × (i < length order) × (read order i + 1 < length begins)
     scanned-vertex = let v = c .valid i (s .most) in (v, omega (arith, s .most, c .order-long), omega (arith, v, c .grouped .room))
 
-    pub scanned-slots : Slots incident (length used) from end
+    pub scanned-slots : Slots incident (length over) from end
     scanned-slots =
         let v = c .valid i (s .most) in
         record {
           low = s .high;
           long = omega (arith, c .grouped .inside (read order i) v, c .grouped .long);
-          edges = λ k a b. let j = c .grouped .joins (read order i) k v (omega (arith, s .low)) b in omega (arith, joins-edge (c .n) (c .ends) (read incident k) (read order i) (j .0) (j .1), c .used-long);
+          edges = λ k a b. let j = c .grouped .joins (read order i) k v (omega (arith, s .low)) b in omega (arith, joins-edge (c .n) (c .ends) (read incident k) (read order i) (j .0) (j .1), c .over-long);
         }
 
-    module _ {r : ℕ} (t : NextSlot (read incident) (read used) from end r) where
+    module _ {r : ℕ} (t : NextSlot (read incident) (read over) from end r) where
       -- up to where the search of the group ended all is built
-      up-to : (k : ℕ) → At i k → k < r → Marked (read used) (read incident k)
+      up-to : (k : ℕ) → At i k → k < r → read over (read incident k) ≡ 0
       up-to k a l = elim (decLt k from) [ yes h ↦ s .before k a h | no h ↦ t .built k (omega arith) l ]
 
-      pub scanned-end : r < end → Opened (read incident) (read begins) (read order) (read used) at slot (c .n) i r
+      pub scanned-end : r < end → Opened (read incident) (read begins) (read order) (read over) at slot (c .n) i r
       scanned-end l = record {
         here = record { least = s .least; most = s .most; from = omega (arith, s .low, t .least); to = l; after = λ q. omega (arith, s .after q, t .least) };
         new = t .new l;
@@ -58,7 +58,7 @@ module _ {incident begins order used : List ℕ} {at slot : ℕ} (c : Opening in
       }
 
       module _ (whole : end ≤ r) where
-        passed : (j k : ℕ) → At j k → j < i + 1 → Marked (read used) (read incident k)
+        passed : (j k : ℕ) → At j k → j < i + 1 → read over (read incident k) ≡ 0
         passed j k a l = elim (ℕ-discrete j i) [
           | yes q ↦ let b : At i k = subst (λ (x : ℕ). At x k) q a in up-to k b (omega (arith, b .to))
           | no h ↦ s .passed j k a (omega arith)

@@ -25,7 +25,7 @@ use Rattle.graph.specs.Marks.{read}
 use Rattle.graph.proofs.Joined.{vertex-below, joins-edge}
 use Rattle.record.specs.Ways.{Toward, MetFirst, OneMore, OverUp, Written, Ended, upperEnd, farEnd}
 use Rattle.record.specs.Standing.{Rooted, treeOf}
-use Rattle.record.specs.Linking.{Filing, Splitting, Ending, BothParted, BothBy, Building, Walked, WalkedBy}
+use Rattle.record.specs.Linking.{topOf, bottomOf, Filing, Splitting, Ending, BothParted, BothBy, Building, Walked, WalkedBy}
 use Rattle.record.specs.Leaving.{Uses}
 use Rattle.record.specs.Recording.{Holds, Stepping, Stepped}
 use Rattle.record.proofs.Upper.{ended, back-upper, back-lower}
@@ -34,8 +34,8 @@ use Rattle.record.proofs.Ending.{filing-both, both-on, both-off, both-b
 use Rattle.record.proofs.Counting.{done-most}
 
 -- what the places say of a state
-module _ {n root : ℕ} {ends first : List ℕ} {rank : ℕ → ℕ} {walks : List (List Leg)} {places below tops bottoms used : List ℕ} {next : ℕ}
-    (rooted : Rooted n ends root first rank) (h : Holds n root ends first rank walks places below tops bottoms used next) where
+module _ {n root : ℕ} {ends first : List ℕ} {rank whole : ℕ → ℕ} {walks : List (List Leg)} {places below tips over : List ℕ} {next : ℕ}
+    (rooted : Rooted n ends root first rank) (h : Holds n root ends first rank whole walks places below tips over next) where
   branch-built : (v : ℕ) → Branch (graph (plan n ends)) (allEdges walks) v → Built (graph (plan n ends)) (allEdges walks) v
   branch-built v b = omega (arith, b)
 
@@ -45,7 +45,7 @@ module _ {n root : ℕ} {ends first : List ℕ} {rank : ℕ → ℕ} {walks : Li
   pub built-holds : (v : ℕ) → 1 ≤ read places v → Built (graph (plan n ends)) (allEdges walks) v
   built-holds v b = h .state .filed .built v b
 
-  pub holds-filing : Filing n root ends first rank below places tops bottoms next
+  pub holds-filing : Filing n root ends first rank below places tips next
   holds-filing = record {
     rooted = rooted;
     shelved = filed-own (h .state .filed) branch-built;
@@ -54,8 +54,8 @@ module _ {n root : ℕ} {ends first : List ℕ} {rank : ℕ → ℕ} {walks : Li
     roomy = h .roomy;
   }
 
-module _ {ends first number depth : List ℕ} {f next : ℕ} {places below tops bottoms used : List ℕ} {room : ℕ}
-    (c : Stepping ends first number depth f next places below tops bottoms used room) where
+module _ {ends first number : List ℕ} {f next : ℕ} {places below tips over : List ℕ} {room : ℕ}
+    (c : Stepping ends first number f next places below tips over room) where
   abbrev pub g : Graph
   g = graph (plan (c .n) ends)
 
@@ -126,13 +126,13 @@ module _ {ends first number depth : List ℕ} {f next : ℕ} {places below tops 
   one-more = record { way = climb-way (c .rooted) (climb .2) lower-below; fits = some-room }
 
   -- both ends become branches
-  pub filing : Filing (c .n) (c .root) ends first (read number) below places tops bottoms next
+  pub filing : Filing (c .n) (c .root) ends first (read number) below places tips next
   filing = holds-filing (c .rooted) (c .holds)
 
   pub upper-built : 1 ≤ read places (c .chosen .upper)
   upper-built = holds-built (c .rooted) (c .holds) (c .chosen .upper) (path .begins)
 
-  abbrev pub splitting-upper : Splitting ends first below depth (c .chosen .upper) next places tops bottoms
+  abbrev pub splitting-upper : Splitting ends first below (c .chosen .upper) next places tips
   splitting-upper = record {
     n = c .n;
     root = c .root;
@@ -140,24 +140,23 @@ module _ {ends first number depth : List ℕ} {f next : ℕ} {places below tops 
     filing = filing;
     vertex = below-n (c .chosen .upper) (path .begins);
     built = upper-built;
-    depth-long = c .depth-long;
   }
 
-  abbrev pub ending : Ending ends first below depth (c .chosen .upper) end next places tops bottoms
+  abbrev pub ending : Ending ends first below (c .chosen .upper) end next places tips
   ending = record { splitting = splitting-upper; vertex = below-n end (path .ends); built = holds-built (c .rooted) (c .holds) end (path .ends) }
 
   -- both are branches
-  module _ (places₂ tops₂ bottoms₂ : List ℕ) {next₂ : ℕ}
-      (both : BothParted g t (c .chosen .upper) end next (read places) (read places₂) (read tops₂) (read bottoms₂) next₂)
-      (same₂ : (length places₂ ≡ length places) × (length tops₂ ≡ length tops) × (length bottoms₂ ≡ length bottoms)) where
+  module _ (places₂ tips₂ : List ℕ) {next₂ : ℕ}
+      (both : BothParted g t (c .chosen .upper) end next (read places) (read places₂) (topOf tips₂) (bottomOf tips₂) next₂)
+      (same₂ : (length places₂ ≡ length places) × (length tips₂ ≡ length tips)) where
     marked-upper : Marked g t (λ v. Branch g built v) (read places) (both .middle) (c .chosen .upper)
     marked-upper = marked-map (λ p. c .holds .state .filed .branch (c .chosen .upper) p) (both .marked-one)
 
     marked-end : Marked g t (λ v. Branch g built v ⊎ (v ≡ c .chosen .upper)) (both .middle) (read places₂) end
     marked-end = marked-map (λ p. filed-marked (c .rooted .tree) (c .holds .state .filed) marked-upper .branch end p) (both .marked-two)
 
-    pub filing-two : Filing (c .n) (c .root) ends first (read number) below places₂ tops₂ bottoms₂ next₂
-    filing-two = filing-both places₂ tops₂ bottoms₂ filing upper-built (ending .built) both (same₂ .0) (same₂ .1) (same₂ .2)
+    pub filing-two : Filing (c .n) (c .root) ends first (read number) below places₂ tips₂ next₂
+    filing-two = filing-both places₂ tips₂ filing upper-built (ending .built) both (same₂ .0) (same₂ .1)
 
     pub on-two : (v : ℕ) → Built g built v → 1 ≤ read places₂ v
     on-two v b = both-on (c .rooted .tree) (filing .shelved) upper-built (ending .built) both (holds-built (c .rooted) (c .holds) v b)
@@ -165,7 +164,7 @@ module _ {ends first number depth : List ℕ} {f next : ℕ} {places below tops 
     pub off-two : (v : ℕ) → 1 ≤ read places₂ v → Built g built v
     off-two v b = built-holds (c .rooted) (c .holds) v (both-off (c .rooted .tree) (filing .shelved) upper-built (ending .built) both b)
 
-    abbrev pub building : Building ends first f (c .chosen .lower) end next₂ places₂ below tops₂ bottoms₂ used
+    abbrev pub building : Building ends first f (c .chosen .lower) end next₂ places₂ below tips₂ over
     building = record {
       n = c .n;
       root = c .root;
@@ -177,29 +176,29 @@ module _ {ends first number depth : List ℕ} {f next : ℕ} {places below tops 
       from = lower-below;
       to = below-n end (path .ends);
       edge = joins-edge (c .n) ends f (c .chosen .upper) (c .chosen .lower) (c .chosen .back .joins);
-      used-long = c .holds .used-long;
+      over-long = c .holds .over-long;
     }
 
     -- the inside of the walk is a link
-    module _ (places₃ below₃ tops₃ bottoms₃ used₃ : List ℕ) {next₃ : ℕ}
-        (three : Walked g t f legs next₂ (read places₂) (read below) (read used) (read places₃) (read below₃) (read tops₃) (read bottoms₃) (read used₃) next₃)
-        (same₃ : (length places₃ ≡ length places₂) × (length below₃ ≡ length below) × (length tops₃ ≡ length tops₂) × (length bottoms₃ ≡ length bottoms₂) × (length used₃ ≡ length used)) where
-      uses-then : Uses (edgesOf (leg f (c .chosen .upper) ∷ legs) ++ built) (read used₃)
+    module _ (places₃ below₃ tips₃ over₃ : List ℕ) {next₃ : ℕ}
+        (three : Walked g t f legs next₂ (read places₂) (read below) (read over) (read places₃) (read below₃) (topOf tips₃) (bottomOf tips₃) (read over₃) next₃)
+        (same₃ : (length places₃ ≡ length places₂) × (length below₃ ≡ length below) × (length tips₃ ≡ length tips₂) × (length over₃ ≡ length over)) where
+      uses-then : Uses (edgesOf (leg f (c .chosen .upper) ∷ legs) ++ built) (c .whole) (read over₃)
       uses-then = record {
         on = λ e i. elim (in-cons i) [
-          | inl p ↦ subst (λ (x : ℕ). read used₃ x ≡ 1) (sym p) (three .used-edge)
+          | inl p ↦ subst (λ (x : ℕ). read over₃ x ≡ 0) (sym p) (three .over-edge)
           | inr j ↦ elim (in-dec e (edgesOf legs)) [
-            | yes k ↦ three .used-on e k
+            | yes k ↦ three .over-on e k
             | no k ↦ elim (ℕ-discrete e f) [
-              | yes p ↦ subst (λ (x : ℕ). read used₃ x ≡ 1) (sym p) (three .used-edge)
-              | no p ↦ three .used-off e p k ∙ c .holds .uses .on e (elim (in-cases (edgesOf legs) j) [ inl l ↦ absurd (k l) | inr l ↦ l ])
+              | yes p ↦ subst (λ (x : ℕ). read over₃ x ≡ 0) (sym p) (three .over-edge)
+              | no p ↦ three .over-off e p k ∙ c .holds .uses .on e (elim (in-cases (edgesOf legs) j) [ inl l ↦ absurd (k l) | inr l ↦ l ])
             ]
           ]
         ];
-        off = λ e m. three .used-off e (λ p. m (first-in p)) (λ i. m (later (in-left built i))) ∙ c .holds .uses .off e (λ i. m (later (in-right (edgesOf legs) i)));
+        off = λ e m. three .over-off e (λ p. m (first-in p)) (λ i. m (later (in-left built i))) ∙ c .holds .uses .off e (λ i. m (later (in-right (edgesOf legs) i)));
       }
 
-      holds-then : Holds (c .n) (c .root) ends first (read number) ((leg f (c .chosen .upper) ∷ legs) ∷ c .walks) places₃ below₃ tops₃ bottoms₃ used₃ next₃
+      holds-then : Holds (c .n) (c .root) ends first (read number) (c .whole) ((leg f (c .chosen .upper) ∷ legs) ∷ c .walks) places₃ below₃ tips₃ over₃ next₃
       holds-then = record {
         state = state-step (c .rooted .tree) (c .holds .state) (c .chosen .back) (c .chosen .new) (climb .2) path marked-upper marked-end (three .grown) (three .noted);
         links = three .links;
@@ -207,10 +206,9 @@ module _ {ends first number depth : List ℕ} {f next : ℕ} {places below tops 
         roomy = record {
           below-long = omega (arith, same₃ .1, filing-two .roomy .below-long);
           places-long = omega (arith, same₃ .0, filing-two .roomy .places-long);
-          tops-long = omega (arith, same₃ .2, filing-two .roomy .tops-long);
-          bottoms-long = omega (arith, same₃ .3, filing-two .roomy .bottoms-long);
+          tips-long = omega (arith, same₃ .2, filing-two .roomy .tips-long);
         };
-        used-long = omega (arith, same₃ .4, c .holds .used-long);
+        over-long = omega (arith, same₃ .3, c .holds .over-long);
       }
 
       gone-then : (m : ℕ) → 2 ≤ m → m < next → ((y : ℕ) → read places y ≡ m → ⊥) → (y : ℕ) → read places₃ y ≡ m → ⊥
@@ -221,7 +219,7 @@ module _ {ends first number depth : List ℕ} {f next : ℕ} {places below tops 
 
       pub stepped : {step count : ℕ} {before after : List ℕ} → next₂ ≤ next₃
           → Written (stepRows step (leg f (c .chosen .upper) ∷ legs)) before after → count ≡ length legs + 1
-          → Stepped (c .n) (c .root) ends first (read number) (c .walks) step next before after places places₃ below₃ tops₃ bottoms₃ used₃ count next₃
+          → Stepped (c .n) (c .root) ends first (read number) (c .whole) (c .walks) step next before after places places₃ below₃ tips₃ over₃ count next₃
       stepped d w q = record {
         legs = leg f (c .chosen .upper) ∷ legs;
         holds = holds-then;
@@ -233,8 +231,8 @@ module _ {ends first number depth : List ℕ} {f next : ℕ} {places below tops 
       }
 
 -- what each part of a step asks, at the vertices that the parts before have found
-module _ {ends first number depth : List ℕ} {f next s w : ℕ} {places below tops bottoms used : List ℕ} {room : ℕ}
-    (d : Stepping ends first number depth f next places below tops bottoms used room) (p : s ≡ upperEnd ends number f) (q : w ≡ farEnd ends f s) where
+module _ {ends first number : List ℕ} {f next s w : ℕ} {places below tips over : List ℕ} {room : ℕ}
+    (d : Stepping ends first number f next places below tips over room) (p : s ≡ upperEnd ends number f) (q : w ≡ farEnd ends f s) where
   is-upper : s ≡ d .chosen .upper
   is-upper = p ∙ upper-at d
 
@@ -252,45 +250,45 @@ module _ {ends first number depth : List ℕ} {f next s w : ℕ} {places below t
     one-more-at = subst (λ (y : ℕ). OneMore ends first y x room) (sym is-lower)
         (subst (λ (y : ℕ). OneMore ends first (d .chosen .lower) y room) (sym is-end) (one-more d))
 
-    pub ending-at : Ending ends first below depth s x next places tops bottoms
-    ending-at = subst (λ (y : ℕ). Ending ends first below depth y x next places tops bottoms) (sym is-upper)
-        (subst (λ (y : ℕ). Ending ends first below depth (d .chosen .upper) y next places tops bottoms) (sym is-end) (ending d))
+    pub ending-at : Ending ends first below s x next places tips
+    ending-at = subst (λ (y : ℕ). Ending ends first below y x next places tips) (sym is-upper)
+        (subst (λ (y : ℕ). Ending ends first below (d .chosen .upper) y next places tips) (sym is-end) (ending d))
 
-    module _ (places₂ tops₂ bottoms₂ : List ℕ) {next₂ : ℕ} (e : BothBy ends first below depth s x next places tops bottoms places₂ tops₂ bottoms₂ next₂) where
-      both-by : BothBy ends first below depth (d .chosen .upper) (end d) next places tops bottoms places₂ tops₂ bottoms₂ next₂
+    module _ (places₂ tips₂ : List ℕ) {next₂ : ℕ} (e : BothBy ends first below s x next places tips places₂ tips₂ next₂) where
+      both-by : BothBy ends first below (d .chosen .upper) (end d) next places tips places₂ tips₂ next₂
       both-by = rw is-upper at (rw is-end at e)
 
-      both : BothParted (g d) (t d) (d .chosen .upper) (end d) next (read places) (read places₂) (read tops₂) (read bottoms₂) next₂
-      both = both-by .3 (ending d)
+      both : BothParted (g d) (t d) (d .chosen .upper) (end d) next (read places) (read places₂) (topOf tips₂) (bottomOf tips₂) next₂
+      both = both-by .2 (ending d)
 
-      same₂ : (length places₂ ≡ length places) × (length tops₂ ≡ length tops) × (length bottoms₂ ≡ length bottoms)
-      same₂ = (e .0, e .1, e .2)
+      same₂ : (length places₂ ≡ length places) × (length tips₂ ≡ length tips)
+      same₂ = (e .0, e .1)
 
-      pub building-at : Building ends first f w x next₂ places₂ below tops₂ bottoms₂ used
-      building-at = subst (λ (y : ℕ). Building ends first f y x next₂ places₂ below tops₂ bottoms₂ used) (sym is-lower)
-          (subst (λ (y : ℕ). Building ends first f (d .chosen .lower) y next₂ places₂ below tops₂ bottoms₂ used) (sym is-end)
-          (building d places₂ tops₂ bottoms₂ both same₂))
+      pub building-at : Building ends first f w x next₂ places₂ below tips₂ over
+      building-at = subst (λ (y : ℕ). Building ends first f y x next₂ places₂ below tips₂ over) (sym is-lower)
+          (subst (λ (y : ℕ). Building ends first f (d .chosen .lower) y next₂ places₂ below tips₂ over) (sym is-end)
+          (building d places₂ tips₂ both same₂))
 
 -- the parts of a step, one after the other
-module _ {ends first number depth : List ℕ} {f next : ℕ} (step count : ℕ) {places below tops bottoms used : List ℕ} (rows : List ℕ)
-    (places₂ tops₂ bottoms₂ places₃ below₃ tops₃ bottoms₃ used₃ rows₃ : List ℕ) {s w x next₂ next₃ : ℕ}
+module _ {ends first number : List ℕ} {f next : ℕ} (step count : ℕ) {places below tips over : List ℕ} (rows : List ℕ)
+    (places₂ tips₂ places₃ below₃ tips₃ over₃ rows₃ : List ℕ) {s w x next₂ next₃ : ℕ}
     (p : s ≡ upperEnd ends number f) (q : w ≡ farEnd ends f s) (m : MetFirst ends first places w x)
     (r : OverUp ends first f s w x step rows rows₃ count)
-    (e : BothBy ends first below depth s x next places tops bottoms places₂ tops₂ bottoms₂ next₂)
-    (k : WalkedBy ends first f w x next₂ places₂ below tops₂ bottoms₂ used places₃ below₃ tops₃ bottoms₃ used₃ next₃)
-    (d : Stepping ends first number depth f next places below tops bottoms used (length rows)) where
-  walked-by : WalkedBy ends first f (d .chosen .lower) (end d) next₂ places₂ below tops₂ bottoms₂ used places₃ below₃ tops₃ bottoms₃ used₃ next₃
+    (e : BothBy ends first below s x next places tips places₂ tips₂ next₂)
+    (k : WalkedBy ends first f w x next₂ places₂ below tips₂ over places₃ below₃ tips₃ over₃ next₃)
+    (d : Stepping ends first number f next places below tips over (length rows)) where
+  walked-by : WalkedBy ends first f (d .chosen .lower) (end d) next₂ places₂ below tips₂ over places₃ below₃ tips₃ over₃ next₃
   walked-by = rw (is-lower d p q) at (rw (is-end d p q m) at k)
 
   written-by : OverUp ends first f (d .chosen .upper) (d .chosen .lower) (end d) step rows rows₃ count
   written-by = rw (is-upper d p q) at (rw (is-lower d p q) at (rw (is-end d p q m) at r))
 
-  walked : Walked (g d) (t d) f (legs d) next₂ (read places₂) (read below) (read used) (read places₃) (read below₃) (read tops₃) (read bottoms₃) (read used₃) next₃ × (next₂ ≤ next₃)
-  walked = walked-by .5 (building d places₂ tops₂ bottoms₂ (both d p q m places₂ tops₂ bottoms₂ e) (same₂ d p q m places₂ tops₂ bottoms₂ e))
+  walked : Walked (g d) (t d) f (legs d) next₂ (read places₂) (read below) (read over) (read places₃) (read below₃) (topOf tips₃) (bottomOf tips₃) (read over₃) next₃ × (next₂ ≤ next₃)
+  walked = walked-by .4 (building d places₂ tips₂ (both d p q m places₂ tips₂ e) (same₂ d p q m places₂ tips₂ e))
 
   written : Written (stepRows step (leg f (d .chosen .upper) ∷ legs d)) rows rows₃ × (count ≡ length (legs d) + 1)
   written = written-by (one-more d)
 
-  pub stepped-by : Stepped (d .n) (d .root) ends first (read number) (d .walks) step next rows rows₃ places places₃ below₃ tops₃ bottoms₃ used₃ count next₃
-  stepped-by = stepped d places₂ tops₂ bottoms₂ (both d p q m places₂ tops₂ bottoms₂ e) (same₂ d p q m places₂ tops₂ bottoms₂ e) places₃ below₃ tops₃ bottoms₃ used₃
-      (walked .0) (k .0, k .1, k .2, k .3, k .4) (walked .1) (written .0) (written .1)
+  pub stepped-by : Stepped (d .n) (d .root) ends first (read number) (d .whole) (d .walks) step next rows rows₃ places places₃ below₃ tips₃ over₃ count next₃
+  stepped-by = stepped d places₂ tips₂ (both d p q m places₂ tips₂ e) (same₂ d p q m places₂ tips₂ e) places₃ below₃ tips₃ over₃
+      (walked .0) (k .0, k .1, k .2, k .3) (walked .1) (written .0) (written .1)

@@ -13,12 +13,12 @@ use Rattle.cuts.specs.Answered.{Answered}
 use Rattle.cuts.specs.Verdict.{handed, lowestHanded}
 use Rattle.cuts.proofs.Serving.{answered-own, uncut-passed, served-tabled, served-tables}
 use Rattle.record.specs.Standing.{Listed, Ground}
-use Rattle.record.specs.Numbers.{Ordering, Numbered, Deepening, Lowering}
-use Rattle.record.specs.Recording.{Sturdy}
+use Rattle.record.specs.Numbers.{Ordering, Numbered, Lowering}
+use Rattle.record.specs.Recording.{Sturdy, Beginning, Begun}
 use Rattle.record.specs.Tabling.{Searched, Numbering}
-use Rattle.record.specs.Progress.{Ready}
+use Rattle.record.specs.Progress.{Finishing, Ready}
 use Rattle.record.proofs.Grouping.{grouped-from}
-use Rattle.record.proofs.Grounding.{ordering, listing, deepening, lowering}
+use Rattle.record.proofs.Grounding.{ordering, listing, lowering}
 
 -- a table of which nothing is set
 pub long : (k : ℕ) → length (replicate {A = ℕ} k 0) ≡ k
@@ -64,7 +64,7 @@ searched {n} {room} {ends} {incident} {begins} {first} {order} {l} a q u =
     }
 
 -- the numbers
-module _ {n : ℕ} {ends incident begins first order over : List ℕ} {number last depth : ℕ} (c : Numbering n ends incident begins first order over number last depth) where
+module _ {n : ℕ} {ends incident begins first order over : List ℕ} {number last : ℕ} (c : Numbering n ends incident begins first order over number last) where
   abbrev s : Searched n ends incident begins first order
   s = c .searched
 
@@ -72,9 +72,6 @@ module _ {n : ℕ} {ends incident begins first order over : List ℕ} {number la
   ordered = ordering (s .tabled) (s .three) (s .live) (s .clear) (s .found) (s .order-long) (c .number-long) (c .last-long)
 
   module _ {number' last' : List ℕ} (numbered : Numbered n order number' last') where
-    pub deep : Deepening n ends first order depth
-    deep = deepening (s .tabled) (s .three) (s .live) (s .clear) (s .found) numbered (s .first-long) (s .order-long) (c .depth-long)
-
     pub lowers : length number' ≡ number → length last' ≡ last → Lowering n ends incident begins first order number' last' over
     lowers p q = lowering (s .tabled) (s .three) (s .live) (s .clear) (s .found) numbered (s .grouped) (s .first-long) (s .order-long) (omega (arith, p, c .number-long))
         (omega (arith, q, c .last-long)) (c .over-long) (c .blank)
@@ -86,34 +83,51 @@ module _ {n : ℕ} {ends incident begins first order over : List ℕ} {number la
 
 module _ {n : ℕ} {ends incident begins first order : List ℕ} {room : ℕ} (u : Sturdy n ends room) (s : Searched n ends incident begins first order) where
   pub numbering : Numbering n ends incident begins first order (replicate (limits .edges) 0) (length (replicate {A = ℕ} (limits .vertices) 0)) (length (replicate {A = ℕ} (limits .vertices) 0))
-      (length (replicate {A = ℕ} (limits .vertices) 0))
   numbering = record {
     searched = s;
     blank = λ e. zeros (limits .edges) e;
     number-long = omega (arith, u .admitted .vertices, long (limits .vertices));
     last-long = omega (arith, u .admitted .vertices, long (limits .vertices));
-    depth-long = omega (arith, u .admitted .vertices, long (limits .vertices));
     over-long = omega (arith, u .admitted .edges, long (limits .edges));
   }
 
-  abbrev pub ready : {number last over : List ℕ} (depth : List ℕ) → Ground n (read order 0) ends incident begins first number last over × Listed n (read order 0) order number
-      → length depth ≡ length (replicate {A = ℕ} (limits .vertices) 0)
-      → Ready ends incident begins first order number last depth over (replicate (limits .vertices) 0) (replicate (limits .vertices) 0)
-      (replicate (limits .vertices + 2) 0) (replicate (limits .vertices + 2) 0) (replicate (limits .edges) 0) room
-  ready depth g d = record {
+  abbrev pub ready : {number last : List ℕ} (over : List ℕ)
+      → Ground n (read order 0) ends incident begins first number last (read over) × Listed n (read order 0) order number × (length over ≡ length (replicate {A = ℕ} (limits .edges) 0))
+      → Ready ends incident begins first order number last over room
+  ready over g = record {
     n = n;
     ground = g .0;
     listing = g .1;
-    depth-long = omega (arith, d, u .admitted .vertices, long (limits .vertices));
+    over-long = omega (arith, g .2, u .admitted .edges, long (limits .edges));
+    fits = u .fits;
+  }
+
+module _ {ends incident begins first order number last over : List ℕ} {room : ℕ} (c : Ready ends incident begins first order number last over room) where
+  abbrev pub beginning : Beginning ends incident begins first order number last (replicate (limits .vertices) 0) (replicate (limits .vertices) 0) (replicate (2 * (limits .vertices + 2)) 0) over room
+  beginning = record {
+    n = c .n;
+    ground = c .ground;
+    listing = c .listing;
     places-blank = λ v. zeros (limits .vertices) v;
     below-blank = λ v. zeros (limits .vertices) v;
-    used-blank = λ e. zeros (limits .edges) e;
     roomy = record {
-      below-long = omega (arith, u .admitted .vertices, long (limits .vertices));
-      places-long = omega (arith, u .admitted .vertices, long (limits .vertices));
-      tops-long = omega (arith, u .admitted .vertices, long (limits .vertices + 2));
-      bottoms-long = omega (arith, u .admitted .vertices, long (limits .vertices + 2));
+      below-long = omega (arith, c .ground .rooted .admitted .vertices, long (limits .vertices));
+      places-long = omega (arith, c .ground .rooted .admitted .vertices, long (limits .vertices));
+      tips-long = omega (arith, c .ground .rooted .admitted .vertices, long (2 * (limits .vertices + 2)));
     };
-    used-long = omega (arith, u .admitted .edges, long (limits .edges));
-    fits = u .fits;
+    over-long = c .over-long;
+    fits = c .fits;
+  }
+
+  abbrev pub finishing : (before now places below tips over' : List ℕ) {row step next : ℕ}
+      → Begun (c .n) (read order 0) ends first (read number) (read over) before now places below tips over' row step next
+      → Finishing ends incident begins first order number last places below tips over' now row step next
+  finishing before now places below tips over' b = record {
+    n = c .n;
+    whole = read over;
+    before = before;
+    ground = c .ground;
+    listing = c .listing;
+    walks = b .walks;
+    recording = b .recording;
   }

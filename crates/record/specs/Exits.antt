@@ -34,30 +34,28 @@ pub record Testing (ends number places : List ℕ) (f : ℕ) : Type 0 where
   pub lower : farEnd ends f (upperEnd ends number f) < length number
 
 -- what `exit_at` asks of an edge
-pub record Reading (ends number over places : List ℕ) (used e : ℕ) : Type 0 where
-  pub used-long : e < used
-  pub over-long : e < length over
-  pub some : 1 ≤ read over e
-  pub test : Testing ends number places (read over e - 1)
+pub record Reading (ends number places over : List ℕ) (e : ℕ) : Type 0 where
+  pub long : e < length over
+  pub test : 1 ≤ read over e → Testing ends number places (read over e - 1)
 
 -- what `exit_at` asks: v and each edge of its group stand in the tables
-pub record Looking (ends incident begins number over places : List ℕ) (used v : ℕ) : Type 0 where
+pub record Looking (ends incident begins number places over : List ℕ) (v : ℕ) : Type 0 where
   pub room : v + 1 < length begins
   pub inside : read begins (v + 1) ≤ length incident
   pub own : v < length places
-  pub each : (k : ℕ) → read begins v ≤ k → k < read begins (v + 1) → Reading ends number over places used (read incident k)
+  pub each : (k : ℕ) → read begins v ≤ k → k < read begins (v + 1) → Reading ends number places over (read incident k)
 
 -- an edge of the group of v that is not built
-pub record Free (incident begins used : ℕ → ℕ) (v k : ℕ) : Type 0 where
+pub record Free (incident begins over : ℕ → ℕ) (v k : ℕ) : Type 0 where
   pub from : begins v ≤ k
   pub to : k < begins (v + 1)
-  pub new : used (incident k) ≡ 0
+  pub new : 1 ≤ over (incident k)
 
 -- 0, and no edge at v that is not built passes the test, or what stands in `over` at one that does
-pub record ExitAt (ends incident begins number over places used : List ℕ) (v from to r : ℕ) : Type 0 where
-  pub none : r ≡ 0 → (k : ℕ) → Free (read incident) (read begins) (read used) v k
+pub record ExitAt (ends incident begins number places over : List ℕ) (v from to r : ℕ) : Type 0 where
+  pub none : r ≡ 0 → (k : ℕ) → Free (read incident) (read begins) (read over) v k
       → Passes ends number places (read over (read incident k) - 1) (read places v) from to → ⊥
-  pub some : (r ≡ 0 → ⊥) → (k : ℕ) × Free (read incident) (read begins) (read used) v k × (r ≡ read over (read incident k))
+  pub some : (r ≡ 0 → ⊥) → (k : ℕ) × Free (read incident) (read begins) (read over) v k × (r ≡ read over (read incident k))
       × Passes ends number places (read over (read incident k) - 1) (read places v) from to
 
 -- of two ends, with x and y behind them, the one with less

@@ -13,25 +13,26 @@ use Rattle.tree.specs.State.{State}
 use Rattle.graph.specs.Marks.{read}
 use Rattle.record.specs.Standing.{Ground, treeOf}
 
--- the marks of the edges: 1 for each that is built, 0 for any other
-pub record Uses (built : List ℕ) (used : ℕ → ℕ) : Type 0 where
-  pub on : (e : ℕ) → In e built → used e ≡ 1
-  pub off : (e : ℕ) → (In e built → ⊥) → used e ≡ 0
+-- the table `over` while edges are built: 0 for each that is, for any other what stood there at first
+pub record Uses (built : List ℕ) (whole over : ℕ → ℕ) : Type 0 where
+  pub on : (e : ℕ) → In e built → over e ≡ 0
+  pub off : (e : ℕ) → (In e built → ⊥) → over e ≡ whole e
 
 -- what `leave_link` asks
-pub record Leaving (ends incident begins first number last over places below used : List ℕ) (top bottom : ℕ) : Type 0 where
+pub record Leaving (ends incident begins first number last places below over : List ℕ) (top bottom : ℕ) : Type 0 where
   pub n : ℕ
   pub root : ℕ
-  pub ground : Ground n root ends incident begins first number last over
+  pub whole : ℕ → ℕ
+  pub ground : Ground n root ends incident begins first number last whole
   pub walks : List (List Leg)
   pub state : State (graph (plan n ends)) (treeOf n ends root first (read number)) walks (read places) (read below)
-  pub uses : Uses (allEdges walks) (read used)
+  pub uses : Uses (allEdges walks) whole (read over)
   pub link : ℕ
   pub large : 2 ≤ link
   pub tips : Tips (graph (plan n ends)) (treeOf n ends root first (read number)) (read places) link top bottom
   pub places-long : n ≤ length places
   pub below-long : n ≤ length below
-  pub used-long : length ends / 2 ≤ length used
+  pub over-long : length ends / 2 ≤ length over
 
 -- f, over an edge that is not built at a vertex of the link: its upper end lies at another place, or its lower end at or below the built child of the
 -- bottom
@@ -48,7 +49,7 @@ pub record Exit (g : Graph) (t : Pointers) (built : List ℕ) (over place below 
   pub back : Back g t f upper lower
   pub out : (place upper ≡ link → ⊥) ⊎ ((c : ℕ) × (below bottom ≡ suc c) × Above g t c lower)
 
-abbrev pub LeftBy : List ℕ → List ℕ → List ℕ → List ℕ → List ℕ → List ℕ → List ℕ → List ℕ → List ℕ → List ℕ → ℕ → ℕ → ℕ → Type 0
-LeftBy ends incident begins first number last over places below used top bottom r =
-    (c : Leaving ends incident begins first number last over places below used top bottom)
-    → Exit (graph (plan (c .n) ends)) (treeOf (c .n) ends (c .root) first (read number)) (allEdges (c .walks)) (λ e. read over e - 1) (read places) (read below) (c .link) bottom r
+abbrev pub LeftBy : List ℕ → List ℕ → List ℕ → List ℕ → List ℕ → List ℕ → List ℕ → List ℕ → List ℕ → ℕ → ℕ → ℕ → Type 0
+LeftBy ends incident begins first number last places below over top bottom r =
+    (c : Leaving ends incident begins first number last places below over top bottom)
+    → Exit (graph (plan (c .n) ends)) (treeOf (c .n) ends (c .root) first (read number)) (allEdges (c .walks)) (λ e. c .whole e - 1) (read places) (read below) (c .link) bottom r

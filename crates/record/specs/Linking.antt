@@ -1,8 +1,8 @@
 -- What splitting a link and building a walk ask and leave behind.
 use mathlib.Core.Path.{_≡_}
 use mathlib.Core.List.{List, List·Memᴰ as In}
-use Prim.Native.Nat.{ℕ, _+_, _/_, _≤_, _<_}
-use lib.ListN.{length}
+use Prim.Native.Nat.{ℕ, _+_, _*_, _/_, _≤_, _<_}
+use lib.ListN.{length, set}
 use Rattle.connectivity.specs.Plan.{plan, graph}
 use Rattle.connectivity.specs.Graph.{Graph}
 use Rattle.connectivity.specs.Walk.{Leg, edgesOf}
@@ -12,30 +12,39 @@ use Rattle.tree.specs.Links.{Shelved, Links}
 use Rattle.graph.specs.Marks.{read}
 use Rattle.record.specs.Standing.{Rooted, treeOf}
 
+-- the tips of a link stand side by side, each one more than its number: the top, then the bottom
+abbrev pub topOf : List ℕ → ℕ → ℕ
+topOf tips m = read tips (2 * m)
+
+abbrev pub bottomOf : List ℕ → ℕ → ℕ
+bottomOf tips m = read tips (2 * m + 1)
+
+-- with those of the link m
+abbrev pub withTips : List ℕ → ℕ → ℕ → ℕ → List ℕ
+withTips tips m top bottom = set (set tips (2 * m) top) (2 * m + 1) bottom
+
 -- the tables by vertex and by place are long enough
-pub record Roomy (n : ℕ) (below places tops bottoms : List ℕ) : Type 0 where
+pub record Roomy (n : ℕ) (below places tips : List ℕ) : Type 0 where
   pub below-long : n ≤ length below
   pub places-long : n ≤ length places
-  pub tops-long : n + 2 ≤ length tops
-  pub bottoms-long : n + 2 ≤ length bottoms
+  pub tips-long : 2 * (n + 2) ≤ length tips
 
 -- the places of some vertices of the tree, the children noted below, and the links
-pub record Filing (n root : ℕ) (ends first : List ℕ) (rank : ℕ → ℕ) (below places tops bottoms : List ℕ) (next : ℕ) : Type 0 where
+pub record Filing (n root : ℕ) (ends first : List ℕ) (rank : ℕ → ℕ) (below places tips : List ℕ) (next : ℕ) : Type 0 where
   pub rooted : Rooted n ends root first rank
   pub shelved : Shelved (graph (plan n ends)) (treeOf n ends root first rank) (read places)
   pub belows : Belows (graph (plan n ends)) (treeOf n ends root first rank) (λ v. 1 ≤ read places v) (read places) (read below)
-  pub links : Links (graph (plan n ends)) (treeOf n ends root first rank) (read places) (read tops) (read bottoms) next
-  pub roomy : Roomy n below places tops bottoms
+  pub links : Links (graph (plan n ends)) (treeOf n ends root first rank) (read places) (topOf tips) (bottomOf tips) next
+  pub roomy : Roomy n below places tips
 
 -- what `split` asks: v is built
-pub record Splitting (ends first below depth : List ℕ) (v next : ℕ) (places tops bottoms : List ℕ) : Type 0 where
+pub record Splitting (ends first below : List ℕ) (v next : ℕ) (places tips : List ℕ) : Type 0 where
   pub n : ℕ
   pub root : ℕ
   pub rank : ℕ → ℕ
-  pub filing : Filing n root ends first rank below places tops bottoms next
+  pub filing : Filing n root ends first rank below places tips next
   pub vertex : v < n
   pub built : 1 ≤ read places v
-  pub depth-long : n ≤ length depth
 
 -- v is a branch now, and the links are known again
 pub record Parted (g : Graph) (t : Pointers) (v next : ℕ) (place : ℕ → ℕ) (place' top' bottom' : ℕ → ℕ) (next' : ℕ) : Type 0 where
@@ -44,11 +53,11 @@ pub record Parted (g : Graph) (t : Pointers) (v next : ℕ) (place : ℕ → ℕ
   -- a place that had no vertex stays without
   pub gone : (m : ℕ) → 2 ≤ m → m < next → ((y : ℕ) → place y ≡ m → ⊥) → (y : ℕ) → place' y ≡ m → ⊥
 
-abbrev pub PartedBy : List ℕ → List ℕ → List ℕ → List ℕ → ℕ → ℕ → List ℕ → List ℕ → List ℕ → List ℕ → List ℕ → List ℕ → ℕ → Type 0
-PartedBy ends first below depth v next places tops bottoms places' tops' bottoms' r =
-    (length places' ≡ length places) × (length tops' ≡ length tops) × (length bottoms' ≡ length bottoms)
-    × ((c : Splitting ends first below depth v next places tops bottoms)
-    → Parted (graph (plan (c .n) ends)) (treeOf (c .n) ends (c .root) first (c .rank)) v next (read places) (read places') (read tops') (read bottoms') r × (next ≤ r))
+abbrev pub PartedBy : List ℕ → List ℕ → List ℕ → ℕ → ℕ → List ℕ → List ℕ → List ℕ → List ℕ → ℕ → Type 0
+PartedBy ends first below v next places tips places' tips' r =
+    (length places' ≡ length places) × (length tips' ≡ length tips)
+    × ((c : Splitting ends first below v next places tips)
+    → Parted (graph (plan (c .n) ends)) (treeOf (c .n) ends (c .root) first (c .rank)) v next (read places) (read places') (topOf tips') (bottomOf tips') r × (next ≤ r))
 
 -- two vertices have become branches, one after the other
 pub record BothParted (g : Graph) (t : Pointers) (v w next : ℕ) (place place' top' bottom' : ℕ → ℕ) (next' : ℕ) : Type 0 where
@@ -60,43 +69,43 @@ pub record BothParted (g : Graph) (t : Pointers) (v w next : ℕ) (place place' 
   pub gone : (m : ℕ) → 2 ≤ m → m < next → ((y : ℕ) → place y ≡ m → ⊥) → (y : ℕ) → place' y ≡ m → ⊥
 
 -- what `split_both` asks: both are built
-pub record Ending (ends first below depth : List ℕ) (v w next : ℕ) (places tops bottoms : List ℕ) : Type 0 where
-  pub splitting : Splitting ends first below depth v next places tops bottoms
+pub record Ending (ends first below : List ℕ) (v w next : ℕ) (places tips : List ℕ) : Type 0 where
+  pub splitting : Splitting ends first below v next places tips
   pub vertex : w < splitting .n
   pub built : 1 ≤ read places w
 
-abbrev pub BothBy : List ℕ → List ℕ → List ℕ → List ℕ → ℕ → ℕ → ℕ → List ℕ → List ℕ → List ℕ → List ℕ → List ℕ → List ℕ → ℕ → Type 0
-BothBy ends first below depth v w next places tops bottoms places' tops' bottoms' r =
-    (length places' ≡ length places) × (length tops' ≡ length tops) × (length bottoms' ≡ length bottoms)
-    × ((c : Ending ends first below depth v w next places tops bottoms)
-    → BothParted (graph (plan (c .splitting .n) ends)) (treeOf (c .splitting .n) ends (c .splitting .root) first (c .splitting .rank)) v w next (read places) (read places') (read tops') (read bottoms') r)
+abbrev pub BothBy : List ℕ → List ℕ → List ℕ → ℕ → ℕ → ℕ → List ℕ → List ℕ → List ℕ → List ℕ → ℕ → Type 0
+BothBy ends first below v w next places tips places' tips' r =
+    (length places' ≡ length places) × (length tips' ≡ length tips)
+    × ((c : Ending ends first below v w next places tips)
+    → BothParted (graph (plan (c .splitting .n) ends)) (treeOf (c .splitting .n) ends (c .splitting .root) first (c .splitting .rank)) v w next (read places) (read places') (topOf tips') (bottomOf tips') r)
 
 -- what `build_walk` asks: an edge, and a climb from v to the branch `stop`
-pub record Building (ends first : List ℕ) (e v stop next : ℕ) (places below tops bottoms used : List ℕ) : Type 0 where
+pub record Building (ends first : List ℕ) (e v stop next : ℕ) (places below tips over : List ℕ) : Type 0 where
   pub n : ℕ
   pub root : ℕ
   pub rank : ℕ → ℕ
-  pub filing : Filing n root ends first rank below places tops bottoms next
+  pub filing : Filing n root ends first rank below places tips next
   pub legs : List Leg
   pub climb : Climb (graph (plan n ends)) (treeOf n ends root first rank) (λ y. 1 ≤ read places y) v legs stop
   pub branch : read places stop ≡ 1
   pub from : v < n
   pub to : stop < n
   pub edge : e < length ends / 2
-  pub used-long : length ends / 2 ≤ length used
+  pub over-long : length ends / 2 ≤ length over
 
--- what the climb leaves has the place `next`, is noted below its parents, and its edges and e are marked
-pub record Walked (g : Graph) (t : Pointers) (e : ℕ) (legs : List Leg) (next : ℕ) (place below used place' below' top' bottom' used' : ℕ → ℕ) (next' : ℕ) : Type 0 where
+-- what the climb leaves has the place `next`, is noted below its parents, and its edges and e stand as built
+pub record Walked (g : Graph) (t : Pointers) (e : ℕ) (legs : List Leg) (next : ℕ) (place below over place' below' top' bottom' over' : ℕ → ℕ) (next' : ℕ) : Type 0 where
   pub grown : Grown place place' legs next
   pub noted : Noted t below below' legs
   pub links : Links g t place' top' bottom' next'
-  pub used-edge : used' e ≡ 1
-  pub used-on : (d : ℕ) → In d (edgesOf legs) → used' d ≡ 1
-  pub used-off : (d : ℕ) → (d ≡ e → ⊥) → (In d (edgesOf legs) → ⊥) → used' d ≡ used d
+  pub over-edge : over' e ≡ 0
+  pub over-on : (d : ℕ) → In d (edgesOf legs) → over' d ≡ 0
+  pub over-off : (d : ℕ) → (d ≡ e → ⊥) → (In d (edgesOf legs) → ⊥) → over' d ≡ over d
 
-abbrev pub WalkedBy : List ℕ → List ℕ → ℕ → ℕ → ℕ → ℕ → List ℕ → List ℕ → List ℕ → List ℕ → List ℕ → List ℕ → List ℕ → List ℕ → List ℕ → List ℕ → ℕ → Type 0
-WalkedBy ends first e v stop next places below tops bottoms used places' below' tops' bottoms' used' r =
-    (length places' ≡ length places) × (length below' ≡ length below) × (length tops' ≡ length tops) × (length bottoms' ≡ length bottoms) × (length used' ≡ length used)
-    × ((c : Building ends first e v stop next places below tops bottoms used)
+abbrev pub WalkedBy : List ℕ → List ℕ → ℕ → ℕ → ℕ → ℕ → List ℕ → List ℕ → List ℕ → List ℕ → List ℕ → List ℕ → List ℕ → List ℕ → ℕ → Type 0
+WalkedBy ends first e v stop next places below tips over places' below' tips' over' r =
+    (length places' ≡ length places) × (length below' ≡ length below) × (length tips' ≡ length tips) × (length over' ≡ length over)
+    × ((c : Building ends first e v stop next places below tips over)
     → Walked (graph (plan (c .n) ends)) (treeOf (c .n) ends (c .root) first (c .rank)) e (c .legs) next
-    (read places) (read below) (read used) (read places') (read below') (read tops') (read bottoms') (read used') r × (next ≤ r))
+    (read places) (read below) (read over) (read places') (read below') (topOf tips') (bottomOf tips') (read over') r × (next ≤ r))

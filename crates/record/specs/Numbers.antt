@@ -27,14 +27,6 @@ abbrev pub NumberedBy : ℕ → List ℕ → List ℕ → List ℕ → List ℕ 
 NumberedBy n order number last number' last' =
     (length number' ≡ length number) × (length last' ≡ length last) × (Ordering n order (length number) (length last) → Numbered n order number' last')
 
--- what `deepen` asks: all but the first vertex of the order have a first edge
-pub record Deepening (n : ℕ) (ends first order : List ℕ) (depth : ℕ) : Type 0 where
-  pub admitted : Admitted limits (plan n ends)
-  pub valid : (k : ℕ) → k < n → read order k < n
-  pub rises : (k : ℕ) → 1 ≤ k → k < n → Rises ends first (read order k)
-  pub order-long : n ≤ length order
-  pub depth-long : n ≤ depth
-
 -- what `lower_all` asks: the tree, its numbers, `last` the same, and nothing in `over`
 pub record Lowering (n : ℕ) (ends incident begins first order number last over : List ℕ) : Type 0 where
   pub rooted : Rooted n ends (read order 0) first (read number)
@@ -50,4 +42,4 @@ pub record Lowering (n : ℕ) (ends incident begins first order number last over
 abbrev pub Lowered : ℕ → List ℕ → List ℕ → List ℕ → List ℕ → List ℕ → List ℕ → List ℕ → List ℕ → List ℕ → List ℕ → Type 0
 Lowered n ends incident begins first order number last over last' over' =
     (length last' ≡ length last) × (length over' ≡ length over)
-    × (Lowering n ends incident begins first order number last over → Ground n (read order 0) ends incident begins first number last' over')
+    × (Lowering n ends incident begins first order number last over → Ground n (read order 0) ends incident begins first number last' (read over'))

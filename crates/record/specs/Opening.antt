@@ -102,7 +102,7 @@ threeWalks root x f e d low high side = (leg d root ∷ side) ∷ (leg f root �
 -- what `find` asks: the tables of the tree, and no mark in `places`
 pub record Finding (ends incident begins first order number last : List ℕ) (root : ℕ) (places : List ℕ) : Type 0 where
   pub n : ℕ
-  pub over : List ℕ
+  pub over : ℕ → ℕ
   pub ground : Ground n root ends incident begins first number last over
   pub listing : Listed n root order number
   pub places-blank : (v : ℕ) → read places v ≡ 0
@@ -135,8 +135,8 @@ RowedBy ends first root x e p f w d u before after count =
     → Written (rows (threeWalks root x f e d (c .climbs .low) (c .climbs .high) (c .climbs .side))) before after
     × (count ≡ length (allEdges (threeWalks root x f e d (c .climbs .low) (c .climbs .high) (c .climbs .side))))
 
--- what building them asks: nothing in the tables
-pub record Raw (ends first : List ℕ) (root x e p f w d u : ℕ) (places below tops bottoms used : List ℕ) : Type 0 where
+-- what building them asks: nothing in the tables by vertex
+pub record Raw (ends first : List ℕ) (root x e p f w d u : ℕ) (places below tips over : List ℕ) : Type 0 where
   pub n : ℕ
   pub rank : ℕ → ℕ
   pub climbs : Climbs n root ends first rank x f w d u
@@ -144,14 +144,13 @@ pub record Raw (ends first : List ℕ) (root x e p f w d u : ℕ) (places below 
   pub parent : p ≡ treeOf n ends root first rank .parent x
   pub places-blank : (v : ℕ) → read places v ≡ 0
   pub below-blank : (v : ℕ) → read below v ≡ 0
-  pub used-blank : (e : ℕ) → read used e ≡ 0
-  pub roomy : Roomy n below places tops bottoms
-  pub used-long : length ends / 2 ≤ length used
+  pub roomy : Roomy n below places tips
+  pub over-long : length ends / 2 ≤ length over
 
-abbrev pub RaisedBy : List ℕ → List ℕ → ℕ → ℕ → ℕ → ℕ → ℕ → ℕ → ℕ → ℕ → List ℕ → List ℕ → List ℕ → List ℕ → List ℕ → List ℕ → List ℕ → List ℕ → List ℕ → List ℕ → ℕ → Type 0
-RaisedBy ends first root x e p f w d u places below tops bottoms used places' below' tops' bottoms' used' next =
-    (c : Raw ends first root x e p f w d u places below tops bottoms used)
-    → Holds (c .n) root ends first (c .rank) (threeWalks root x f e d (c .climbs .low) (c .climbs .high) (c .climbs .side)) places' below' tops' bottoms' used' next
+abbrev pub RaisedBy : List ℕ → List ℕ → ℕ → ℕ → ℕ → ℕ → ℕ → ℕ → ℕ → ℕ → List ℕ → List ℕ → List ℕ → List ℕ → List ℕ → List ℕ → List ℕ → List ℕ → ℕ → Type 0
+RaisedBy ends first root x e p f w d u places below tips over places' below' tips' over' next =
+    (c : Raw ends first root x e p f w d u places below tips over)
+    → Holds (c .n) root ends first (c .rank) (read over) (threeWalks root x f e d (c .climbs .low) (c .climbs .high) (c .climbs .side)) places' below' tips' over' next
 
 -- the edge of the walk k, where it leads, and where the way up from there ends
 pub record WayAt (k root x e p f w d u edge v stop : ℕ) : Type 0 where

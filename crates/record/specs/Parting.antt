@@ -4,21 +4,20 @@ use mathlib.Core.List.{List}
 use Prim.Native.Nat.{ℕ, _+_, _-_, _≤_, _<_}
 use lib.ListN.{length}
 use Rattle.connectivity.specs.Plan.{limits}
-use Rattle.record.specs.Ways.{nextUp, Rises}
+use Rattle.record.specs.Ways.{nextUp, Rises, Way}
 
--- the table has a depth for v and for the tips
-pub record Deep (depth : List ℕ) (v top bottom : ℕ) : Type 0 where
-  pub at : v < length depth
-  pub at-top : top < length depth
-  pub at-bottom : bottom < length depth
+-- what `is_upper_shorter` asks: v lies between the tips
+pub record Between (ends first : List ℕ) (v top bottom : ℕ) : Type 0 where
+  pub upper : Way ends first v top
+  pub lower : Way ends first bottom v
 
 -- what `cut` asks; top and bottom are one more than the tips of a link that v lies inside of
-pub record Cutting (ends first below depth : List ℕ) (v top bottom : ℕ) : Type 0 where
+pub record Cutting (ends first below : List ℕ) (v top bottom : ℕ) : Type 0 where
   pub small : v < limits .vertices
   pub below-long : v < length below
   pub some-top : 1 ≤ top
   pub some-bottom : 1 ≤ bottom
-  pub deep : Deep depth v (top - 1) (bottom - 1)
+  pub between : (v + 1 ≡ top → ⊥) → (v + 1 ≡ bottom → ⊥) → Between ends first v (top - 1) (bottom - 1)
   pub rises : (v + 1 ≡ top → ⊥) → Rises ends first v
   pub up-small : (v + 1 ≡ top → ⊥) → nextUp ends first v < limits .vertices
 

@@ -13,10 +13,10 @@ use Rattle.connectivity.proofs.Legs.{leg}
 use Rattle.tree.specs.Tree.{Pointers, Back, Climb}
 use Rattle.tree.specs.State.{State}
 use Rattle.tree.specs.Links.{Links}
-use Rattle.graph.specs.Marks.{read, Marked}
+use Rattle.graph.specs.Marks.{read}
 use Rattle.record.specs.Ways.{Written}
 use Rattle.record.specs.Standing.{Rooted, Listed, Ground, treeOf}
-use Rattle.record.specs.Linking.{Roomy}
+use Rattle.record.specs.Linking.{Roomy, topOf, bottomOf}
 use Rattle.record.specs.Leaving.{Uses}
 
 -- a plan with no cut of at most two edges, and a list with room for its rows
@@ -33,40 +33,43 @@ pub record Recorded (n : ℕ) (ends before after : List ℕ) : Type 0 where
   pub written : Written list before after
 
 -- the steps so far, and what the tables say of them
-pub record Holds (n root : ℕ) (ends first : List ℕ) (rank : ℕ → ℕ) (walks : List (List Leg)) (places below tops bottoms used : List ℕ) (next : ℕ) : Type 0 where
+pub record Holds (n root : ℕ) (ends first : List ℕ) (rank whole : ℕ → ℕ) (walks : List (List Leg)) (places below tips over : List ℕ) (next : ℕ) : Type 0 where
   pub state : State (graph (plan n ends)) (treeOf n ends root first rank) walks (read places) (read below)
-  pub links : Links (graph (plan n ends)) (treeOf n ends root first rank) (read places) (read tops) (read bottoms) next
-  pub uses : Uses (allEdges walks) (read used)
-  pub roomy : Roomy n below places tops bottoms
-  pub used-long : length ends / 2 ≤ length used
+  pub links : Links (graph (plan n ends)) (treeOf n ends root first rank) (read places) (topOf tips) (bottomOf tips) next
+  pub uses : Uses (allEdges walks) whole (read over)
+  pub roomy : Roomy n below places tips
+  pub over-long : length ends / 2 ≤ length over
+
+-- and their rows at the front of the list
+pub record Recording (n root : ℕ) (ends first : List ℕ) (rank whole : ℕ → ℕ) (walks : List (List Leg)) (before now places below tips over : List ℕ) (row step next : ℕ) : Type 0 where
+  pub holds : Holds n root ends first rank whole walks places below tips over next
+  pub written : Written (rows walks) before now
+  pub row-is : row ≡ length (allEdges walks)
+  pub step-is : step ≡ length walks
+  pub fits : 3 * (length ends / 2) ≤ length before
 
 -- The first three walks.
 
--- what they ask: the tables of the tree, and nothing in the others
-pub record Beginning (ends incident begins first order number last : List ℕ) (places below tops bottoms used : List ℕ) (room : ℕ) : Type 0 where
+-- what they ask: the tables of the tree, nothing in the others, and room for the rows
+pub record Beginning (ends incident begins first order number last : List ℕ) (places below tips over : List ℕ) (room : ℕ) : Type 0 where
   pub n : ℕ
-  pub over : List ℕ
-  pub ground : Ground n (read order 0) ends incident begins first number last over
+  pub ground : Ground n (read order 0) ends incident begins first number last (read over)
   pub listing : Listed n (read order 0) order number
   pub places-blank : (v : ℕ) → read places v ≡ 0
   pub below-blank : (v : ℕ) → read below v ≡ 0
-  pub used-blank : (e : ℕ) → read used e ≡ 0
-  pub roomy : Roomy n below places tops bottoms
-  pub used-long : length ends / 2 ≤ length used
+  pub roomy : Roomy n below places tips
+  pub over-long : length ends / 2 ≤ length over
   pub fits : 3 * (length ends / 2) ≤ room
 
 -- they are written and built
-pub record Begun (n root : ℕ) (ends first : List ℕ) (rank : ℕ → ℕ) (before after places below tops bottoms used : List ℕ) (rows-then next : ℕ) : Type 0 where
+pub record Begun (n root : ℕ) (ends first : List ℕ) (rank whole : ℕ → ℕ) (before after places below tips over : List ℕ) (row step next : ℕ) : Type 0 where
   pub walks : List (List Leg)
-  pub three : length walks ≡ 3
-  pub holds : Holds n root ends first rank walks places below tops bottoms used next
-  pub written : Written (rows walks) before after
-  pub count : rows-then ≡ length (allEdges walks)
+  pub recording : Recording n root ends first rank whole walks before after places below tips over row step next
 
-abbrev pub BegunBy : List ℕ → List ℕ → List ℕ → List ℕ → List ℕ → List ℕ → List ℕ → List ℕ → List ℕ → List ℕ → List ℕ → List ℕ → List ℕ → List ℕ → List ℕ → List ℕ → List ℕ → List ℕ → List ℕ → ℕ → ℕ → Type 0
-BegunBy ends incident begins first order number last places below tops bottoms used rows places' below' tops' bottoms' used' rows' count next =
-    (c : Beginning ends incident begins first order number last places below tops bottoms used (length rows))
-    → Begun (c .n) (read order 0) ends first (read number) rows rows' places' below' tops' bottoms' used' count next
+abbrev pub BegunBy : List ℕ → List ℕ → List ℕ → List ℕ → List ℕ → List ℕ → List ℕ → List ℕ → List ℕ → List ℕ → List ℕ → List ℕ → List ℕ → List ℕ → List ℕ → List ℕ → List ℕ → ℕ → ℕ → ℕ → Type 0
+BegunBy ends incident begins first order number last places below tips over rows places' below' tips' over' rows' row step next =
+    (c : Beginning ends incident begins first order number last places below tips over (length rows))
+    → Begun (c .n) (read order 0) ends first (read number) (read over) rows rows' places' below' tips' over' row step next
 
 -- One step more.
 
@@ -80,56 +83,52 @@ pub record Chosen (g : Graph) (t : Pointers) (built : List ℕ) (f : ℕ) : Type
 
 -- the cursors: the places of links before `empty` have no vertex; every edge at the vertices of the order before `at` is built, and of the next one those
 -- listed before `slot`
-pub record Behind (n : ℕ) (incident begins order place used : ℕ → ℕ) (next empty at slot : ℕ) : Type 0 where
+pub record Behind (n : ℕ) (incident begins order place over : ℕ → ℕ) (next empty at slot : ℕ) : Type 0 where
   pub least : 2 ≤ empty
   pub most : empty ≤ next
   pub gone : (m : ℕ) → 2 ≤ m → m < empty → (y : ℕ) → place y ≡ m → ⊥
   pub at-below : at < n
   pub from : begins (order at) ≤ slot
   pub to : slot ≤ begins (order at + 1)
-  pub passed : (i k : ℕ) → i < at → begins (order i) ≤ k → k < begins (order i + 1) → Marked used (incident k)
-  pub before : (k : ℕ) → begins (order at) ≤ k → k < slot → Marked used (incident k)
+  pub passed : (i k : ℕ) → i < at → begins (order i) ≤ k → k < begins (order i + 1) → over (incident k) ≡ 0
+  pub before : (k : ℕ) → begins (order at) ≤ k → k < slot → over (incident k) ≡ 0
 
 -- what `next_edge` asks: an edge is left
-pub record Nexting (ends incident begins first order number last over places below tops bottoms used : List ℕ) (next empty at slot : ℕ) : Type 0 where
+pub record Nexting (ends incident begins first order number last places below tips over : List ℕ) (next empty at slot : ℕ) : Type 0 where
   pub n : ℕ
-  pub ground : Ground n (read order 0) ends incident begins first number last over
+  pub whole : ℕ → ℕ
+  pub ground : Ground n (read order 0) ends incident begins first number last whole
   pub listing : Listed n (read order 0) order number
   pub walks : List (List Leg)
-  pub holds : Holds n (read order 0) ends first (read number) walks places below tops bottoms used next
-  pub behind : Behind n (read incident) (read begins) (read order) (read places) (read used) next empty at slot
+  pub holds : Holds n (read order 0) ends first (read number) whole walks places below tips over next
+  pub behind : Behind n (read incident) (read begins) (read order) (read places) (read over) next empty at slot
   pub left : length (allEdges walks) < length ends / 2
 
-abbrev pub NextBy : List ℕ → List ℕ → List ℕ → List ℕ → List ℕ → List ℕ → List ℕ → List ℕ → List ℕ → List ℕ → List ℕ → List ℕ → List ℕ → ℕ → ℕ → ℕ → ℕ → ℕ → ℕ → ℕ → ℕ → Type 0
-NextBy ends incident begins first order number last over places below tops bottoms used next empty at slot empty' at' slot' f =
-    (c : Nexting ends incident begins first order number last over places below tops bottoms used next empty at slot)
-    → Behind (c .n) (read incident) (read begins) (read order) (read places) (read used) next empty' at' slot'
+abbrev pub NextBy : List ℕ → List ℕ → List ℕ → List ℕ → List ℕ → List ℕ → List ℕ → List ℕ → List ℕ → List ℕ → List ℕ → ℕ → ℕ → ℕ → ℕ → ℕ → ℕ → ℕ → ℕ → Type 0
+NextBy ends incident begins first order number last places below tips over next empty at slot empty' at' slot' f =
+    (c : Nexting ends incident begins first order number last places below tips over next empty at slot)
+    → Behind (c .n) (read incident) (read begins) (read order) (read places) (read over) next empty' at' slot'
     × Chosen (graph (plan (c .n) ends)) (treeOf (c .n) ends (read order 0) first (read number)) (allEdges (c .walks)) f
 
--- what `add_path` asks
-pub record Stepping (ends first number depth : List ℕ) (f next : ℕ) (places below tops bottoms used : List ℕ) (room : ℕ) : Type 0 where
+-- what one more asks: room for its rows
+pub record Stepping (ends first number : List ℕ) (f next : ℕ) (places below tips over : List ℕ) (room : ℕ) : Type 0 where
   pub n : ℕ
   pub root : ℕ
+  pub whole : ℕ → ℕ
   pub rooted : Rooted n ends root first (read number)
   pub walks : List (List Leg)
-  pub holds : Holds n root ends first (read number) walks places below tops bottoms used next
+  pub holds : Holds n root ends first (read number) whole walks places below tips over next
   pub chosen : Chosen (graph (plan n ends)) (treeOf n ends root first (read number)) (allEdges walks) f
   pub number-long : n ≤ length number
-  pub depth-long : n ≤ length depth
   pub fits : 3 * (length ends / 2 - length (allEdges walks)) ≤ room
 
 -- it is written and built
-pub record Stepped (n root : ℕ) (ends first : List ℕ) (rank : ℕ → ℕ) (walks : List (List Leg)) (step next : ℕ) (before after places places' below tops bottoms used : List ℕ) (count next' : ℕ) : Type 0 where
+pub record Stepped (n root : ℕ) (ends first : List ℕ) (rank whole : ℕ → ℕ) (walks : List (List Leg)) (step next : ℕ) (before after places places' below tips over : List ℕ) (count next' : ℕ) : Type 0 where
   pub legs : List Leg
-  pub holds : Holds n root ends first rank (legs ∷ walks) places' below tops bottoms used next'
+  pub holds : Holds n root ends first rank whole (legs ∷ walks) places' below tips over next'
   pub written : Written (stepRows step legs) before after
   pub counted : count ≡ length legs
   pub some : 1 ≤ count
   pub more : next ≤ next'
   -- a place that had no vertex stays without
   pub gone : (m : ℕ) → 2 ≤ m → m < next → ((y : ℕ) → read places y ≡ m → ⊥) → (y : ℕ) → read places' y ≡ m → ⊥
-
-abbrev pub SteppedBy : List ℕ → List ℕ → List ℕ → List ℕ → ℕ → ℕ → ℕ → List ℕ → List ℕ → List ℕ → List ℕ → List ℕ → List ℕ → List ℕ → List ℕ → List ℕ → List ℕ → List ℕ → List ℕ → ℕ → ℕ → Type 0
-SteppedBy ends first number depth f step next places below tops bottoms used rows places' below' tops' bottoms' used' rows' count next' =
-    (c : Stepping ends first number depth f next places below tops bottoms used (length rows))
-    → Stepped (c .n) (c .root) ends first (read number) (c .walks) step next rows rows' places places' below' tops' bottoms' used' count next'

@@ -49,14 +49,13 @@ abbrev pub Together : Graph → Pointers → Type 0
 Together g t = (u v w : ℕ) → Vertex g u → Vertex g v → Above g t u w → t .rank u ≤ t .rank v → t .rank v ≤ t .rank w → Above g t u v
 
 -- all that stays as it is while a record is written
-pub record Ground (n root : ℕ) (ends incident begins first number last over : List ℕ) : Type 0 where
+pub record Ground (n root : ℕ) (ends incident begins first number last : List ℕ) (over : ℕ → ℕ) : Type 0 where
   pub rooted : Rooted n ends root first (read number)
   pub three : ThreeEdgeConnected (graph (plan n ends))
   pub grouped : Grouped n ends incident begins
   -- `last` tells what is below a vertex, `over` is one more than the edge that a step over an edge begins with
   pub preorder : Preorder (graph (plan n ends)) (treeOf n ends root first (read number)) (read last)
-  pub overs : Overs (graph (plan n ends)) (treeOf n ends root first (read number)) (λ e. read over e - 1)
-  pub some : (e : ℕ) → Edge (graph (plan n ends)) e → 1 ≤ read over e
+  pub overs : Overs (graph (plan n ends)) (treeOf n ends root first (read number)) (λ e. over e - 1)
+  pub some : (e : ℕ) → Edge (graph (plan n ends)) e → 1 ≤ over e
   pub number-long : n ≤ length number
   pub last-long : n ≤ length last
-  pub over-long : length ends / 2 ≤ length over

@@ -30,15 +30,14 @@ pub record Searched (n : ℕ) (ends incident begins first order : List ℕ) : Ty
   pub order-long : n ≤ length order
 
 -- what `look_below` asks
-pub record Numbering (n : ℕ) (ends incident begins first order over : List ℕ) (number last depth : ℕ) : Type 0 where
+pub record Numbering (n : ℕ) (ends incident begins first order over : List ℕ) (number last : ℕ) : Type 0 where
   pub searched : Searched n ends incident begins first order
   pub blank : (e : ℕ) → read over e ≡ 0
   pub number-long : n ≤ number
   pub last-long : n ≤ last
-  pub depth-long : n ≤ depth
   pub over-long : length ends / 2 ≤ length over
 
-abbrev pub StandsBy : ℕ → List ℕ → List ℕ → List ℕ → List ℕ → List ℕ → List ℕ → List ℕ → List ℕ → List ℕ → List ℕ → List ℕ → List ℕ → Type 0
-StandsBy n ends incident begins first order number last depth over number' last' over' =
-    Numbering n ends incident begins first order over (length number) (length last) (length depth)
-    → Ground n (read order 0) ends incident begins first number' last' over' × Listed n (read order 0) order number'
+abbrev pub StandsBy : ℕ → List ℕ → List ℕ → List ℕ → List ℕ → List ℕ → List ℕ → List ℕ → List ℕ → List ℕ → List ℕ → List ℕ → Type 0
+StandsBy n ends incident begins first order number last over number' last' over' =
+    Numbering n ends incident begins first order over (length number) (length last)
+    → Ground n (read order 0) ends incident begins first number' last' (read over') × Listed n (read order 0) order number' × (length over' ≡ length over)

@@ -114,21 +114,21 @@ MetFirst ends first marks v r = (c : Toward ends first marks v) → r ≡ c .to
 -- The edges of a way up are built.
 
 -- a place for each vertex and for each edge
-pub record Raising (ends first : List ℕ) (v stop below used : ℕ) : Type 0 where
+pub record Raising (ends first : List ℕ) (v stop below over : ℕ) : Type 0 where
   pub way : Way ends first v stop
   pub room : way .n ≤ below
-  pub edges : length ends / 2 ≤ used
+  pub edges : length ends / 2 ≤ over
 
--- each vertex that is left is noted below the one above it, each edge is marked, and nothing else changes; the top is the last that is left
-pub record Raised (ends first : List ℕ) (legs : List Leg) (stop : ℕ) (below used below' used' : ℕ → ℕ) (top : ℕ) : Type 0 where
+-- each vertex that is left is noted below the one above it, the edges stand as built, and nothing else changes; the top is the last that is left
+pub record Raised (ends first : List ℕ) (legs : List Leg) (stop : ℕ) (below over below' over' : ℕ → ℕ) (top : ℕ) : Type 0 where
   pub noted : (y : ℕ) → In y (froms legs) → below' (nextUp ends first y) ≡ suc y
   pub below-off : (z : ℕ) → ((y : ℕ) → In y (froms legs) → nextUp ends first y ≡ z → ⊥) → below' z ≡ below z
-  pub used-on : (e : ℕ) → In e (edgesOf legs) → used' e ≡ 1
-  pub used-off : (e : ℕ) → (In e (edgesOf legs) → ⊥) → used' e ≡ used e
+  pub over-on : (e : ℕ) → In e (edgesOf legs) → over' e ≡ 0
+  pub over-off : (e : ℕ) → (In e (edgesOf legs) → ⊥) → over' e ≡ over e
   pub top-on : 1 ≤ length legs → In top (froms legs)
   pub top-up : 1 ≤ length legs → nextUp ends first top ≡ stop
 
 abbrev pub RaisedUp : List ℕ → List ℕ → ℕ → ℕ → List ℕ → List ℕ → List ℕ → List ℕ → ℕ → Type 0
-RaisedUp ends first v stop below used below' used' r =
-    (length below' ≡ length below) × (length used' ≡ length used)
-    × ((c : Raising ends first v stop (length below) (length used)) → Raised ends first (c .way .legs) stop (read below) (read used) (read below') (read used') r)
+RaisedUp ends first v stop below over below' over' r =
+    (length below' ≡ length below) × (length over' ≡ length over)
+    × ((c : Raising ends first v stop (length below) (length over)) → Raised ends first (c .way .legs) stop (read below) (read over) (read below') (read over') r)

@@ -23,15 +23,14 @@ pub(crate) fn leave_link(
     first: &[u16],
     number: &[u16],
     last: &[u16],
-    over: &[u16],
     places: &[u16],
     below: &[u16],
-    used: &[u8],
+    over: &[u16],
     top: u16,
     bottom: u16,
 ) -> u16
-    requires { ⌜ Leaving (now ends) (now incident) (now begins) (now first) (now number) (now last) (now over) (now places) (now below) (now used) top bottom ⌝ }
-    ensures { λ r. ⌜ LeftBy (now (ends .entry)) (now (incident .entry)) (now (begins .entry)) (now (first .entry)) (now (number .entry)) (now (last .entry)) (now (over .entry)) (now (places .entry)) (now (below .entry)) (now (used .entry)) top bottom r ⌝ }
+    requires { ⌜ Leaving (now ends) (now incident) (now begins) (now first) (now number) (now last) (now places) (now below) (now over) top bottom ⌝ }
+    ensures { λ r. ⌜ LeftBy (now (ends .entry)) (now (incident .entry)) (now (begins .entry)) (now (first .entry)) (now (number .entry)) (now (last .entry)) (now (places .entry)) (now (below .entry)) (now (over .entry)) top bottom r ⌝ }
 {
     let under = range_below(number, last, below, bottom);
     let mut a = top;
@@ -45,9 +44,8 @@ pub(crate) fn leave_link(
             incident,
             begins,
             number,
-            over,
             places,
-            used,
+            over,
             v,
             under.from,
             under.to,
@@ -104,23 +102,21 @@ fn exit_at(
     incident: &[u16],
     begins: &[u16],
     number: &[u16],
-    over: &[u16],
     places: &[u16],
-    used: &[u8],
+    over: &[u16],
     v: u16,
     from: u16,
     to: u16,
 ) -> u16
-    requires { ⌜ Looking (now ends) (now incident) (now begins) (now number) (now over) (now places) (length (now used)) v ⌝ }
-    ensures { λ r. ⌜ ExitAt (now (ends .entry)) (now (incident .entry)) (now (begins .entry)) (now (number .entry)) (now (over .entry)) (now (places .entry)) (now (used .entry)) v from to r ⌝ }
+    requires { ⌜ Looking (now ends) (now incident) (now begins) (now number) (now places) (now over) v ⌝ }
+    ensures { λ r. ⌜ ExitAt (now (ends .entry)) (now (incident .entry)) (now (begins .entry)) (now (number .entry)) (now (places .entry)) (now (over .entry)) v from to r ⌝ }
 {
     let end = begins[v as usize + 1] as usize;
     let own = places[v as usize];
     let mut k = begins[v as usize] as usize;
     while k < end {
-        let e = incident[k] as usize;
-        if used[e] == 0 {
-            let f = over[e];
+        let f = over[incident[k] as usize];
+        if f != 0 {
             if is_exit(ends, number, places, f - 1, own, from, to) {
                 return f;
             }

@@ -1,13 +1,14 @@
-// The places of built vertices: 0 is not built, 1 a branch, any other the link that a vertex lies inside of. Of each link its top and its bottom are
-// known, one more than their numbers, 0 where nothing lies inside.
+// The places of built vertices: 0 is not built, 1 a branch, any other the link that a vertex lies inside of. Of each link its tips are known, the top
+// and then the bottom, one more than their numbers; a top of 0 where nothing lies inside.
 use crate::walk;
 ghost use mathlib.Core.Path.{_≡_};
-ghost use Prim.Native.Nat.{_+_, _<_};
+ghost use Prim.Native.Nat.{_+_, _*_, _≤_, _<_};
+ghost use lib.ListN.{length};
 ghost use Rattle.connectivity.specs.Plan.{limits};
 ghost use Rattle.graph.specs.Marks.{read};
 ghost use Rattle.record.specs.Ways.{nextUp};
-ghost use Rattle.record.specs.Linking.{Splitting, PartedBy, Ending, BothBy, Building, WalkedBy};
-ghost use Rattle.record.specs.Parting.{Deep, Cutting, CutAt, TopCut, InsideCut};
+ghost use Rattle.record.specs.Linking.{withTips, Splitting, PartedBy, Ending, BothBy, Building, WalkedBy};
+ghost use Rattle.record.specs.Parting.{Between, Cutting, CutAt, TopCut, InsideCut};
 
 // A link's tips after a cut, and those of the part that becomes a link of its own: one more than their numbers, 0 where nothing is left.
 struct Tips {
@@ -22,44 +23,42 @@ pub(crate) fn split(
     ends: &[u16],
     first: &[u16],
     below: &[u16],
-    depth: &[u16],
     v: u16,
     next: u16,
     places: &mut [u16],
-    tops: &mut [u16],
-    bottoms: &mut [u16],
+    tips: &mut [u16],
 ) -> u16
-    requires { ⌜ Splitting (now ends) (now first) (now below) (now depth) v next (now places) (now tops) (now bottoms) ⌝ }
-    ensures { λ r. ⌜ PartedBy (now (ends .entry)) (now (first .entry)) (now (below .entry)) (now (depth .entry)) v next (now (places .entry)) (now (tops .entry)) (now (bottoms .entry)) (now (places .exit)) (now (tops .exit)) (now (bottoms .exit)) r ⌝ }
+    requires { ⌜ Splitting (now ends) (now first) (now below) v next (now places) (now tips) ⌝ }
+    ensures { λ r. ⌜ PartedBy (now (ends .entry)) (now (first .entry)) (now (below .entry)) v next (now (places .entry)) (now (tips .entry)) (now (places .exit)) (now (tips .exit)) r ⌝ }
 {
-    let own = places[v as usize] as usize;
+    let own = places[v as usize];
     if own == 1 {
         return next;
     }
     places[v as usize] = 1;
-    let c = cut(ends, first, below, depth, v, tops[own], bottoms[own]);
-    tops[own] = c.top;
-    bottoms[own] = c.bottom;
+    let k = 2 * (own as usize);
+    let c = cut(ends, first, below, v, tips[k], tips[k + 1]);
+    set_tips(tips, own, c.top, c.bottom);
     if c.high == 0 {
         return next;
     }
     walk::mark_up(ends, first, c.low - 1, c.high - 1, next, places);
-    tops[next as usize] = c.high;
-    bottoms[next as usize] = c.low;
+    set_tips(tips, next, c.high, c.low);
     next + 1
 }
 
+fn set_tips(tips: &mut [u16], m: u16, top: u16, bottom: u16)
+    requires { ⌜ 2 * m + 2 ≤ length (now tips) ⌝ }
+    ensures { λ _. ⌜ now (tips .exit) ≡ withTips (now (tips .entry)) m top bottom ⌝ }
+{
+    let k = 2 * (m as usize);
+    tips[k] = top;
+    tips[k + 1] = bottom;
+}
+
 // How a link with these tips is cut at `v`, which it loses. The shorter part becomes a link.
-fn cut(
-    ends: &[u16],
-    first: &[u16],
-    below: &[u16],
-    depth: &[u16],
-    v: u16,
-    top: u16,
-    bottom: u16,
-) -> Tips
-    requires { ⌜ Cutting (now ends) (now first) (now below) (now depth) v top bottom ⌝ }
+fn cut(ends: &[u16], first: &[u16], below: &[u16], v: u16, top: u16, bottom: u16) -> Tips
+    requires { ⌜ Cutting (now ends) (now first) (now below) v top bottom ⌝ }
     ensures { λ r. ⌜ CutAt v top bottom (nextUp (now (ends .entry)) (now (first .entry)) v + 1) (read (now (below .entry)) v) (r .top) (r .bottom) (r .high) (r .low) ⌝ }
 {
     let down = below[v as usize];
@@ -76,7 +75,7 @@ fn cut(
         };
     }
     cut_inside(
-        is_upper_shorter(depth, v, top - 1, bottom - 1),
+        is_upper_shorter(ends, first, v, top - 1, bottom - 1),
         top,
         bottom,
         up,
@@ -125,12 +124,20 @@ fn cut_inside(is_upper: bool, top: u16, bottom: u16, up: u16, down: u16) -> Tips
     }
 }
 
-// Whether the part of a link above `v` is not longer than the one below.
-fn is_upper_shorter(depth: &[u16], v: u16, top: u16, bottom: u16) -> bool
-    requires { ⌜ Deep (now depth) v top bottom ⌝ }
+// Whether the part of a link above `v` is not longer than the one below: the ways from `v` to the top and from the bottom to `v` go on side by side.
+fn is_upper_shorter(ends: &[u16], first: &[u16], v: u16, top: u16, bottom: u16) -> bool
+    requires { ⌜ Between (now ends) (now first) v top bottom ⌝ }
 {
-    let twice = 2 * (depth[v as usize] as u32);
-    twice <= depth[top as usize] as u32 + depth[bottom as usize] as u32
+    let mut a = v;
+    let mut b = bottom;
+    while a != top {
+        if b == v {
+            return false;
+        }
+        a = walk::above(ends, first, a);
+        b = walk::above(ends, first, b);
+    }
+    true
 }
 
 // Both vertices become branches; the next free place then.
@@ -138,19 +145,17 @@ pub(crate) fn split_both(
     ends: &[u16],
     first: &[u16],
     below: &[u16],
-    depth: &[u16],
     v: u16,
     w: u16,
     next: u16,
     places: &mut [u16],
-    tops: &mut [u16],
-    bottoms: &mut [u16],
+    tips: &mut [u16],
 ) -> u16
-    requires { ⌜ Ending (now ends) (now first) (now below) (now depth) v w next (now places) (now tops) (now bottoms) ⌝ }
-    ensures { λ r. ⌜ BothBy (now (ends .entry)) (now (first .entry)) (now (below .entry)) (now (depth .entry)) v w next (now (places .entry)) (now (tops .entry)) (now (bottoms .entry)) (now (places .exit)) (now (tops .exit)) (now (bottoms .exit)) r ⌝ }
+    requires { ⌜ Ending (now ends) (now first) (now below) v w next (now places) (now tips) ⌝ }
+    ensures { λ r. ⌜ BothBy (now (ends .entry)) (now (first .entry)) (now (below .entry)) v w next (now (places .entry)) (now (tips .entry)) (now (places .exit)) (now (tips .exit)) r ⌝ }
 {
-    let one = split(ends, first, below, depth, v, next, places, tops, bottoms);
-    split(ends, first, below, depth, w, one, places, tops, bottoms)
+    let one = split(ends, first, below, v, next, places, tips);
+    split(ends, first, below, w, one, places, tips)
 }
 
 // Builds the edge `e` and the way up from `v` to `stop`, whose inside, if it has one, gets the place `next`; the next free place then.
@@ -163,20 +168,18 @@ pub(crate) fn build_walk(
     next: u16,
     places: &mut [u16],
     below: &mut [u16],
-    tops: &mut [u16],
-    bottoms: &mut [u16],
-    used: &mut [u8],
+    tips: &mut [u16],
+    over: &mut [u16],
 ) -> u16
-    requires { ⌜ Building (now ends) (now first) e v stop next (now places) (now below) (now tops) (now bottoms) (now used) ⌝ }
-    ensures { λ r. ⌜ WalkedBy (now (ends .entry)) (now (first .entry)) e v stop next (now (places .entry)) (now (below .entry)) (now (tops .entry)) (now (bottoms .entry)) (now (used .entry)) (now (places .exit)) (now (below .exit)) (now (tops .exit)) (now (bottoms .exit)) (now (used .exit)) r ⌝ }
+    requires { ⌜ Building (now ends) (now first) e v stop next (now places) (now below) (now tips) (now over) ⌝ }
+    ensures { λ r. ⌜ WalkedBy (now (ends .entry)) (now (first .entry)) e v stop next (now (places .entry)) (now (below .entry)) (now (tips .entry)) (now (over .entry)) (now (places .exit)) (now (below .exit)) (now (tips .exit)) (now (over .exit)) r ⌝ }
 {
-    used[e as usize] = 1;
+    over[e as usize] = 0;
     if v == stop {
         return next;
     }
-    let top = walk::build_up(ends, first, v, stop, below, used);
+    let top = walk::build_up(ends, first, v, stop, below, over);
     walk::mark_up(ends, first, v, top, next, places);
-    tops[next as usize] = top + 1;
-    bottoms[next as usize] = v + 1;
+    set_tips(tips, next, top + 1, v + 1);
     next + 1
 }

@@ -4,7 +4,7 @@ ghost use mathlib.Core.Path.{_≡_};
 ghost use Prim.Native.Nat.{_<_};
 ghost use lib.ListN.{length};
 ghost use Rattle.record.specs.Ways.{upperEnd, Ended};
-ghost use Rattle.record.specs.Numbers.{Ordering, NumberedBy, Deepening, Lowering, Lowered};
+ghost use Rattle.record.specs.Numbers.{Ordering, NumberedBy, Lowering, Lowered};
 ghost use Rattle.record.specs.Below.{level, Two, Higher, LoweringOne, LoweredOne, Handing, HandedUp, RaisedTo};
 ghost use Rattle.graph.specs.Marks.{read};
 ghost use Rattle.graph.specs.Tells.{Tells};
@@ -19,20 +19,6 @@ pub(crate) fn number_all(vertices: u16, order: &[u16], number: &mut [u16], last:
         let v = order[k as usize] as usize;
         number[v] = k;
         last[v] = k;
-        k += 1;
-    }
-}
-
-// How far below the root each vertex is, for the cost alone.
-pub(crate) fn deepen(vertices: u16, ends: &[u16], first: &[u16], order: &[u16], depth: &mut [u16])
-    requires { ⌜ Deepening vertices (now ends) (now first) (now order) (length (now depth)) ⌝ }
-    ensures { λ _. ⌜ length (now (depth .exit)) ≡ length (now (depth .entry)) ⌝ }
-{
-    let mut k: u16 = 1;
-    while k < vertices {
-        let v = order[k as usize];
-        let up = walk::above(ends, first, v);
-        depth[v as usize] = std::num::wrapping_add_u16(depth[up as usize], 1);
         k += 1;
     }
 }

@@ -1,8 +1,9 @@
 // What to go on with: a link that has an inside, or an edge that is not built. Both cursors only move on.
 
-ghost use Prim.Native.Nat.{_≤_};
+ghost use Prim.Native.Nat.{_*_, _≤_};
 ghost use lib.ListN.{length};
 ghost use Rattle.graph.specs.Marks.{read};
+ghost use Rattle.record.specs.Linking.{topOf};
 ghost use Rattle.record.specs.Cursors.{NextLink, NextSlot, Slots, Opening, OpenedAt};
 
 // A vertex of the order, and a place in its group.
@@ -12,13 +13,13 @@ pub(crate) struct Open {
 }
 
 // The first place from `from` on of a link that has an inside, or `next`.
-pub(crate) fn next_link(tops: &[u16], next: u16, from: u16) -> u16
-    requires { ⌜ (next ≤ length (now tops)) × (from ≤ next) ⌝ }
-    ensures { λ r. ⌜ NextLink (read (now (tops .entry))) next from r ⌝ }
+pub(crate) fn next_link(tips: &[u16], next: u16, from: u16) -> u16
+    requires { ⌜ (2 * next ≤ length (now tips)) × (from ≤ next) ⌝ }
+    ensures { λ r. ⌜ NextLink (topOf (now (tips .entry))) next from r ⌝ }
 {
     let mut m = from;
     while m < next {
-        if tops[m as usize] != 0 {
+        if tips[2 * (m as usize)] != 0 {
             return m;
         }
         m += 1;
@@ -32,19 +33,19 @@ pub(crate) fn next_open(
     incident: &[u16],
     begins: &[u16],
     order: &[u16],
-    used: &[u8],
+    over: &[u16],
     at: u16,
     slot: u16,
 ) -> Open
-    requires { ⌜ Opening (now incident) (now begins) (now order) (now used) at slot ⌝ }
-    ensures { λ r. ⌜ OpenedAt (now (incident .entry)) (now (begins .entry)) (now (order .entry)) (now (used .entry)) at slot (r .at) (r .slot) ⌝ }
+    requires { ⌜ Opening (now incident) (now begins) (now order) (now over) at slot ⌝ }
+    ensures { λ r. ⌜ OpenedAt (now (incident .entry)) (now (begins .entry)) (now (order .entry)) (now (over .entry)) at slot (r .at) (r .slot) ⌝ }
 {
     let mut i = at;
     let mut from = slot;
     loop {
         let v = order[i as usize] as usize;
         let end = begins[v + 1];
-        let k = next_slot(incident, used, from, end);
+        let k = next_slot(incident, over, from, end);
         if k < end {
             return Open { at: i, slot: k };
         }
@@ -54,13 +55,13 @@ pub(crate) fn next_open(
 }
 
 // The first place from `from` on and below `end` of an edge that is not built, or `end`.
-fn next_slot(incident: &[u16], used: &[u8], from: u16, end: u16) -> u16
-    requires { ⌜ Slots (now incident) (length (now used)) from end ⌝ }
-    ensures { λ r. ⌜ NextSlot (read (now (incident .entry))) (read (now (used .entry))) from end r ⌝ }
+fn next_slot(incident: &[u16], over: &[u16], from: u16, end: u16) -> u16
+    requires { ⌜ Slots (now incident) (length (now over)) from end ⌝ }
+    ensures { λ r. ⌜ NextSlot (read (now (incident .entry))) (read (now (over .entry))) from end r ⌝ }
 {
     let mut k = from;
     while k < end {
-        if used[incident[k as usize] as usize] == 0 {
+        if over[incident[k as usize] as usize] != 0 {
             return k;
         }
         k += 1;

@@ -4,8 +4,8 @@ use crate::link;
 use crate::number;
 use crate::open;
 use crate::walk;
-ghost use lib.ListN.{length};
-ghost use Rattle.record.specs.Recording.{Nexting, NextBy, Stepping, SteppedBy};
+ghost use Rattle.record.specs.Recording.{Nexting, NextBy};
+ghost use Rattle.record.specs.Progress.{Adding, AddedBy};
 
 // How far the building has come: the links before `empty` have no inside; the vertices of the order before `at` have only built edges, and of the
 // next one those before `slot` are built; and the edge that the next Mader-path begins with.
@@ -16,9 +16,10 @@ pub(crate) struct Stage {
     pub(crate) edge: u16,
 }
 
-// How many rows were written, and the next free place.
-pub(crate) struct Added {
-    pub(crate) count: u16,
+// How many rows are written, how many steps they are, and the next free place.
+pub(crate) struct Progress {
+    pub(crate) row: u16,
+    pub(crate) step: u16,
     pub(crate) next: u16,
 }
 
@@ -31,22 +32,21 @@ pub(crate) fn next_edge(
     order: &[u16],
     number: &[u16],
     last: &[u16],
-    over: &[u16],
     places: &[u16],
     below: &[u16],
-    tops: &[u16],
-    bottoms: &[u16],
-    used: &[u8],
+    tips: &[u16],
+    over: &[u16],
     next: u16,
     stage: Stage,
 ) -> Stage
-    requires { ⌜ Nexting (now ends) (now incident) (now begins) (now first) (now order) (now number) (now last) (now over) (now places) (now below) (now tops) (now bottoms) (now used) next (stage .empty) (stage .at) (stage .slot) ⌝ }
-    ensures { λ r. ⌜ NextBy (now (ends .entry)) (now (incident .entry)) (now (begins .entry)) (now (first .entry)) (now (order .entry)) (now (number .entry)) (now (last .entry)) (now (over .entry)) (now (places .entry)) (now (below .entry)) (now (tops .entry)) (now (bottoms .entry)) (now (used .entry)) next (stage .empty) (stage .at) (stage .slot) (r .empty) (r .at) (r .slot) (r .edge) ⌝ }
+    requires { ⌜ Nexting (now ends) (now incident) (now begins) (now first) (now order) (now number) (now last) (now places) (now below) (now tips) (now over) next (stage .empty) (stage .at) (stage .slot) ⌝ }
+    ensures { λ r. ⌜ NextBy (now (ends .entry)) (now (incident .entry)) (now (begins .entry)) (now (first .entry)) (now (order .entry)) (now (number .entry)) (now (last .entry)) (now (places .entry)) (now (below .entry)) (now (tips .entry)) (now (over .entry)) next (stage .empty) (stage .at) (stage .slot) (r .empty) (r .at) (r .slot) (r .edge) ⌝ }
 {
-    let m = open::next_link(tops, next, stage.empty);
+    let m = open::next_link(tips, next, stage.empty);
     if m < next {
-        let top = tops[m as usize] - 1;
-        let bottom = bottoms[m as usize] - 1;
+        let k = 2 * (m as usize);
+        let top = tips[k] - 1;
+        let bottom = tips[k + 1] - 1;
         return Stage {
             empty: m,
             at: stage.at,
@@ -58,16 +58,15 @@ pub(crate) fn next_edge(
                 first,
                 number,
                 last,
-                over,
                 places,
                 below,
-                used,
+                over,
                 top,
                 bottom,
             ),
         };
     }
-    let o = open::next_open(incident, begins, order, used, stage.at, stage.slot);
+    let o = open::next_open(incident, begins, order, over, stage.at, stage.slot);
     let e = incident[o.slot as usize];
     Stage {
         empty: m,
@@ -77,45 +76,33 @@ pub(crate) fn next_edge(
     }
 }
 
-// Writes and builds the Mader-path over `f`, from its upper end, and up the tree from its lower end to the first built vertex.
+// Writes and builds the Mader-path over `f`, from its upper end, and up the tree from its lower end to the first built vertex. Its rows come behind
+// those so far.
 pub(crate) fn add_path(
     ends: &[u16],
     first: &[u16],
     number: &[u16],
-    depth: &[u16],
     f: u16,
-    step: u16,
-    next: u16,
+    done: Progress,
     places: &mut [u16],
     below: &mut [u16],
-    tops: &mut [u16],
-    bottoms: &mut [u16],
-    used: &mut [u8],
+    tips: &mut [u16],
+    over: &mut [u16],
     rows: &mut [u16],
-) -> Added
-    requires { ⌜ Stepping (now ends) (now first) (now number) (now depth) f next (now places) (now below) (now tops) (now bottoms) (now used) (length (now rows)) ⌝ }
-    ensures { λ r. ⌜ SteppedBy (now (ends .entry)) (now (first .entry)) (now (number .entry)) (now (depth .entry)) f step next (now (places .entry)) (now (below .entry)) (now (tops .entry)) (now (bottoms .entry)) (now (used .entry)) (now (rows .entry)) (now (places .exit)) (now (below .exit)) (now (tops .exit)) (now (bottoms .exit)) (now (used .exit)) (now (rows .exit)) (r .count) (r .next) ⌝ }
+) -> Progress
+    requires { ⌜ Adding (now ends) (now first) (now number) f (done .row) (done .step) (done .next) (now places) (now below) (now tips) (now over) (now rows) ⌝ }
+    ensures { λ r. ⌜ AddedBy (now (ends .entry)) (now (first .entry)) (now (number .entry)) f (done .row) (done .step) (done .next) (now (places .entry)) (now (below .entry)) (now (tips .entry)) (now (over .entry)) (now (rows .entry)) (now (places .exit)) (now (below .exit)) (now (tips .exit)) (now (over .exit)) (now (rows .exit)) (r .row) (r .step) (r .next) ⌝ }
 {
     let s = number::upper(ends, number, f);
     let w = walk::other_end(ends, f, s);
     let x = walk::first_marked(ends, first, places, w);
-    let count = walk::write_walk(ends, first, f, s, w, x, step, rows);
-    let two = link::split_both(ends, first, below, depth, s, x, next, places, tops, bottoms);
-    let three = link::build_walk(
-        ends,
-        first,
-        f,
-        w,
-        x,
-        two,
-        places,
-        below,
-        tops,
-        bottoms,
-        used,
-    );
-    Added {
-        count: count,
+    let from = 3 * (done.row as usize);
+    let count = walk::write_walk(ends, first, f, s, w, x, done.step, &mut rows[from..]);
+    let two = link::split_both(ends, first, below, s, x, done.next, places, tips);
+    let three = link::build_walk(ends, first, f, w, x, two, places, below, tips, over);
+    Progress {
+        row: done.row + count,
+        step: done.step + 1,
         next: three,
     }
 }

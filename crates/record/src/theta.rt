@@ -1,18 +1,13 @@
 // The first three walks, between the root and a vertex x: from x up to the root, and over each of two edges from the root to below its first child
 // and up to x.
 use crate::link;
+use crate::step::Progress;
 use crate::walk;
 ghost use lib.ListN.{length};
 ghost use Rattle.graph.specs.Marks.{read};
 ghost use Rattle.graph.specs.Tells.{Tells};
 ghost use Rattle.record.specs.Recording.{Beginning, BegunBy};
 ghost use Rattle.record.specs.Opening.{Door, DoorFits, Doors, NextDoorBy, Meets, Met, Rowed, RowedBy, Raw, RaisedBy, WayAt, Finding, ForkedBy};
-
-// How many rows the first three walks have, and the next free place.
-pub(crate) struct Begun {
-    pub(crate) rows: u16,
-    pub(crate) next: u16,
-}
 
 // Where two edges from the root `r` lead: over `f` to `w` and over `d` to `u`. `x` is the first vertex on the way up from `u` that is also on the
 // way up from `w`, and `e` leads from it to its parent `p`.
@@ -37,13 +32,12 @@ pub(crate) fn first_walks(
     last: &[u16],
     places: &mut [u16],
     below: &mut [u16],
-    tops: &mut [u16],
-    bottoms: &mut [u16],
-    used: &mut [u8],
+    tips: &mut [u16],
+    over: &mut [u16],
     rows: &mut [u16],
-) -> Begun
-    requires { ⌜ Beginning (now ends) (now incident) (now begins) (now first) (now order) (now number) (now last) (now places) (now below) (now tops) (now bottoms) (now used) (length (now rows)) ⌝ }
-    ensures { λ r. ⌜ BegunBy (now (ends .entry)) (now (incident .entry)) (now (begins .entry)) (now (first .entry)) (now (order .entry)) (now (number .entry)) (now (last .entry)) (now (places .entry)) (now (below .entry)) (now (tops .entry)) (now (bottoms .entry)) (now (used .entry)) (now (rows .entry)) (now (places .exit)) (now (below .exit)) (now (tops .exit)) (now (bottoms .exit)) (now (used .exit)) (now (rows .exit)) (r .rows) (r .next) ⌝ }
+) -> Progress
+    requires { ⌜ Beginning (now ends) (now incident) (now begins) (now first) (now order) (now number) (now last) (now places) (now below) (now tips) (now over) (length (now rows)) ⌝ }
+    ensures { λ r. ⌜ BegunBy (now (ends .entry)) (now (incident .entry)) (now (begins .entry)) (now (first .entry)) (now (order .entry)) (now (number .entry)) (now (last .entry)) (now (places .entry)) (now (below .entry)) (now (tips .entry)) (now (over .entry)) (now (rows .entry)) (now (places .exit)) (now (below .exit)) (now (tips .exit)) (now (over .exit)) (now (rows .exit)) (r .row) (r .step) (r .next) ⌝ }
 {
     let r = order[0];
     let t = find(
@@ -57,26 +51,11 @@ pub(crate) fn first_walks(
         r,
         places,
     );
-    let count = write_walks(ends, first, r, t.x, t.e, t.p, t.f, t.w, t.d, t.u, rows);
-    let next = build_walks(
-        ends,
-        first,
-        r,
-        t.x,
-        t.e,
-        t.p,
-        t.f,
-        t.w,
-        t.d,
-        t.u,
-        places,
-        below,
-        tops,
-        bottoms,
-        used,
-    );
-    Begun {
-        rows: count,
+    let count = write_walks(ends, first, r, t, rows);
+    let next = build_walks(ends, first, r, t, places, below, tips, over);
+    Progress {
+        row: count,
+        step: 3,
         next: next,
     }
 }
@@ -161,36 +140,16 @@ fn meeting(ends: &[u16], first: &[u16], w: u16, u: u16, r: u16, marks: &mut [u16
     x
 }
 
-// Writes the rows of the three walks, from `x` up to `r` over `e`, from `r` over `f` and over `d` up to `x`, each behind those before it; how many
-// there are.
-fn write_walks(
-    ends: &[u16],
-    first: &[u16],
-    r: u16,
-    x: u16,
-    e: u16,
-    p: u16,
-    f: u16,
-    w: u16,
-    d: u16,
-    u: u16,
-    rows: &mut [u16],
-) -> u16
-    requires { ⌜ Rowed (now ends) (now first) r x e p f w d u (length (now rows)) ⌝ }
-    ensures { λ q. ⌜ RowedBy (now (ends .entry)) (now (first .entry)) r x e p f w d u (now (rows .entry)) (now (rows .exit)) q ⌝ }
+// Writes the rows of the three walks, each behind those before it; how many there are.
+fn write_walks(ends: &[u16], first: &[u16], r: u16, t: Fork, rows: &mut [u16]) -> u16
+    requires { ⌜ Rowed (now ends) (now first) r (t .x) (t .e) (t .p) (t .f) (t .w) (t .d) (t .u) (length (now rows)) ⌝ }
+    ensures { λ q. ⌜ RowedBy (now (ends .entry)) (now (first .entry)) r (t .x) (t .e) (t .p) (t .f) (t .w) (t .d) (t .u) (now (rows .entry)) (now (rows .exit)) q ⌝ }
 {
-    let a = walk::write_walk(ends, first, e, x, p, r, 0, rows);
-    let b = walk::write_walk(ends, first, f, r, w, x, 1, &mut rows[3 * (a as usize)..]);
-    let c = walk::write_walk(
-        ends,
-        first,
-        d,
-        r,
-        u,
-        x,
-        2,
-        &mut rows[3 * ((a + b) as usize)..],
-    );
+    let a = walk::write_walk(ends, first, t.e, t.x, t.p, r, 0, rows);
+    let from = 3 * (a as usize);
+    let b = walk::write_walk(ends, first, t.f, r, t.w, t.x, 1, &mut rows[from..]);
+    let from = 3 * ((a + b) as usize);
+    let c = walk::write_walk(ends, first, t.d, r, t.u, t.x, 2, &mut rows[from..]);
     a + b + c
 }
 
@@ -206,29 +165,22 @@ fn build_walks(
     ends: &[u16],
     first: &[u16],
     r: u16,
-    x: u16,
-    e: u16,
-    p: u16,
-    f: u16,
-    w: u16,
-    d: u16,
-    u: u16,
+    t: Fork,
     places: &mut [u16],
     below: &mut [u16],
-    tops: &mut [u16],
-    bottoms: &mut [u16],
-    used: &mut [u8],
+    tips: &mut [u16],
+    over: &mut [u16],
 ) -> u16
-    requires { ⌜ Raw (now ends) (now first) r x e p f w d u (now places) (now below) (now tops) (now bottoms) (now used) ⌝ }
-    ensures { λ q. ⌜ RaisedBy (now (ends .entry)) (now (first .entry)) r x e p f w d u (now (places .entry)) (now (below .entry)) (now (tops .entry)) (now (bottoms .entry)) (now (used .entry)) (now (places .exit)) (now (below .exit)) (now (tops .exit)) (now (bottoms .exit)) (now (used .exit)) q ⌝ }
+    requires { ⌜ Raw (now ends) (now first) r (t .x) (t .e) (t .p) (t .f) (t .w) (t .d) (t .u) (now places) (now below) (now tips) (now over) ⌝ }
+    ensures { λ q. ⌜ RaisedBy (now (ends .entry)) (now (first .entry)) r (t .x) (t .e) (t .p) (t .f) (t .w) (t .d) (t .u) (now (places .entry)) (now (below .entry)) (now (tips .entry)) (now (over .entry)) (now (places .exit)) (now (below .exit)) (now (tips .exit)) (now (over .exit)) q ⌝ }
 {
     places[r as usize] = 1;
-    places[x as usize] = 1;
-    below[p as usize] = x + 1;
+    places[t.x as usize] = 1;
+    below[t.p as usize] = t.x + 1;
     let mut k: u16 = 0;
     let mut next: u16 = 2;
     while k < 3 {
-        let to = way_at(k, r, x, e, p, f, w, d, u);
+        let to = way_at(k, r, t);
         next = link::build_walk(
             ends,
             first,
@@ -238,36 +190,35 @@ fn build_walks(
             next,
             places,
             below,
-            tops,
-            bottoms,
-            used,
+            tips,
+            over,
         );
         k += 1;
     }
     next
 }
 
-// The walk `k` of the three.
-fn way_at(k: u16, r: u16, x: u16, e: u16, p: u16, f: u16, w: u16, d: u16, u: u16) -> Way
-    ensures { λ q. ⌜ WayAt k r x e p f w d u (q .e) (q .v) (q .stop) ⌝ }
+// The walk `k` of the three: from `x` up to the root, from the root over `f` up to `x`, and over `d` up to `x`.
+fn way_at(k: u16, r: u16, t: Fork) -> Way
+    ensures { λ q. ⌜ WayAt k r (t .x) (t .e) (t .p) (t .f) (t .w) (t .d) (t .u) (q .e) (q .v) (q .stop) ⌝ }
 {
     if k == 0 {
         return Way {
-            e: e,
-            v: p,
+            e: t.e,
+            v: t.p,
             stop: r,
         };
     }
     if k == 1 {
         return Way {
-            e: f,
-            v: w,
-            stop: x,
+            e: t.f,
+            v: t.w,
+            stop: t.x,
         };
     }
     Way {
-        e: d,
-        v: u,
-        stop: x,
+        e: t.d,
+        v: t.u,
+        stop: t.x,
     }
 }

@@ -84,23 +84,23 @@ pub(crate) fn mark_up(ends: &[u16], first: &[u16], v: u16, stop: u16, mark: u16,
     marks[stop as usize] = mark;
 }
 
-// Builds the edges from `v` up to `stop`: marks them in `used`, and notes each vertex below its parent. The last vertex before `stop`.
+// Builds the edges from `v` up to `stop`: nothing stands in `over` at them any more, and each vertex is noted below its parent. The last vertex before `stop`.
 pub(crate) fn build_up(
     ends: &[u16],
     first: &[u16],
     v: u16,
     stop: u16,
     below: &mut [u16],
-    used: &mut [u8],
+    over: &mut [u16],
 ) -> u16
-    requires { ⌜ Raising (now ends) (now first) v stop (length (now below)) (length (now used)) ⌝ }
-    ensures { λ r. ⌜ RaisedUp (now (ends .entry)) (now (first .entry)) v stop (now (below .entry)) (now (used .entry)) (now (below .exit)) (now (used .exit)) r ⌝ }
+    requires { ⌜ Raising (now ends) (now first) v stop (length (now below)) (length (now over)) ⌝ }
+    ensures { λ r. ⌜ RaisedUp (now (ends .entry)) (now (first .entry)) v stop (now (below .entry)) (now (over .entry)) (now (below .exit)) (now (over .exit)) r ⌝ }
 {
     let mut at = v;
     let mut top = v;
     while at != stop {
         let e = first[at as usize] - 1;
-        used[e as usize] = 1;
+        over[e as usize] = 0;
         top = at;
         at = other_end(ends, e, top);
         below[at as usize] = top + 1;

@@ -13,11 +13,8 @@ slice-aggregate-look-below-2 c = search needs
 slice-aggregate-look-below-3 : tie.Need-slice-aggregate-look-below-3
 slice-aggregate-look-below-3 c = search needs
 
-slice-aggregate-look-below-4 : tie.Need-slice-aggregate-look-below-4
-slice-aggregate-look-below-4 c = search needs
-
 look-below-requires : tie.Need-look-below-requires
-look-below-requires c κs = let s = c .before .before .before .before .before .before .before .before .before .before .pre in numbering (s .0) (s .1)
+look-below-requires c κs = let s = c .before .before .before .before .before .before .before .before .before in numbering (s .pre .0) (s .pre .1)
 
 slice-aggregate-build-all : tie.Need-slice-aggregate-build-all
 slice-aggregate-build-all c = search needs
@@ -28,38 +25,21 @@ slice-aggregate-build-all-2 c = search needs
 slice-aggregate-build-all-3 : tie.Need-slice-aggregate-build-all-3
 slice-aggregate-build-all-3 c = search needs
 
-slice-aggregate-build-all-4 : tie.Need-slice-aggregate-build-all-4
-slice-aggregate-build-all-4 c = search needs
-
-slice-aggregate-build-all-5 : tie.Need-slice-aggregate-build-all-5
-slice-aggregate-build-all-5 c = search needs
-
-slice-aggregate-build-all-6 : tie.Need-slice-aggregate-build-all-6
-slice-aggregate-build-all-6 c = search needs
-
-slice-aggregate-build-all-7 : tie.Need-slice-aggregate-build-all-7
-slice-aggregate-build-all-7 c = search needs
-
-slice-aggregate-build-all-8 : tie.Need-slice-aggregate-build-all-8
-slice-aggregate-build-all-8 c = search needs
-
-slice-aggregate-build-all-9 : tie.Need-slice-aggregate-build-all-9
-slice-aggregate-build-all-9 c = search needs
-
 build-all-requires : tie.Need-build-all-requires
 build-all-requires c κs =
-    let k = c .before .before .before .before .before .before .before .before .before .before .before .before .before .before in
-    let s = k .before .before .before .before .before .before .before .before .before .before .before .pre in
-    ready (s .0) (s .1) (k .look-below .last .1 .1 .1 .1 .1 .1 .1 .1 .0) (k .look-below .ensures (numbering (s .0) (s .1))) (k .look-below .kept .1 .1 .1 .1 .1 .1 .1 .1 .0)
+    let k = c .before .before .before .before .before .before .before in
+    let s = k .before .before .before .before .before .before .before .before .before .before in
+    ready (s .pre .0) (s .pre .1) (k .look-below .last .1 .1 .1 .1 .1 .1 .1 .1 .0) (k .look-below .ensures (numbering (s .pre .0) (s .pre .1)))
 
 same-length : tie.Need-same-length
 same-length c = search needs
 
 returns : tie.Need-returns
 returns c =
-    let k = c .before .before .before .before .before .before .before .before .before .before .before .before .before .before .before .before .before .before .before .before .before .before in
-    let s = k .before .before .before .before .before .before .before .before .before .before .before .pre in
-    c .before .before .before .before .before .before .before .build-all .ensures (ready (s .0) (s .1) (k .look-below .last .1 .1 .1 .1 .1 .1 .1 .1 .0) (k .look-below .ensures (numbering (s .0) (s .1))) (k .look-below .kept .1 .1 .1 .1 .1 .1 .1 .1 .0))
+    let b = c .before .before .before in
+    let k = b .before .before .before .before .before .before .before .before in
+    let s = k .before .before .before .before .before .before .before .before .before .before in
+    b .build-all .ensures (ready (s .pre .0) (s .pre .1) (k .look-below .last .1 .1 .1 .1 .1 .1 .1 .1 .0) (k .look-below .ensures (numbering (s .pre .0) (s .pre .1))))
 
 pub build-record-spec : {M : Type 1} → statement M
 build-record-spec =
@@ -68,17 +48,10 @@ build-record-spec =
     slice-aggregate-look-below
     slice-aggregate-look-below-2
     slice-aggregate-look-below-3
-    slice-aggregate-look-below-4
     look-below-requires
     slice-aggregate-build-all
     slice-aggregate-build-all-2
     slice-aggregate-build-all-3
-    slice-aggregate-build-all-4
-    slice-aggregate-build-all-5
-    slice-aggregate-build-all-6
-    slice-aggregate-build-all-7
-    slice-aggregate-build-all-8
-    slice-aggregate-build-all-9
     build-all-requires
     same-length
     returns)

@@ -9,60 +9,66 @@ use Rattle.record.proofs.build.finish.Statement.{statement}
 use Rattle.record.proofs.build.finish.Tie as tie
 
 abbrev Inv-loop : tie.InvT-loop
-Inv-loop ends incident begins first order number last depth over places₀ below₀ tops₀ bottoms₀ used₀ rows₀ edges done₀ stage₀ places below tops bottoms used rows done stage =
-    (length places ≡ length places₀) × (length below ≡ length below₀) × (length tops ≡ length tops₀) × (length bottoms ≡ length bottoms₀) × (length used ≡ length used₀)
-    × ((c : Finishing ends incident begins first order number last depth over places₀ below₀ tops₀ bottoms₀ used₀ rows₀ (done₀ .row) (done₀ .step) (done₀ .next))
-    → Going (c .n) ends incident begins first order number last depth over (c .before) rows places below tops bottoms used (done .row) (done .step) (done .next)
+Inv-loop ends incident begins first order number last places₀ below₀ tips₀ over₀ rows₀ edges done₀ stage₀ places below tips over rows done stage =
+    (length places ≡ length places₀) × (length below ≡ length below₀) × (length tips ≡ length tips₀) × (length over ≡ length over₀)
+    × ((c : Finishing ends incident begins first order number last places₀ below₀ tips₀ over₀ rows₀ (done₀ .row) (done₀ .step) (done₀ .next))
+    → Going (c .n) ends incident begins first order number last (c .whole) (c .before) rows places below tips over (done .row) (done .step) (done .next)
     (stage .empty) (stage .at) (stage .slot))
 
 abbrev μ-loop : tie.MeasureT-loop
-μ-loop ends incident begins first order number last depth over places₀ below₀ tops₀ bottoms₀ used₀ rows₀ edges done₀ stage₀ places below tops bottoms used rows done stage =
-    edges - done .row
+μ-loop ends incident begins first order number last places₀ below₀ tips₀ over₀ rows₀ edges done₀ stage₀ places below tips over rows done stage = edges - done .row
 
 cast-edges : tie.Need-cast-edges Inv-loop μ-loop
-cast-edges c = record { fits = omega (arith, c .before .before .before .before .before .before .before .before .before .before .before .before .before .before .before .pre .ground .rooted .admitted .edges) }
+cast-edges c = record { fits = omega (arith, c .before .before .before .before .before .before .before .before .before .before .before .before .pre .ground .rooted .admitted .edges) }
 
 first-stage-requires : tie.Need-first-stage-requires Inv-loop μ-loop
-first-stage-requires c κs = let s = c .before .before .before .before .before .before .before .before .before .before .before .before .before .before .before .pre in (order-room s, begins-room s)
+first-stage-requires c κs = let s = c .before .before .before .before .before .before .before .before .before .before .before .before in (order-room (s .pre), begins-room (s .pre))
 
 loop-holds : tie.Need-loop-holds Inv-loop μ-loop
-loop-holds c = let e = c .first-stage .ensures in (refl, refl, refl, refl, refl, λ d. going-first d (e .0) (e .1) (e .2))
+loop-holds c = let e = c .first-stage .ensures in (refl, refl, refl, refl, λ d. going-first d (e .0) (e .1) (e .2))
 
 next-edge-requires : tie.Need-next-edge-requires Inv-loop μ-loop
 next-edge-requires c κs =
-    let l = c .before .before .before .before .before .before .before in
-    nexting (l .loop .inv .5 (l .before .before .before .before .before .before .before .before .before .before .before .before .before .before .before .before .before .pre)) (omega (arith, c .before .before .before .before .before .if1 .taken))
+    let t = c .before .before .before .before in
+    let l = t .before .before in
+    nexting (l .loop .inv .4 (l .before .before .before .before .before .before .before .before .before .before .before .before .before .before .pre)) (omega (arith, t .if1 .taken))
 
-add-rows-requires : tie.Need-add-rows-requires Inv-loop μ-loop
-add-rows-requires c κs =
-    let l = c .before .before .before .before .before .before .before .before .before .before .before .before .before .before in
-    let r = l .loop .inv .5 (l .before .before .before .before .before .before .before .before .before .before .before .before .before .before .before .before .before .pre) in
-    let h = c .before .before .before .before .before .before .before .before .before .before .before .before .if1 .taken in
-    adding r (omega (arith, h)) (c .before .before .before .before .before .before .next-edge .ensures (nexting r (omega (arith, h))) .1)
+add-path-requires : tie.Need-add-path-requires Inv-loop μ-loop
+add-path-requires c κs =
+    let n = c .before .before .before .before .before in
+    let t = n .before .before .before .before .before in
+    let l = t .before .before in
+    let r = l .loop .inv .4 (l .before .before .before .before .before .before .before .before .before .before .before .before .before .before .pre) in
+    let h = t .if1 .taken in
+    adding r (omega (arith, h)) (n .next-edge .ensures (nexting r (omega (arith, h))) .1)
 
 loop-less : tie.Need-loop-less Inv-loop μ-loop
 loop-less c =
-    let a = c .before .before .before .before .before .before .before .before .before .before .before .before in
-    let l = a .before .before .before .before .before .before .before .before .before .before .before .before .before .before .before in
-    let r = l .loop .inv .5 (l .before .before .before .before .before .before .before .before .before .before .before .before .before .before .before .before .before .pre) in
-    let h = a .before .before .before .before .before .before .before .before .before .before .before .before .before .if1 .taken in
-    omega (arith, h, a .add-rows .ensures (adding r (omega (arith, h)) (a .before .before .before .before .before .before .before .next-edge .ensures (nexting r (omega (arith, h))) .1)) .more-rows)
+    let a = c .before .before .before .before .before .before .before .before .before .before in
+    let n = a .before .before .before .before .before .before in
+    let t = n .before .before .before .before .before in
+    let l = t .before .before in
+    let r = l .loop .inv .4 (l .before .before .before .before .before .before .before .before .before .before .before .before .before .before .pre) in
+    let h = t .if1 .taken in
+    omega (arith, h, a .add-path .ensures (adding r (omega (arith, h)) (n .next-edge .ensures (nexting r (omega (arith, h))) .1)) .more-rows)
 
 loop-again : tie.Need-loop-again Inv-loop μ-loop
 loop-again c =
-    let a = c .before .before .before .before .before .before .before .before .before .before .before .before in
-    let l = a .before .before .before .before .before .before .before .before .before .before .before .before .before .before .before in
+    let a = c .before .before .before .before .before .before .before .before .before .before in
+    let n = a .before .before .before .before .before .before in
+    let t = n .before .before .before .before .before in
+    let l = t .before .before in
     let i = l .loop .inv in
-    let h = a .before .before .before .before .before .before .before .before .before .before .before .before .before .if1 .taken in (
-      a .add-rows .kept .1 .1 .1 .1 .1 .1 .0 ∙ i .0,
-      a .add-rows .kept .1 .1 .1 .1 .1 .1 .1 .0 ∙ i .1,
-      a .add-rows .kept .1 .1 .1 .1 .1 .1 .1 .1 .0 ∙ i .2,
-      a .add-rows .kept .1 .1 .1 .1 .1 .1 .1 .1 .1 .0 ∙ i .3,
-      a .add-rows .kept .1 .1 .1 .1 .1 .1 .1 .1 .1 .1 .0 ∙ i .4,
+    let h = t .if1 .taken in (
+      a .add-path .kept .1 .1 .1 .1 .1 .0 ∙ i .0,
+      a .add-path .kept .1 .1 .1 .1 .1 .1 .0 ∙ i .1,
+      a .add-path .kept .1 .1 .1 .1 .1 .1 .1 .0 ∙ i .2,
+      a .add-path .kept .1 .1 .1 .1 .1 .1 .1 .1 .0 ∙ i .3,
       λ d.
-          let r = i .5 d in
-          let e = a .before .before .before .before .before .before .before .next-edge .ensures (nexting r (omega (arith, h))) in
-          going-then r (omega (arith, h)) (a .add-rows .last .1 .1 .1 .1 .1 .1 .1 .0) (a .add-rows .last .1 .1 .1 .1 .1 .1 .1 .1 .0) (a .add-rows .last .1 .1 .1 .1 .1 .1 .1 .1 .1 .0) (a .add-rows .last .1 .1 .1 .1 .1 .1 .1 .1 .1 .1 .0) (a .add-rows .last .1 .1 .1 .1 .1 .1 .1 .1 .1 .1 .1 .0) (e .0) (a .add-rows .ensures (adding r (omega (arith, h)) (e .1))),
+          let r = i .4 d in
+          let e = n .next-edge .ensures (nexting r (omega (arith, h))) in
+          going-then r (omega (arith, h)) (a .add-path .last .1 .1 .1 .1 .1 .1 .0) (a .add-path .last .1 .1 .1 .1 .1 .1 .1 .0) (a .add-path .last .1 .1 .1 .1 .1 .1 .1 .1 .0) (a .add-path .last .1 .1 .1 .1 .1 .1 .1 .1 .1 .0) (e .0)
+          (a .add-path .ensures (adding r (omega (arith, h)) (e .1))),
     )
 
 same-length : tie.Need-same-length Inv-loop μ-loop
@@ -78,18 +84,15 @@ same-length-4 : tie.Need-same-length-4 Inv-loop μ-loop
 same-length-4 c = c .before .before .loop .inv .3
 
 same-length-5 : tie.Need-same-length-5 Inv-loop μ-loop
-same-length-5 c = c .before .before .loop .inv .4
-
-same-length-6 : tie.Need-same-length-6 Inv-loop μ-loop
-same-length-6 c =
+same-length-5 c =
     let l = c .before .before in
-    let s = l .before .before .before .before .before .before .before .before .before .before .before .before .before .before .before .before .before .pre in
-    going-long (l .loop .inv .5 s) ∙ sym (now-long (s .ground .rooted) (s .recording))
+    let s = l .before .before .before .before .before .before .before .before .before .before .before .before .before .before in
+    going-long (l .loop .inv .4 (s .pre)) ∙ sym (now-long (s .pre .ground .rooted) (s .pre .recording))
 
 returns : tie.Need-returns Inv-loop μ-loop
 returns c =
     let l = c .before .before in
-    λ d. let r = l .loop .inv .5 d in (going-long r ∙ sym (now-long (d .ground .rooted) (d .recording)), recorded r (omega (arith, c .if1 .left)))
+    λ d. let r = l .loop .inv .4 d in (going-long r ∙ sym (now-long (d .ground .rooted) (d .recording)), recorded r (omega (arith, c .if1 .left)))
 
 pub finish-spec : {M : Type 1} → statement M
 finish-spec =
@@ -101,7 +104,7 @@ finish-spec =
     first-stage-requires
     loop-holds
     next-edge-requires
-    add-rows-requires
+    add-path-requires
     loop-less
     loop-again
     same-length
@@ -109,5 +112,4 @@ finish-spec =
     same-length-3
     same-length-4
     same-length-5
-    same-length-6
     returns)

@@ -3,7 +3,6 @@ use mathlib.Core.Path.{refl}
 use mathlib.Core.Logic.{⊎-elim}
 use Prim.Native.Nat.{_-_, _≤_}
 use native.Mathlib.Omega.{arith}
-use lib.ListN.{length}
 use borrow.Author.Needs.{needs}
 use Rattle.graph.specs.Marks.{read}
 use Rattle.record.specs.Exits.{Passes, Reading}
@@ -12,16 +11,16 @@ use Rattle.record.proofs.exit.exit_at.Statement.{statement}
 use Rattle.record.proofs.exit.exit_at.Tie as tie
 
 abbrev Inv-loop : tie.InvT-loop
-Inv-loop ends incident begins number over places used v from to end own k₀ k =
-    (read begins v ≤ k) × Failing (read incident) (read begins) (read used) v (λ e. Passes ends number places (read over e - 1) own from to) k
+Inv-loop ends incident begins number places over v from to end own k₀ k =
+    (read begins v ≤ k) × Failing (read incident) (read begins) (read over) v (λ e. Passes ends number places (read over e - 1) own from to) k
 
 abbrev μ-loop : tie.MeasureT-loop
-μ-loop ends incident begins number over places used v from to end own k₀ k = end - k
+μ-loop ends incident begins number places over v from to end own k₀ k = end - k
 
 -- the edge of a turn stands in the tables
-edge : (o : tie.In-loop Inv-loop μ-loop) → let a = o .before .before .before .before .before .before .before .before .before .before .before .before .args in
-    Reading (a .ends .now) (a .number .now) (a .over .now) (a .places .now) (length (a .used .now)) (read (a .incident .now) (o .before .loop .k))
-edge o = o .before .before .before .before .before .before .before .before .before .before .before .before .pre .each (o .before .loop .k) (o .before .loop .inv .0) (o .loop-test .taken)
+edge : (o : tie.In-loop Inv-loop μ-loop) → let a = o .before .before .before .before .before .before .before .before .before .before .before .args in
+    Reading (a .ends .now) (a .number .now) (a .places .now) (a .over .now) (read (a .incident .now) (o .before .loop .k))
+edge o = o .before .before .before .before .before .before .before .before .before .before .before .pre .each (o .before .loop .k) (o .before .loop .inv .0) (o .loop-test .taken)
 
 add-end : tie.Need-add-end Inv-loop μ-loop
 add-end c = search needs
@@ -48,43 +47,40 @@ shared-slice-read-k : tie.Need-shared-slice-read-k Inv-loop μ-loop
 shared-slice-read-k c = search needs
 
 cast-k : tie.Need-cast-k Inv-loop μ-loop
-cast-k c = omega (arith, c .shared-slice-known10 .given (c .before .before .before .before .before .before .before .before .before .before .args .v))
+cast-k c = omega (arith, c .shared-slice-known9 .given (c .before .before .before .before .before .before .before .before .before .args .v))
 
 loop-holds : tie.Need-loop-holds Inv-loop μ-loop
 loop-holds c = search needs
 
-mul-e : tie.Need-mul-e Inv-loop μ-loop
-mul-e c = search needs
-
-shared-slice-read-e : tie.Need-shared-slice-read-e Inv-loop μ-loop
-shared-slice-read-e c = search needs
-
-cast-e : tie.Need-cast-e Inv-loop μ-loop
-cast-e c = omega (arith, c .shared-slice-known11 .given (c .before .before .loop .k))
-
-shared-slice-read-if1 : tie.Need-shared-slice-read-if1 Inv-loop μ-loop
-shared-slice-read-if1 c = omega (arith, edge (c .before .before) .used-long)
-
 mul-f : tie.Need-mul-f Inv-loop μ-loop
-mul-f c = omega (arith, edge (c .before .before .before) .over-long)
+mul-f c = search needs
 
 shared-slice-read-f : tie.Need-shared-slice-read-f Inv-loop μ-loop
-shared-slice-read-f c = omega (arith, edge (c .before .before .before .before) .over-long)
+shared-slice-read-f c = search needs
+
+cast-f : tie.Need-cast-f Inv-loop μ-loop
+cast-f c = omega (arith, c .shared-slice-known10 .given (c .before .before .loop .k))
+
+mul-f-2 : tie.Need-mul-f-2 Inv-loop μ-loop
+mul-f-2 c = omega (arith, c .shared-slice-known10 .given (c .before .before .loop .k))
+
+shared-slice-read-f-2 : tie.Need-shared-slice-read-f-2 Inv-loop μ-loop
+shared-slice-read-f-2 c = omega (arith, edge (c .before .before) .long)
 
 sub-is-exit : tie.Need-sub-is-exit Inv-loop μ-loop
-sub-is-exit c = omega (arith, edge (c .before .before .before .before) .some)
+sub-is-exit c = search needs
 
 is-exit-requires : tie.Need-is-exit-requires Inv-loop μ-loop
-is-exit-requires c κs = edge (c .before .before .before .before) .test
+is-exit-requires c κs = edge (c .before .before .before) .test (omega (arith, c .if1 .taken))
 
 returns : tie.Need-returns Inv-loop μ-loop
 returns c =
-    let o = c .before .before .before .before .before .before in
+    let o = c .before .before .before .before .before in
     record {
-      none = λ p. absurd (omega (arith, edge o .some, p));
+      none = λ p. absurd (c .before .before .if1 .taken p);
       some = λ p. (
         o .before .loop .k,
-        record { from = o .before .loop .inv .0; to = o .loop-test .taken; new = c .before .before .before .if1 .taken },
+        record { from = o .before .loop .inv .0; to = o .loop-test .taken; new = omega (arith, p) },
         refl,
         rw (c .if2 .taken) at (c .before .is-exit .ensures),
       );
@@ -99,11 +95,11 @@ loop-less c = search needs
 loop-again : tie.Need-loop-again Inv-loop μ-loop
 loop-again c =
     let o = c .before .before .before .before in
-    let a = o .before .before .before .before .before .before .before .before .before .before .before .args in (
+    let a = o .before .before .before .before .before .before .before .before .before .before .args in (
       omega (arith, o .loop .inv .0),
-      failing-more (read (a .incident .now)) (read (a .begins .now)) (read (a .used .now)) (a .v) (o .loop .k)
+      failing-more (read (a .incident .now)) (read (a .begins .now)) (read (a .over .now)) (a .v) (o .loop .k)
           (λ e. Passes (a .ends .now) (a .number .now) (a .places .now) (read (a .over .now) e - 1) (read (a .places .now) (a .v)) (a .from) (a .to)) (o .loop .inv .1) (λ u.
-          ⊎-elim (λ w. rw (w .3 .left) at (w .2 .ensures)) (λ w. absurd (w .left u)) (c .if1 .came)),
+          ⊎-elim (λ w. rw (w .2 .left) at (w .1 .ensures)) (λ w. absurd (omega (arith, w .left, u))) (c .if1 .came)),
     )
 
 returns-2 : tie.Need-returns-2 Inv-loop μ-loop
@@ -128,12 +124,11 @@ exit-at-spec =
     shared-slice-read-k
     cast-k
     loop-holds
-    mul-e
-    shared-slice-read-e
-    cast-e
-    shared-slice-read-if1
     mul-f
     shared-slice-read-f
+    cast-f
+    mul-f-2
+    shared-slice-read-f-2
     sub-is-exit
     is-exit-requires
     returns

@@ -13,22 +13,22 @@ use Rattle.record.proofs.exit.leave_link.Statement.{statement}
 use Rattle.record.proofs.exit.leave_link.Tie as tie
 
 abbrev Inv-loop : tie.InvT-loop
-Inv-loop ends incident begins first number last over places below used top bottom under a₀ b₀ a-work₀ b-work₀ a b a-work b-work =
-    (c : Leaving ends incident begins first number last over places below used top bottom) → Sought c a b
+Inv-loop ends incident begins first number last places below over top bottom under a₀ b₀ a-work₀ b-work₀ a b a-work b-work =
+    (c : Leaving ends incident begins first number last places below over top bottom) → Sought c a b
 
 abbrev μ-loop : tie.MeasureT-loop
-μ-loop ends incident begins first number last over places below used top bottom under a₀ b₀ a-work₀ b-work₀ a b a-work b-work =
+μ-loop ends incident begins first number last places below over top bottom under a₀ b₀ a-work₀ b-work₀ a b a-work b-work =
     read number b - read number a
 
 -- the function's entry, from the head of the loop
 abbrev entry : tie.At-loop Inv-loop μ-loop → tie.Start Inv-loop μ-loop
-entry o = o .before .before .before .before .before .before .before .before .before .before .before .before .before .before
+entry o = o .before .before .before .before .before .before .before .before .before .before .before .before .before
 
 -- what is required, which the invariant speaks of however it was shown
 abbrev Given : tie.Start Inv-loop μ-loop → Type 0
 Given s = let a = s .args in
-    Leaving (a .ends .now) (a .incident .now) (a .begins .now) (a .first .now) (a .number .now) (a .last .now) (a .over .now) (a .places .now) (a .below .now)
-    (a .used .now) (a .top) (a .bottom)
+    Leaving (a .ends .now) (a .incident .now) (a .begins .now) (a .first .now) (a .number .now) (a .last .now) (a .places .now) (a .below .now)
+    (a .over .now) (a .top) (a .bottom)
 
 sought : (o : tie.At-loop Inv-loop μ-loop) (d : Given (entry o)) → Sought d (o .loop .a) (o .loop .b)
 sought o d = o .loop .inv d
@@ -58,13 +58,13 @@ below-long : (o : tie.At-loop Inv-loop μ-loop) → o .loop .a < length (entry o
 below-long o = let d = entry o .pre in omega (arith, inside-below d (sought o d .upper), d .below-long)
 
 range-below-requires : tie.Need-range-below-requires Inv-loop μ-loop
-range-below-requires c κs = ranging (c .before .before .before .before .before .before .before .before .before .before .pre)
+range-below-requires c κs = ranging (c .before .before .before .before .before .before .before .before .before .pre)
 
 size-requires : tie.Need-size-requires Inv-loop μ-loop
-size-requires c κs = let s = c .before .before .before .before .before .before .before .before .before .before .before in sized (s .pre) (s .args .top) (s .pre .tips .has-top)
+size-requires c κs = let s = c .before .before .before .before .before .before .before .before .before .before in sized (s .pre) (s .args .top) (s .pre .tips .has-top)
 
 size-requires-2 : tie.Need-size-requires-2 Inv-loop μ-loop
-size-requires-2 c κs = let s = c .before .before .before .before .before .before .before .before .before .before .before .before in sized (s .pre) (s .args .bottom) (s .pre .tips .has-bottom)
+size-requires-2 c κs = let s = c .before .before .before .before .before .before .before .before .before .before .before in sized (s .pre) (s .args .bottom) (s .pre .tips .has-bottom)
 
 loop-holds : tie.Need-loop-holds Inv-loop μ-loop
 loop-holds c = sought-start
@@ -82,10 +82,10 @@ returns : tie.Need-returns Inv-loop μ-loop
 returns c = λ d. leaves-at d (c .before .before .before .before .before .before .range-below .ensures) (inside (c .before .before) d) (c .before .exit-at .ensures) (c .if1 .taken)
 
 cast-a : tie.Need-cast-a Inv-loop μ-loop
-cast-a c = omega (arith, below-long (c .before .before .before .before), entry (c .before .before .before .before) .good .1 .1 .1 .1 .1 .1 .1 .1 .0)
+cast-a c = omega (arith, below-long (c .before .before .before .before), entry (c .before .before .before .before) .good .1 .1 .1 .1 .1 .1 .1 .0)
 
 mul-a : tie.Need-mul-a Inv-loop μ-loop
-mul-a c = omega (arith, below-long (c .before .before .before .before), entry (c .before .before .before .before) .good .1 .1 .1 .1 .1 .1 .1 .1 .0)
+mul-a c = omega (arith, below-long (c .before .before .before .before), entry (c .before .before .before .before) .good .1 .1 .1 .1 .1 .1 .1 .0)
 
 shared-slice-read-a : tie.Need-shared-slice-read-a Inv-loop μ-loop
 shared-slice-read-a c = below-long (c .before .before .before .before .before)

@@ -4,75 +4,63 @@ use Prim.Native.Nat.{_+_, _<_}
 use native.Mathlib.Omega.{arith}
 use lib.ListN.{length-set}
 use borrow.Author.Needs.{needs}
+use Rattle.record.proofs.TwoTips.{tips-length}
 use Rattle.record.proofs.NewWalk.{walked-none, raising, top-below, marking, next-room, walked}
 use Rattle.record.proofs.link.build_walk.Statement.{statement}
 use Rattle.record.proofs.link.build_walk.Tie as tie
 
+-- the entry, from after the call of `build_up`, and that, from after the call of `mark_up`
+abbrev entry : tie.After-build-up → tie.Start
+entry up = up .before .before .before .before .before .before .before .before .before .before
+
+abbrev built : tie.After-mark-up → tie.After-build-up
+built o = o .before .before .before .before .before .before
+
 -- the new place is one of the links'
-room : (o : tie.After-mark-up) → let s = o .before .before .before .before .before .before .before .before .before .before .before .before .before .before .before .before .before in
-    s .args .next < s .pre .n + 2
+room : (o : tie.After-mark-up) → let s = entry (built o) in s .args .next < s .pre .n + 2
 room o =
-    let up = o .before .before .before .before .before .before in
-    let s = up .before .before .before .before .before .before .before .before .before .before .before in
-    next-room (s .pre) (up .before .before .before .if1 .left) (up .build-up .last .1 .1 .1 .1 .0) (up .build-up .last .1 .1 .1 .1 .1 .0) (up .build-up .result) (up .build-up .ensures)
+    let up = built o in
+    next-room (entry up .pre) (up .before .before .before .if1 .left) (up .build-up .last .1 .1 .1 .1 .0) (up .build-up .last .1 .1 .1 .1 .1 .0) (up .build-up .result) (up .build-up .ensures)
     (o .mark-up .last .1 .1 .1 .1 .1 .0) (o .mark-up .ensures)
 
-slice-write-used : tie.Need-slice-write-used
-slice-write-used c = search needs
+mul-over : tie.Need-mul-over
+mul-over c = search needs
+
+slice-write-over : tie.Need-slice-write-over
+slice-write-over c = search needs
 
 same-length : tie.Need-same-length
 same-length c = search needs
 
 returns : tie.Need-returns
 returns c =
-    let s = c .before .before .before .before .before .before .before .before in
-    (refl, refl, refl, refl, length-set (s .args .used .now) (s .args .e) 1, λ d. (walked-none d (c .if1 .taken), omega arith))
+    let s = c .before .before .before .before .before .before .before in
+    (refl, refl, refl, length-set (s .args .over .now) (s .args .e) 0, λ d. (walked-none d (c .if1 .taken), omega arith))
 
 build-up-requires : tie.Need-build-up-requires
-build-up-requires c κs = raising (c .before .before .before .before .before .before .before .before .before .before .pre)
+build-up-requires c κs = raising (c .before .before .before .before .before .before .before .before .before .pre)
 
 mark-up-requires : tie.Need-mark-up-requires
 mark-up-requires c κs =
     let up = c .before .before .before .before .before in
-    let s = up .before .before .before .before .before .before .before .before .before .before .before in
-    marking (s .pre) (up .before .before .before .if1 .left) (up .build-up .last .1 .1 .1 .1 .0) (up .build-up .last .1 .1 .1 .1 .1 .0) (up .build-up .result) (up .build-up .ensures)
+    marking (entry up .pre) (up .before .before .before .if1 .left) (up .build-up .last .1 .1 .1 .1 .0) (up .build-up .last .1 .1 .1 .1 .1 .0) (up .build-up .result) (up .build-up .ensures)
 
-add-tops : tie.Need-add-tops
-add-tops c =
-    let up = c .before .before .before .before .before .before .before .before in
-    let s = up .before .before .before .before .before .before .before .before .before .before .before in
+add-set-tips : tie.Need-add-set-tips
+add-set-tips c =
+    let up = built (c .before .before .before) in
     omega (
       arith,
-      top-below (s .pre) (up .before .before .before .if1 .left) (up .build-up .last .1 .1 .1 .1 .0) (up .build-up .last .1 .1 .1 .1 .1 .0) (up .build-up .result)
-          (up .build-up .ensures),
+      top-below (entry up .pre) (up .before .before .before .if1 .left) (up .build-up .last .1 .1 .1 .1 .0) (up .build-up .last .1 .1 .1 .1 .1 .0) (up .build-up .result) (up .build-up .ensures),
     )
 
-mul-tops : tie.Need-mul-tops
-mul-tops c = search needs
+add-set-tips-2 : tie.Need-add-set-tips-2
+add-set-tips-2 c = search needs
 
-slice-write-tops : tie.Need-slice-write-tops
-slice-write-tops c =
-    let o = c .before .before in
-    let s = o .before .before .before .before .before .before .before .before .before .before .before .before .before .before .before .before .before in
-    omega (arith, room o, s .pre .filing .roomy .tops-long)
-
-add-bottoms : tie.Need-add-bottoms
-add-bottoms c = search needs
-
-mul-bottoms : tie.Need-mul-bottoms
-mul-bottoms c = search needs
-
-slice-write-bottoms : tie.Need-slice-write-bottoms
-slice-write-bottoms c =
-    let o = c .before .before in
-    let s = o .before .before .before .before .before .before .before .before .before .before .before .before .before .before .before .before .before in
-    omega (arith, room o, s .pre .filing .roomy .bottoms-long)
+set-tips-requires : tie.Need-set-tips-requires
+set-tips-requires c κs = let o = c .before .before .before in omega (arith, room o, entry (built o) .pre .filing .roomy .tips-long)
 
 add-result : tie.Need-add-result
-add-result c =
-    let o = c .before .before in
-    let s = o .before .before .before .before .before .before .before .before .before .before .before .before .before .before .before .before .before in
-    omega (arith, room o, s .pre .filing .rooted .admitted .vertices)
+add-result c = let o = c .before .before .before .before .before .before in omega (arith, room o, entry (built o) .pre .filing .rooted .admitted .vertices)
 
 same-length-2 : tie.Need-same-length-2
 same-length-2 c = search needs
@@ -84,25 +72,21 @@ same-length-4 : tie.Need-same-length-4
 same-length-4 c = search needs
 
 same-length-5 : tie.Need-same-length-5
-same-length-5 c = search needs
-
-same-length-6 : tie.Need-same-length-6
-same-length-6 c =
-    let up = c .before .before .before .before .before .before .before .before in
-    let s = up .before .before .before .before .before .before .before .before .before .before .before in
-    up .build-up .ensures .1 ∙ length-set (s .args .used .now) (s .args .e) 1
+same-length-5 c =
+    let up = built (c .before .before .before .before .before .before) in
+    let a = entry up .args in
+    up .build-up .ensures .1 ∙ length-set (a .over .now) (a .e) 0
 
 returns-2 : tie.Need-returns-2
 returns-2 c =
-    let o = c .before .before in
-    let up = o .before .before .before .before .before .before in
-    let s = up .before .before .before .before .before .before .before .before .before .before .before in
-    let a = s .args in (
+    let o = c .before .before .before .before .before .before in
+    let up = built o in
+    let a = entry up .args in
+    rw (c .before .before .set-tips .ensures) (
       o .mark-up .ensures .0,
       up .build-up .ensures .0,
-      length-set (a .tops .now) (a .next) (up .build-up .result + 1),
-      length-set (a .bottoms .now) (a .next) (a .v + 1),
-      up .build-up .ensures .1 ∙ length-set (a .used .now) (a .e) 1,
+      tips-length (a .tips .now) (a .next) (up .build-up .result + 1) (a .v + 1),
+      up .build-up .ensures .1 ∙ length-set (a .over .now) (a .e) 0,
       λ d. (
         walked d (up .before .before .before .if1 .left) (up .build-up .last .1 .1 .1 .1 .0) (up .build-up .last .1 .1 .1 .1 .1 .0) (up .build-up .result) (up .build-up .ensures)
             (o .mark-up .last .1 .1 .1 .1 .1 .0) (o .mark-up .ensures),
@@ -114,21 +98,18 @@ pub build-walk-spec : {M : Type 1} → statement M
 build-walk-spec =
     tie.close
     (tie.spec
-    slice-write-used
+    mul-over
+    slice-write-over
     same-length
     returns
     build-up-requires
     mark-up-requires
-    add-tops
-    mul-tops
-    slice-write-tops
-    add-bottoms
-    mul-bottoms
-    slice-write-bottoms
+    add-set-tips
+    add-set-tips-2
+    set-tips-requires
     add-result
     same-length-2
     same-length-3
     same-length-4
     same-length-5
-    same-length-6
     returns-2)

@@ -21,13 +21,13 @@ cut-top-requires c κs = search needs
 
 -- the entry, from where v is not the top
 abbrev entry : tie.Else1 → tie.Start
-entry e = e .before .before .before .before .before .before
+entry e = e .before .before .before .before .before
 
 abbrev up : tie.Start → ℕ
 up s = nextUp (s .args .ends .now) (s .args .first .now) (s .args .v)
 
 returns : tie.Need-returns
-returns c = let s = c .before .before .before .before .before .before .before in c .cut-top .ensures (up s + 1)
+returns c = let s = c .before .before .before .before .before .before in c .cut-top .ensures (up s + 1)
 
 above-requires : tie.Need-above-requires
 above-requires c κs = entry c .pre .rises (c .if1 .left)
@@ -48,7 +48,7 @@ sub-is-upper-shorter-2 : tie.Need-sub-is-upper-shorter-2
 sub-is-upper-shorter-2 c = search needs
 
 is-upper-shorter-requires : tie.Need-is-upper-shorter-requires
-is-upper-shorter-requires c κs = search needs
+is-upper-shorter-requires c κs = let e = c .before .before in entry e .pre .between (e .if1 .left) (c .if2 .left)
 
 cut-inside-requires : tie.Need-cut-inside-requires
 cut-inside-requires c κs = search needs

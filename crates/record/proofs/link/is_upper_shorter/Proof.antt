@@ -1,58 +1,57 @@
--- `is_upper_shorter` meets its contract: each of the three has a depth, and twice one of them fits.
-use native.Mathlib.Omega.{arith}
+-- `is_upper_shorter` meets its contract. The loop's invariant: both are onward on their ways.
 use borrow.Author.Needs.{needs}
+use Rattle.record.specs.Parting.{Between}
+use Rattle.record.proofs.Paths.{left, left-less, Onward, onward-start, onward-rises, onward-step}
 use Rattle.record.proofs.link.is_upper_shorter.Statement.{statement}
 use Rattle.record.proofs.link.is_upper_shorter.Tie as tie
 
-mul-twice : tie.Need-mul-twice
-mul-twice c = search needs
+abbrev Inv-loop : tie.InvT-loop
+Inv-loop ends first v top bottom a₀ b₀ a b = (d : Between ends first v top bottom) → Onward (d .upper) a × Onward (d .lower) b
 
-shared-slice-read-twice : tie.Need-shared-slice-read-twice
-shared-slice-read-twice c = search needs
+abbrev μ-loop : tie.MeasureT-loop
+μ-loop ends first v top bottom a₀ b₀ a b = left ends first top a
 
-cast-twice : tie.Need-cast-twice
-cast-twice c = omega (arith, c .shared-slice-known .given (c .before .args .v))
+-- where both are
+upper : (t : tie.In-loop Inv-loop μ-loop) → Onward (t .before .before .before .before .pre .upper) (t .before .loop .a)
+upper t = t .before .loop .inv (t .before .before .before .before .pre) .0
 
-mul-twice-2 : tie.Need-mul-twice-2
-mul-twice-2 c = omega (arith, c .shared-slice-known .given (c .before .args .v))
+lower : (t : tie.In-loop Inv-loop μ-loop) → Onward (t .before .before .before .before .pre .lower) (t .before .loop .b)
+lower t = t .before .loop .inv (t .before .before .before .before .pre) .1
 
-mul-result : tie.Need-mul-result
-mul-result c = search needs
+loop-holds : tie.Need-loop-holds Inv-loop μ-loop
+loop-holds c = λ d. (onward-start (d .upper), onward-start (d .lower))
 
-shared-slice-read-result : tie.Need-shared-slice-read-result
-shared-slice-read-result c = search needs
-
-cast-result : tie.Need-cast-result
-cast-result c = omega (arith, c .shared-slice-known2 .given (c .before .before .args .top))
-
-mul-result-2 : tie.Need-mul-result-2
-mul-result-2 c = search needs
-
-shared-slice-read-result-2 : tie.Need-shared-slice-read-result-2
-shared-slice-read-result-2 c = search needs
-
-cast-result-2 : tie.Need-cast-result-2
-cast-result-2 c = omega (arith, c .shared-slice-known3 .given (c .before .before .before .args .bottom))
-
-add-result : tie.Need-add-result
-add-result c = let a = c .before .before .before .args in omega (arith, c .shared-slice-known3 .given (a .top), c .shared-slice-known3 .given (a .bottom))
-
-returns : tie.Need-returns
+returns : tie.Need-returns Inv-loop μ-loop
 returns c = search needs
+
+above-requires : tie.Need-above-requires Inv-loop μ-loop
+above-requires c κs = onward-rises (upper (c .before)) (c .before .loop-test .taken)
+
+above-requires-2 : tie.Need-above-requires-2 Inv-loop μ-loop
+above-requires-2 c κs = onward-rises (lower (c .before .before)) (c .before .if1 .left)
+
+loop-less : tie.Need-loop-less Inv-loop μ-loop
+loop-less c = let t = c .before .before .before in rw (c .before .above .ensures) (left-less (upper t) (t .loop-test .taken))
+
+loop-again : tie.Need-loop-again Inv-loop μ-loop
+loop-again c =
+    let t = c .before .before .before in
+    λ d. rw (c .before .above .ensures)
+    (rw (c .above2 .ensures) (onward-step (t .before .loop .inv d .0) (t .loop-test .taken), onward-step (t .before .loop .inv d .1) (c .before .before .if1 .left)))
+
+returns-2 : tie.Need-returns-2 Inv-loop μ-loop
+returns-2 c = search needs
 
 pub is-upper-shorter-spec : {M : Type 1} → statement M
 is-upper-shorter-spec =
     tie.close
     (tie.spec
-    mul-twice
-    shared-slice-read-twice
-    cast-twice
-    mul-twice-2
-    mul-result
-    shared-slice-read-result
-    cast-result
-    mul-result-2
-    shared-slice-read-result-2
-    cast-result-2
-    add-result
-    returns)
+    Inv-loop
+    μ-loop
+    loop-holds
+    returns
+    above-requires
+    above-requires-2
+    loop-less
+    loop-again
+    returns-2)

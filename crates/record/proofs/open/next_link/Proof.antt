@@ -1,6 +1,6 @@
 -- `next_link` meets its contract. The loop's invariant: the places from the first up to m have no top.
 use mathlib.Core.Path.{_≡_}
-use Prim.Native.Nat.{ℕ, _-_, _≤_, _<_}
+use Prim.Native.Nat.{ℕ, _*_, _-_, _≤_, _<_}
 use native.Mathlib.Omega.{arith}
 use borrow.Author.Needs.{needs}
 use borrow.Author.Count.{below-more}
@@ -9,10 +9,10 @@ use Rattle.record.proofs.open.next_link.Statement.{statement}
 use Rattle.record.proofs.open.next_link.Tie as tie
 
 abbrev Inv-loop : tie.InvT-loop
-Inv-loop tops next from m₀ m = (from ≤ m) × (m ≤ next) × ((k : ℕ) → k < m → from ≤ k → getD tops k 0 ≡ 0)
+Inv-loop tips next from m₀ m = (from ≤ m) × (m ≤ next) × ((k : ℕ) → k < m → from ≤ k → getD tips (2 * k) 0 ≡ 0)
 
 abbrev μ-loop : tie.MeasureT-loop
-μ-loop tops next from m₀ m = next - m
+μ-loop tips next from m₀ m = next - m
 
 loop-holds : tie.Need-loop-holds Inv-loop μ-loop
 loop-holds c = (omega arith, omega (arith, c .pre .1), λ k a b. absurd (omega arith))
@@ -22,6 +22,9 @@ cast-if1 c = search needs
 
 mul-if1 : tie.Need-mul-if1 Inv-loop μ-loop
 mul-if1 c = search needs
+
+mul-if1-2 : tie.Need-mul-if1-2 Inv-loop μ-loop
+mul-if1-2 c = search needs
 
 shared-slice-read-if1 : tie.Need-shared-slice-read-if1 Inv-loop μ-loop
 shared-slice-read-if1 c = omega (arith, c .before .before .before .pre .0, c .before .loop-test .taken)
@@ -56,6 +59,7 @@ next-link-spec =
     loop-holds
     cast-if1
     mul-if1
+    mul-if1-2
     shared-slice-read-if1
     returns
     add-m

@@ -9,10 +9,10 @@ use Rattle.record.proofs.open.next_open.Statement.{statement}
 use Rattle.record.proofs.open.next_open.Tie as tie
 
 abbrev Inv-loop : tie.InvT-loop
-Inv-loop incident begins order used at slot i₀ from₀ i from = ScannedTo incident begins order used at slot i from
+Inv-loop incident begins order over at slot i₀ from₀ i from = ScannedTo incident begins order over at slot i from
 
 abbrev μ-loop : tie.MeasureT-loop
-μ-loop incident begins order used at slot i₀ from₀ i from = length order - i
+μ-loop incident begins order over at slot i₀ from₀ i from = length order - i
 
 -- the vertex and its group are there
 here : (l : tie.At-loop Inv-loop μ-loop) → let s = l .before .before .before .before .before in

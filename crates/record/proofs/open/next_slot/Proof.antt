@@ -1,18 +1,19 @@
 -- `next_slot` meets its contract. The loop's invariant: the edges from the first place up to k are built.
+use mathlib.Core.Path.{_≡_}
 use Prim.Native.Nat.{ℕ, _-_, _≤_, _<_}
 use native.Mathlib.Omega.{arith}
 use borrow.Author.Needs.{needs}
 use borrow.Author.Count.{below-more}
 use lib.ListN.{getD}
-use Rattle.graph.specs.Marks.{read, Marked}
+use Rattle.graph.specs.Marks.{read}
 use Rattle.record.proofs.open.next_slot.Statement.{statement}
 use Rattle.record.proofs.open.next_slot.Tie as tie
 
 abbrev Inv-loop : tie.InvT-loop
-Inv-loop incident used from end k₀ k = (from ≤ k) × (k ≤ end) × ((j : ℕ) → j < k → from ≤ j → Marked (read used) (getD incident j 0))
+Inv-loop incident over from end k₀ k = (from ≤ k) × (k ≤ end) × ((j : ℕ) → j < k → from ≤ j → read over (getD incident j 0) ≡ 0)
 
 abbrev μ-loop : tie.MeasureT-loop
-μ-loop incident used from end k₀ k = end - k
+μ-loop incident over from end k₀ k = end - k
 
 loop-holds : tie.Need-loop-holds Inv-loop μ-loop
 loop-holds c = (omega arith, c .pre .low, λ k a b. absurd (omega arith))
@@ -28,6 +29,9 @@ shared-slice-read-if1 c = omega (arith, c .before .before .before .pre .long, c 
 
 cast-if1-2 : tie.Need-cast-if1-2 Inv-loop μ-loop
 cast-if1-2 c = omega (arith, c .shared-slice-known .given (c .before .before .loop .k))
+
+mul-if1-2 : tie.Need-mul-if1-2 Inv-loop μ-loop
+mul-if1-2 c = omega (arith, c .shared-slice-known .given (c .before .before .loop .k))
 
 shared-slice-read-if1-2 : tie.Need-shared-slice-read-if1-2 Inv-loop μ-loop
 shared-slice-read-if1-2 c =
@@ -48,7 +52,7 @@ loop-less c = search needs
 loop-again : tie.Need-loop-again Inv-loop μ-loop
 loop-again c =
     let i = c .before .before .before .before .loop .inv in
-    (omega (arith, i .0), omega (arith, c .before .before .before .loop-test .taken), below-more _ _ (i .2) (λ h z. omega (arith, c .if1 .left, z)))
+    (omega (arith, i .0), omega (arith, c .before .before .before .loop-test .taken), below-more _ _ (i .2) (λ h. omega (arith, c .if1 .left)))
 
 returns-2 : tie.Need-returns-2 Inv-loop μ-loop
 returns-2 c =
@@ -66,6 +70,7 @@ next-slot-spec =
     mul-if1
     shared-slice-read-if1
     cast-if1-2
+    mul-if1-2
     shared-slice-read-if1-2
     returns
     add-k

@@ -34,14 +34,14 @@ two-long m =
 write-walk-requires : tie.Need-write-walk-requires
 write-walk-requires c κs = let s = c .before .before .before .before in high-room (s .args .rows .now) (s .pre)
 
-cast-write-walk : tie.Need-cast-write-walk
-cast-write-walk c = search needs
+cast-from : tie.Need-cast-from
+cast-from c = search needs
+
+mul-from : tie.Need-mul-from
+mul-from c = search needs
 
 mul-write-walk : tie.Need-mul-write-walk
 mul-write-walk c = search needs
-
-mul-write-walk-2 : tie.Need-mul-write-walk-2
-mul-write-walk-2 c = search needs
 
 sub-write-walk : tie.Need-sub-write-walk
 sub-write-walk c = omega (arith, one-long (c .before .before))
@@ -58,17 +58,17 @@ write-walk-requires-2 c κs =
     let s = k .before .before .before .before .before in
     low-room (s .args .rows .now) (s .pre) (k .write-walk .last .1 .1 .1 .1 .1 .1 .1 .0) (k .write-walk .result) (k .write-walk .ensures)
 
-add-write-walk : tie.Need-add-write-walk
-add-write-walk c = omega (arith, two-long (c .before .before))
+add-from : tie.Need-add-from
+add-from c = omega (arith, two-long (c .before .before))
 
-cast-write-walk-2 : tie.Need-cast-write-walk-2
-cast-write-walk-2 c = search needs
+cast-from-2 : tie.Need-cast-from-2
+cast-from-2 c = search needs
 
-mul-write-walk-3 : tie.Need-mul-write-walk-3
-mul-write-walk-3 c = search needs
+mul-from-2 : tie.Need-mul-from-2
+mul-from-2 c = search needs
 
-mul-write-walk-4 : tie.Need-mul-write-walk-4
-mul-write-walk-4 c = search needs
+mul-write-walk-2 : tie.Need-mul-write-walk-2
+mul-write-walk-2 c = search needs
 
 sub-write-walk-2 : tie.Need-sub-write-walk-2
 sub-write-walk-2 c = omega (arith, two-long (c .before .before))
@@ -116,17 +116,17 @@ write-walks-spec =
     tie.close
     (tie.spec
     write-walk-requires
-    cast-write-walk
+    cast-from
+    mul-from
     mul-write-walk
-    mul-write-walk-2
     sub-write-walk
     part-write-walk-start
     part-write-walk-end
     write-walk-requires-2
-    add-write-walk
-    cast-write-walk-2
-    mul-write-walk-3
-    mul-write-walk-4
+    add-from
+    cast-from-2
+    mul-from-2
+    mul-write-walk-2
     sub-write-walk-2
     part-write-walk-start-2
     part-write-walk-end-2

@@ -9,18 +9,18 @@ use Rattle.record.proofs.walk.build_up.Statement.{statement}
 use Rattle.record.proofs.walk.build_up.Tie as tie
 
 abbrev Inv-loop : tie.InvT-loop
-Inv-loop ends first v stop below₀ used₀ at₀ top₀ below used at top = LiftsAll ends first v stop below₀ used₀ below used top at
+Inv-loop ends first v stop below₀ over₀ at₀ top₀ below over at top = LiftsAll ends first v stop below₀ over₀ below over top at
 
 abbrev μ-loop : tie.MeasureT-loop
-μ-loop ends first v stop below₀ used₀ at₀ top₀ below used at top = left ends first stop at
+μ-loop ends first v stop below₀ over₀ at₀ top₀ below over at top = left ends first stop at
 
 rises : (t : tie.In-loop Inv-loop μ-loop) → let a = t .before .before .before .before .before .before .args in Rises (a .ends .now) (a .first .now) (t .before .loop .at)
 rises t =
     let pre = t .before .before .before .before .before .before .pre in
     onward-rises (t .before .loop .inv pre .on) (t .loop-test .taken)
 
--- the edge is one of `used`, and the next vertex one of `below`
-edge-room : (t : tie.In-loop Inv-loop μ-loop) → length (t .before .before .before .before .before .before .args .ends .now) / 2 ≤ length (t .before .loop .used)
+-- the edge is one of `over`, and the next vertex one of `below`
+edge-room : (t : tie.In-loop Inv-loop μ-loop) → length (t .before .before .before .before .before .before .args .ends .now) / 2 ≤ length (t .before .loop .over)
 edge-room t =
     let pre = t .before .before .before .before .before .before .pre in
     omega (arith, pre .edges, t .before .loop .inv pre .sets .long)
@@ -35,7 +35,7 @@ next-room t =
 loop-holds : tie.Need-loop-holds Inv-loop μ-loop
 loop-holds c =
     let a = c .before .before .before .before .args in
-    lifts-start (a .ends .now) (a .first .now) (a .below .now) (a .used .now) (a .v) (a .stop)
+    lifts-start (a .ends .now) (a .first .now) (a .below .now) (a .over .now) (a .v) (a .stop)
 
 cast-e : tie.Need-cast-e Inv-loop μ-loop
 cast-e c = omega (arith, rises c .long)
@@ -49,11 +49,14 @@ shared-slice-read-e c = rises (c .before) .long
 sub-e : tie.Need-sub-e Inv-loop μ-loop
 sub-e c = rises (c .before) .seen
 
-cast-used : tie.Need-cast-used Inv-loop μ-loop
-cast-used c = omega (arith, rises (c .before) .edge, edge-room (c .before))
+cast-over : tie.Need-cast-over Inv-loop μ-loop
+cast-over c = omega (arith, rises (c .before) .edge, edge-room (c .before))
 
-slice-write-used : tie.Need-slice-write-used Inv-loop μ-loop
-slice-write-used c = omega (arith, rises (c .before) .edge, edge-room (c .before))
+mul-over : tie.Need-mul-over Inv-loop μ-loop
+mul-over c = omega (arith, rises (c .before) .edge, edge-room (c .before))
+
+slice-write-over : tie.Need-slice-write-over Inv-loop μ-loop
+slice-write-over c = omega (arith, rises (c .before) .edge, edge-room (c .before))
 
 other-end-requires : tie.Need-other-end-requires Inv-loop μ-loop
 other-end-requires c κs = rises (c .before) .edge
@@ -106,8 +109,9 @@ build-up-spec =
     mul-e
     shared-slice-read-e
     sub-e
-    cast-used
-    slice-write-used
+    cast-over
+    mul-over
+    slice-write-over
     other-end-requires
     add-below
     cast-below
