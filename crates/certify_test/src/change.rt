@@ -11,9 +11,12 @@ pub const NONE: u16 = 10;
 // How many random numbers are drawn: the way, the row, and one or two more.
 pub(crate) fn draws_of(how: u16) -> u16 {
     if how < 3 {
-        return 4;
+        4
+    } else if how < NONE {
+        3
+    } else {
+        0
     }
-    if how < NONE { 3 } else { 0 }
 }
 
 // What else a verdict has: the number of vertices, its kind, and how many numbers are its list.
@@ -116,19 +119,17 @@ fn exchanged(i: usize, x: u16, y: u16, edges: u16) -> usize {
 // Row x is walked from its other end.
 fn other_end(record: &[u16; 48], ends: &[u16], i: usize, x: u16) -> u16 {
     if i == 3 * (x as usize) + 2 {
-        return end_not(ends, get(record, i - 1), get(record, i));
+        end_not(ends, get(record, i - 1), get(record, i))
+    } else {
+        get(record, i)
     }
-    get(record, i)
 }
 
 // The first end of an edge that is not v.
 fn end_not(ends: &[u16], e: u16, v: u16) -> u16 {
     let i = 2 * (e as usize);
     let first = at(ends, i);
-    if first == v {
-        return at(ends, i + 1);
-    }
-    first
+    if first == v { at(ends, i + 1) } else { first }
 }
 
 // From row x on each step is one more, or one less.

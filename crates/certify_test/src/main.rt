@@ -31,35 +31,41 @@ const SHAPE: usize = 7;
 
 const PLAN: usize = 8;
 
-const SEED: usize = 9;
-
 // For all shapes: how often the check gave each of 18 answers, and the differences.
 const ANSWERS: usize = 10;
 
 const DIFFERENCES: usize = 28;
 
-// What differs, if anything.
+// The parts of the text behind the names of the shapes: a shape's line, and the last lines.
+const LINE: u32 = 8;
+
+const END: u32 = 9;
+
+// What differs, if anything: the part that tells it.
 const NOTHING: u32 = 0;
 
-const VERDICT: u32 = 1;
+const VERDICT: u32 = 10;
 
-const TOUCHED: u32 = 2;
+const TOUCHED: u32 = 11;
 
-const REJECTED: u32 = 3;
+const REJECTED: u32 = 12;
 
-const ANSWER: u32 = 4;
+const ANSWER: u32 = 13;
 
 // Writes one of the parts of a text, which '|' separates. Each '#' in it stands for the next of the numbers.
-fn say(text: &[u8], part: u32, numbers: &[u32; 32], first: usize) {
+fn say(part: u32, numbers: &[u32; 32], first: usize) {
+    let text: &[u8] =
+        b"few pieces, many tabs|rings with doubled sides|bodies joined at one piece|parallel tabs|already parted|grown by ears|any|damaged|: firm #, weak with 0, 1, 2 tabs # # #, refused #; fingerprints of the verdicts #, of the records and answers #\n|answers of the check to records, changed records and random weak lists\n 0: #\n 1: #\n 2: #\n 3: #\n 4: #\n 5: #\n 6: #\n 7: #\n 8: #\n 9: #\n 10: #\n 11: #\n 12: #\n 13: #\n 14: #\n 15: #\n 16: #\n 17: #\ndifferences #\n|shape #, plan #: the verdict\n|shape #, plan #: rows that are no record are touched\n|shape #, plan #: the verdict does not pass\n|shape #, plan #: the answer of the check\n";
     let mut seen: u32 = 0;
     let mut n = first;
     let mut i = 0;
     while i < text.len() {
         let b = text[i];
-        if seen == part {
+        if b == b'|' {
+            seen = more(seen);
+        } else if seen == part {
             n = glyph(b, numbers, n);
         }
-        seen = passed(b, seen);
         i += 1;
     }
 }
@@ -72,9 +78,7 @@ fn glyph(b: u8, numbers: &[u32; 32], n: usize) -> usize {
             return n + 1;
         }
     }
-    if b != b'|' {
-        io::write_all(STDOUT_FILENO, &[b]);
-    }
+    io::write_all(STDOUT_FILENO, &[b]);
     n
 }
 
@@ -82,19 +86,8 @@ fn number(x: u32) {
     io::print_decimal(STDOUT_FILENO, x as u64);
 }
 
-// How many parts are passed.
-fn passed(b: u8, seen: u32) -> u32 {
-    if b == b'|' {
-        return more(seen);
-    }
-    seen
-}
-
 fn more(x: u32) -> u32 {
-    if x < 4294967295 {
-        return x + 1;
-    }
-    x
+    if x < 4294967295 { x + 1 } else { x }
 }
 
 fn counted(run: &mut [u32; 32], i: usize) {
@@ -105,18 +98,12 @@ fn counted(run: &mut [u32; 32], i: usize) {
 
 // A difference, if there is one; the first ten are told.
 fn differs(run: &mut [u32; 32], what: u32) {
-    if what == NOTHING {
-        return;
+    if what != NOTHING {
+        if run[DIFFERENCES] < 10 {
+            say(what, run, SHAPE);
+        }
+        counted(run, DIFFERENCES);
     }
-    if run[DIFFERENCES] < 10 {
-        say(
-            b"|shape #, plan #: the verdict\n|shape #, plan #: rows that are no record are touched\n|shape #, plan #: the verdict does not pass\n|shape #, plan #: the answer of the check\n",
-            what,
-            run,
-            SHAPE,
-        );
-    }
-    counted(run, DIFFERENCES);
 }
 
 // The first n numbers, or all where there are fewer.
@@ -224,58 +211,68 @@ fn answered(run: &mut [u32; 32], number: u16, place: u16) {
     }
 }
 
-// One plan.
-fn one(run: &mut [u32; 32], shape: u8) {
+// One plan. The seed comes back as it is then, here and in what follows.
+fn one(run: &mut [u32; 32], shape: u8, seed: u32) -> u32 {
+    let plan = plan::of_shape(seed, shape);
     let mut ends = [0; 48];
-    let mut grown = [0; 48];
-    let plan = plan::of_shape(run[SEED], shape, &mut ends, &mut grown);
-    run[SEED] = plan.seed;
-    tested(run, shape, plan, front(&ends, plan.length), &grown);
+    plan::placed(plan, &mut ends);
+    tested(run, shape, plan, front(&ends, plan.length))
 }
 
 // Both verdicts on a plan, what the writer's claims, and changed verdicts for the check.
-fn tested(run: &mut [u32; 32], shape: u8, plan: Plan, ends: &[u16], grown: &[u16; 48]) {
-    judged(run, plan, ends);
+fn tested(run: &mut [u32; 32], shape: u8, plan: Plan, ends: &[u16]) -> u32 {
+    let mut now = plan;
+    now.seed = judged(run, plan, ends);
     if shape == plan::GROWN {
-        tried(run, plan, ends, grown);
+        let s = grown(run, now, ends);
+        now.seed = s;
     }
-    tried_weak(run, plan, ends);
-    tried_weak(run, plan, ends);
+    let s = tried_weak(run, now, ends);
+    now.seed = s;
+    tried_weak(run, now, ends)
 }
 
-fn judged(run: &mut [u32; 32], plan: Plan, ends: &[u16]) {
+fn judged(run: &mut [u32; 32], plan: Plan, ends: &[u16]) -> u32 {
     let mut rows = [UNTOUCHED; 48];
     let verdict = written(plan, ends, &mut rows);
     noted(run, verdict);
     differs(run, fault(plan, ends, verdict, &rows));
     if verdict[0] == second::FIRM {
-        firm(run, plan, ends, &rows);
+        firm(run, plan, ends, &rows)
+    } else {
+        plan.seed
     }
 }
 
 // A record of the writer.
-fn firm(run: &mut [u32; 32], plan: Plan, ends: &[u16], rows: &[u16; 48]) {
+fn firm(run: &mut [u32; 32], plan: Plan, ends: &[u16], rows: &[u16; 48]) -> u32 {
     run[RECORDS] = hashed_list(run[RECORDS], front(rows, 3 * (plan.edges as usize)));
-    tried(run, plan, ends, rows);
+    tried(run, plan, ends, rows)
+}
+
+// The record of the walks of which the plan was made.
+fn grown(run: &mut [u32; 32], plan: Plan, ends: &[u16]) -> u32 {
+    let mut rows = [0; 48];
+    plan::walked(plan, &mut rows);
+    tried(run, plan, ends, &rows)
 }
 
 // Whether the verdict is another, rows that are no record are touched, or the check does not pass it.
 fn fault(plan: Plan, ends: &[u16], verdict: [u16; 6], rows: &[u16; 48]) -> u32 {
-    if !same(verdict, second::verdict(plan.vertices, ends, plan.space)) {
-        return VERDICT;
-    }
     let length = if verdict[0] == second::FIRM {
         3 * (plan.edges as usize)
     } else {
         0
     };
-    if !kept(rows, length) {
-        return TOUCHED;
+    if !same(verdict, second::verdict(plan.vertices, ends, plan.space)) {
+        VERDICT
+    } else if !kept(rows, length) {
+        TOUCHED
+    } else if passes(plan.vertices, ends, &verdict, front(rows, length)) {
+        NOTHING
+    } else {
+        REJECTED
     }
-    if passes(plan.vertices, ends, &verdict, front(rows, length)) {
-        return NOTHING;
-    }
-    REJECTED
 }
 
 // The check answers 0 and 0 to the record or the cut.
@@ -301,22 +298,23 @@ fn accepted(vertices: u16, ends: &[u16], kind: u16, list: &[u16]) -> bool {
 }
 
 // A record as it is, and some times with one change.
-fn tried(run: &mut [u32; 32], plan: Plan, ends: &[u16], rows: &[u16; 48]) {
+fn tried(run: &mut [u32; 32], plan: Plan, ends: &[u16], rows: &[u16; 48]) -> u32 {
+    let mut now = plan;
     let mut how = change::NONE;
     let mut i: u16 = 0;
     while i <= CHANGES {
-        tried_changed(run, plan, ends, rows, how);
-        how = draw(run[SEED], 1, 10);
+        let seed = tried_changed(run, now, ends, rows, how);
+        how = draw(seed, 1, 10);
+        now.seed = seed;
         i += 1;
     }
+    now.seed
 }
 
-fn tried_changed(run: &mut [u32; 32], plan: Plan, ends: &[u16], rows: &[u16; 48], how: u16) {
-    let seed = run[SEED];
+fn tried_changed(run: &mut [u32; 32], plan: Plan, ends: &[u16], rows: &[u16; 48], how: u16) -> u32 {
     let mut list = [0; 48];
-    change::changed(rows, ends, plan.edges, how, seed, &mut list);
-    run[SEED] = later(seed, change::draws_of(how));
-    let sizes = change::resized(plan.vertices, plan.edges, how, later(seed, 3));
+    change::changed(rows, ends, plan.edges, how, plan.seed, &mut list);
+    let sizes = change::resized(plan.vertices, plan.edges, how, later(plan.seed, 3));
     compared(
         run,
         sizes.vertices,
@@ -324,28 +322,31 @@ fn tried_changed(run: &mut [u32; 32], plan: Plan, ends: &[u16], rows: &[u16; 48]
         sizes.kind,
         front(&list, sizes.length),
     );
+    later(plan.seed, change::draws_of(how))
 }
 
 // A weak list of up to three random numbers, of which the largest is no edge.
-fn tried_weak(run: &mut [u32; 32], plan: Plan, ends: &[u16]) {
-    let seed = run[SEED];
-    let list = change::weak_list(plan.edges, seed);
-    let length = draw(seed, 4, 4) as usize;
-    run[SEED] = later(seed, 4);
+fn tried_weak(run: &mut [u32; 32], plan: Plan, ends: &[u16]) -> u32 {
+    let list = change::weak_list(plan.edges, plan.seed);
+    let length = draw(plan.seed, 4, 4) as usize;
     compared(run, plan.vertices, ends, second::WEAK, &list[0..length]);
+    later(plan.seed, 4)
 }
 
 // All plans of one shape, and their line.
-fn shaped(run: &mut [u32; 32], shape: u8) {
+fn shaped(run: &mut [u32; 32], shape: u8, seed: u32) -> u32 {
     cleared(run);
     run[SHAPE] = shape as u32;
+    let mut s = seed;
     let mut i: u32 = 0;
     while i < PLANS {
         run[PLAN] = i;
-        one(run, shape);
+        s = one(run, shape, s);
         i += 1;
     }
-    shown(run, shape);
+    say(shape as u32, run, 0);
+    say(LINE, run, 0);
+    s
 }
 
 fn cleared(run: &mut [u32; 32]) {
@@ -356,34 +357,13 @@ fn cleared(run: &mut [u32; 32]) {
     }
 }
 
-// The line of a shape.
-fn shown(run: &[u32; 32], shape: u8) {
-    say(
-        b"few pieces, many tabs|rings with doubled sides|bodies joined at one piece|parallel tabs|already parted|grown by ears|any|damaged",
-        shape as u32,
-        run,
-        0,
-    );
-    say(
-        b": firm #, weak with 0, 1, 2 tabs # # #, refused #; fingerprints of the verdicts #, of the records and answers #\n",
-        0,
-        run,
-        0,
-    );
-}
-
 fn main() {
     let mut run = [0; 32];
-    run[SEED] = 20011;
+    let mut seed: u32 = 20011;
     let mut shape: u8 = 0;
     while shape < plan::SHAPES {
-        shaped(&mut run, shape);
+        seed = shaped(&mut run, shape, seed);
         shape += 1;
     }
-    say(
-        b"answers of the check to records, changed records and random weak lists\n 0: #\n 1: #\n 2: #\n 3: #\n 4: #\n 5: #\n 6: #\n 7: #\n 8: #\n 9: #\n 10: #\n 11: #\n 12: #\n 13: #\n 14: #\n 15: #\n 16: #\n 17: #\ndifferences #\n",
-        0,
-        &run,
-        ANSWERS,
-    );
+    say(END, &run, ANSWERS);
 }

@@ -2,7 +2,6 @@
 use crate::random::below;
 use crate::random::draw;
 use crate::random::later;
-use crate::random::next;
 
 // Few vertices and many edges.
 const DENSE: u8 = 0;
@@ -29,106 +28,57 @@ pub const SHAPES: u8 = 8;
 
 const MAX_EDGES: u16 = 14;
 
-// A plan: `length` of its ends are handed over, and `space` numbers for its record.
+// A plan. Of each edge, in the order of the walks, `tails`, `heads` and `steps` have four bits: the two vertices and the step. The
+// `named` vertices and the edges get new numbers, from the seeds `names` and `places`. `length` ends are handed over, and `space` numbers for
+// the record; the end at `large` is too large, and edge `twice` has the same vertex twice, if there are such an end and edge.
 pub struct Plan {
     pub seed: u32,
+    pub tails: u64,
+    pub heads: u64,
+    pub steps: u64,
+    pub step: u16,
     pub vertices: u16,
     pub edges: u16,
+    pub named: u16,
+    pub names: u32,
+    pub places: u32,
     pub length: usize,
     pub space: usize,
+    pub large: u16,
+    pub twice: u16,
 }
 
-// A plan that is made is a list: the two vertices of each edge, in the order of the walks; from STEPS on the step of each edge; and
-// how many vertices, edges and steps there are.
-const STEPS: usize = 28;
+// No end and no edge.
+const NONE: u16 = 48;
 
-const VERTICES: usize = 42;
-
-const EDGES: usize = 43;
-
-const STEP: usize = 44;
-
-// The number at each place.
-const COUNTED: [u16; 48] = [
-    0,
-    1,
-    2,
-    3,
-    4,
-    5,
-    6,
-    7,
-    8,
-    9,
-    10,
-    11,
-    12,
-    13,
-    14,
-    15,
-    16,
-    17,
-    18,
-    19,
-    20,
-    21,
-    22,
-    23,
-    24,
-    25,
-    26,
-    27,
-    28,
-    29,
-    30,
-    31,
-    32,
-    33,
-    34,
-    35,
-    36,
-    37,
-    38,
-    39,
-    40,
-    41,
-    42,
-    43,
-    44,
-    45,
-    46,
-    47,
-];
-
-// A random plan of a shape: its edges are made, then vertices and edges are numbered anew. `rows` are those of its walks.
-pub(crate) fn of_shape(seed: u32, shape: u8, ends: &mut [u16; 48], rows: &mut [u16; 48]) -> Plan {
-    let mut made = [0; 48];
-    let named = begun(&mut made, shape, seed);
-    let plan = settled(&made, named, ends, rows);
+// A random plan of a shape.
+pub(crate) fn of_shape(seed: u32, shape: u8) -> Plan {
+    let plan = numbered(filled(shape, seed));
     if shape == DAMAGED {
-        return damaged(plan, ends);
+        damaged(plan)
+    } else {
+        plan
     }
-    plan
 }
 
-// The edges of a shape, with their vertices numbered anew. The seed comes back as it is then.
-fn begun(made: &mut [u16; 48], shape: u8, seed: u32) -> u32 {
-    let vertices = vertices_of(shape, next(seed));
-    made[VERTICES] = vertices;
-    let border = border_of(shape, vertices, later(seed, 2));
-    let third = later(seed, 3);
-    let turned = filled(made, shape, border, turns_of(shape, vertices, third), third);
-    let grown = made[VERTICES];
-    renamed(made, grown, turned)
-}
-
-// The edges at their new places, and the rows of the walks.
-fn settled(made: &[u16; 48], seed: u32, ends: &mut [u16; 48], rows: &mut [u16; 48]) -> Plan {
-    let mut places = COUNTED;
-    let moved = shuffled(&mut places, made[EDGES], seed);
-    placed(made, &places, ends);
-    listed(made, &places, rows);
-    handed(made[VERTICES], made[EDGES], next(moved))
+// A plan of some vertices that has no edge yet.
+fn bare(vertices: u16, seed: u32) -> Plan {
+    Plan {
+        seed: seed,
+        tails: 0,
+        heads: 0,
+        steps: 0,
+        step: 0,
+        vertices: vertices,
+        edges: 0,
+        named: 0,
+        names: 0,
+        places: 0,
+        length: 0,
+        space: 0,
+        large: NONE,
+        twice: NONE,
+    }
 }
 
 fn vertices_of(shape: u8, seed: u32) -> u16 {
@@ -143,12 +93,12 @@ fn vertices_of(shape: u8, seed: u32) -> u16 {
 // The last vertex of the first of two bodies, which is not the last of all; where they have one in common, that.
 fn border_of(shape: u8, vertices: u16, seed: u32) -> u16 {
     if vertices < 3 {
-        return 0;
+        0
+    } else if shape == JOINED {
+        1 + below(seed, vertices - 2)
+    } else {
+        below(seed, vertices - 1)
     }
-    if shape == JOINED {
-        return 1 + below(seed, vertices - 2);
-    }
-    below(seed, vertices - 1)
 }
 
 // The turns in which the edges are made; with some shapes some turns make none.
@@ -171,226 +121,221 @@ fn draws_of(shape: u8) -> u16 {
     }
 }
 
-fn filled(made: &mut [u16; 48], shape: u8, border: u16, turns: u16, seed: u32) -> u32 {
-    let draws = draws_of(shape);
-    let mut s = seed;
+// The edges of a shape.
+fn filled(shape: u8, seed: u32) -> Plan {
+    let vertices = vertices_of(shape, later(seed, 1));
+    let border = border_of(shape, vertices, later(seed, 2));
+    let mut plan = bare(vertices, later(seed, 3));
+    let turns = turns_of(shape, vertices, plan.seed);
     let mut i: u16 = 0;
     while i < turns {
-        turn(made, shape, border, i, s);
-        s = later(s, draws);
+        plan = turn(plan, shape, border, i);
+        plan.seed = later(plan.seed, draws_of(shape));
         i += 1;
     }
-    s
+    plan
 }
 
-fn turn(made: &mut [u16; 48], shape: u8, border: u16, i: u16, seed: u32) {
-    let vertices = made[VERTICES];
+// In a ring some edges to the next vertex, or the last one's to the first.
+fn turn(plan: Plan, shape: u8, border: u16, i: u16) -> Plan {
     match shape {
-        RING => bundle(made, i, around(i, vertices), 1 + draw(seed, 1, 3)),
-        GROWN => ear(made, i, vertices, seed),
-        _ => pair(made, shape, border, vertices, seed),
+        RING => bundle(
+            plan,
+            i,
+            below((i as u32) + 1, plan.vertices),
+            1 + draw(plan.seed, 1, 3),
+        ),
+        GROWN => ear(plan, i),
+        _ => pair(plan, shape, border),
     }
-}
-
-// The vertex after i in a ring.
-fn around(i: u16, vertices: u16) -> u16 {
-    if i < vertices {
-        if i + 1 < vertices {
-            return i + 1;
-        }
-    }
-    0
 }
 
 // One edge between two random vertices, or some, if they differ and the shape allows it.
-fn pair(made: &mut [u16; 48], shape: u8, border: u16, vertices: u16, seed: u32) {
-    let a = draw(seed, 1, vertices);
-    let b = allowed(shape, a, draw(seed, 2, vertices), border);
+fn pair(plan: Plan, shape: u8, border: u16) -> Plan {
+    let a = draw(plan.seed, 1, plan.vertices);
+    let b = allowed(shape, a, draw(plan.seed, 2, plan.vertices), border);
     let count = if shape == PARALLEL {
-        1 + draw(seed, 3, 4)
+        1 + draw(plan.seed, 3, 4)
     } else {
         1
     };
-    bundle(made, a, b, count);
+    bundle(plan, a, b, count)
 }
 
 // b, or what the shape has an edge from a lead to instead: the border where that stands between a and b; a itself, for no edge, where
 // one of a and b is above the border and the other is not.
 fn allowed(shape: u8, a: u16, b: u16, border: u16) -> u16 {
+    if (a <= border) == (b <= border) {
+        return b;
+    }
     match shape {
-        JOINED => between(a, b, border),
-        PARTED => if (a <= border) == (b <= border) { b } else { a },
+        JOINED => if a == border { b } else { border },
+        PARTED => a,
         _ => b,
     }
 }
 
-fn between(a: u16, b: u16, border: u16) -> u16 {
-    if a == border {
-        return b;
-    }
-    if b == border {
-        return b;
-    }
-    if (a < border) == (b < border) {
-        b
-    } else {
-        border
-    }
-}
-
 // Some edges from a to b.
-fn bundle(made: &mut [u16; 48], a: u16, b: u16, count: u16) {
+fn bundle(plan: Plan, a: u16, b: u16, count: u16) -> Plan {
+    let mut more = plan;
     let mut i: u16 = 0;
     while i < count {
-        walk(made, a, b, 0);
+        more = walk(more, a, b, 0);
         i += 1;
     }
+    more
 }
 
 // Three walks from 0 to 1, then two ears anywhere, then for most other vertices one edge more.
-fn ear(made: &mut [u16; 48], i: u16, vertices: u16, seed: u32) {
+fn ear(plan: Plan, i: u16) -> Plan {
+    let seed = plan.seed;
     let inner = draw(seed, 1, 3);
-    let b = draw(seed, 3, vertices);
+    let b = draw(seed, 3, plan.vertices);
     if i < 3 {
-        return walk(made, 0, 1, inner);
-    }
-    if i < 5 {
-        return walk(made, draw(seed, 2, vertices), b, inner);
-    }
-    if i - 3 < vertices {
-        if draw(seed, 4, 8) != 0 {
-            walk(made, i - 3, b, 0);
-        }
+        walk(plan, 0, 1, inner)
+    } else if i < 5 {
+        walk(plan, draw(seed, 2, plan.vertices), b, inner)
+    } else if i - 3 < plan.vertices && draw(seed, 4, 8) != 0 {
+        walk(plan, i - 3, b, 0)
+    } else {
+        plan
     }
 }
 
 // A walk from a to b over some new vertices, where there is room and it is no single edge from a vertex to itself.
-fn walk(made: &mut [u16; 48], a: u16, b: u16, inner: u16) {
-    if fits(made[VERTICES], made[EDGES], a, b, inner) {
-        over(made, a, b, inner);
+fn walk(plan: Plan, a: u16, b: u16, inner: u16) -> Plan {
+    if !fits(plan, a == b, inner) {
+        return plan;
     }
-}
-
-fn fits(vertices: u16, edges: u16, a: u16, b: u16, inner: u16) -> bool {
-    if inner == 0 {
-        return a != b;
-    }
-    if 7 < (vertices as usize) + (inner as usize) {
-        return false;
-    }
-    (edges as usize) + (inner as usize) < 14
-}
-
-fn over(made: &mut [u16; 48], a: u16, b: u16, inner: u16) {
-    let mut at = a;
+    let mut more = plan;
+    let mut from = a;
     let mut i: u16 = 0;
     while i < inner {
-        at = onward(made, at);
+        let v = more.vertices;
+        more = edge(more, from, v);
+        more.vertices = v % 8 + 1;
+        from = v;
         i += 1;
     }
-    onto(made, at, b);
+    more = edge(more, from, b);
+    more.step = plan.step % MAX_EDGES + 1;
+    more
 }
 
-// On to a new vertex.
-fn onward(made: &mut [u16; 48], a: u16) -> u16 {
-    let v = made[VERTICES];
-    edge(made, a, v);
-    if v < 8 {
-        made[VERTICES] = v + 1;
-    }
-    v
-}
-
-// The last edge of a walk.
-fn onto(made: &mut [u16; 48], a: u16, b: u16) {
-    edge(made, a, b);
-    let step = made[STEP];
-    if step < MAX_EDGES {
-        made[STEP] = step + 1;
+fn fits(plan: Plan, closed: bool, inner: u16) -> bool {
+    let n = inner as u32;
+    if n == 0 {
+        !closed
+    } else {
+        (plan.vertices as u32) + n < 8 && (plan.edges as u32) + n < 14
     }
 }
 
 // One more edge from a to b, where there is room.
-fn edge(made: &mut [u16; 48], a: u16, b: u16) {
-    let e = made[EDGES];
-    let step = made[STEP];
+fn edge(plan: Plan, a: u16, b: u16) -> Plan {
+    let mut more = plan;
+    let e = plan.edges;
     if e < MAX_EDGES {
-        let i = e as usize;
-        put(made, i + i, a);
-        put(made, i + i + 1, b);
-        put(made, STEPS + i, step);
-        made[EDGES] = e + 1;
+        more.tails = with(plan.tails, e, a);
+        more.heads = with(plan.heads, e, b);
+        more.steps = with(plan.steps, e, plan.step);
+        more.edges = e + 1;
+    }
+    more
+}
+
+// A list of numbers of four bits in which place i, where 0 stood, has x.
+fn with(list: u64, i: u16, x: u16) -> u64 {
+    if i < 16 {
+        list | ((x as u64) << (4 * (i as u32)))
+    } else {
+        list
     }
 }
 
-// Each vertex changes its number with a random one. The seed comes back as it is then.
-fn renamed(made: &mut [u16; 48], vertices: u16, seed: u32) -> u32 {
-    let mut s = seed;
+// What stands at place i of such a list.
+fn digit(list: u64, i: u16) -> u16 {
+    if i < 16 {
+        ((list >> (4 * (i as u32))) % 16) as u16
+    } else {
+        0
+    }
+}
+
+// The seeds of the new numbers, and what is handed over: all ends, and up to four numbers more than the record needs.
+fn numbered(plan: Plan) -> Plan {
+    let mut more = plan;
+    let edges = plan.edges;
+    more.named = plan.vertices;
+    more.names = plan.seed;
+    more.places = later(plan.seed, plan.vertices);
+    more.seed = later(later(later(more.places, edges), edges), 1);
+    more.length = 2 * (edges as usize);
+    more.space = 3 * (edges as usize) + (below(more.seed, 5) as usize);
+    more
+}
+
+// The new number of a vertex: each in turn changes its number with a random one.
+fn name(plan: Plan, vertex: u16) -> u16 {
+    let mut s = plan.names;
+    let mut x = vertex;
     let mut v: u16 = 0;
-    while v < vertices {
-        s = next(s);
-        exchanged(made, v, below(s, vertices));
+    while v < plan.named {
+        s = later(s, 1);
+        x = other(x, v, below(s, plan.named));
         v += 1;
     }
-    s
-}
-
-// The numbers a and b are exchanged in the first part of a list.
-fn exchanged(list: &mut [u16; 48], a: u16, b: u16) {
-    let mut i: usize = 0;
-    while i < STEPS {
-        list[i] = other(list[i], a, b);
-        i += 1;
-    }
+    x
 }
 
 // x, with a and b exchanged.
 fn other(x: u16, a: u16, b: u16) -> u16 {
     if x == a {
-        return b;
+        b
+    } else if x == b {
+        a
+    } else {
+        x
     }
-    if x == b {
-        return a;
-    }
-    x
 }
 
-// Each edge changes its place with a random one, and half of them their ends. The seed comes back as it is then.
-fn shuffled(places: &mut [u16; 48], edges: u16, seed: u32) -> u32 {
-    let mut s = seed;
-    let mut e: u16 = 0;
-    while e < edges {
-        moved(places, e, draw(s, 1, edges), draw(s, 2, 2));
+// The place of an edge of the walks in the plan, and whether its ends are exchanged there.
+struct Spot {
+    place: u16,
+    turned: bool,
+}
+
+// Each edge in turn changes its place with a random one, and half of them their ends.
+fn spot_of(plan: Plan, edge: u16) -> Spot {
+    let mut s = plan.places;
+    let mut e = edge;
+    let mut turned = false;
+    let mut d: u16 = 0;
+    while d < plan.edges {
+        e = other(e, d, draw(s, 1, plan.edges));
+        if e == d {
+            turned = turned != (draw(s, 2, 2) == 0);
+        }
         s = later(s, 2);
+        d += 1;
+    }
+    Spot {
+        place: e,
+        turned: turned,
+    }
+}
+
+// The ends of a plan.
+pub(crate) fn placed(plan: Plan, ends: &mut [u16; 48]) {
+    let mut e: u16 = 0;
+    while e < plan.edges {
+        let at = spot_of(plan, e);
+        let i = 2 * (at.place as usize) | (at.turned as usize);
+        put(ends, i, name(plan, digit(plan.tails, e)));
+        put(ends, i ^ 1, name(plan, digit(plan.heads, e)));
         e += 1;
     }
-    s
-}
-
-// Edges d and e change their places, and then d its ends, where the coin is 0.
-fn moved(places: &mut [u16; 48], d: u16, e: u16, coin: u16) {
-    if d < MAX_EDGES {
-        if e < MAX_EDGES {
-            exchanged(places, 2 * d, 2 * e);
-            exchanged(places, 2 * d + 1, 2 * e + 1);
-            if coin == 0 {
-                exchanged(places, 2 * d, 2 * d + 1);
-            }
-        }
-    }
-}
-
-// The vertices of the edges go to their places.
-fn placed(made: &[u16; 48], places: &[u16; 48], ends: &mut [u16; 48]) {
-    let mut i: usize = 0;
-    while i < STEPS {
-        put(ends, wide(places[i]), made[i]);
-        i += 1;
-    }
-}
-
-fn wide(place: u16) -> usize {
-    place as usize
+    spoiled(plan, ends);
 }
 
 fn put(list: &mut [u16; 48], i: usize, x: u16) {
@@ -400,94 +345,66 @@ fn put(list: &mut [u16; 48], i: usize, x: u16) {
 }
 
 pub(crate) fn get(list: &[u16; 48], i: usize) -> u16 {
-    if i < 48 {
-        return list[i];
-    }
-    0
+    if i < 48 { list[i] } else { 0 }
 }
 
 // The rows of the walks.
-fn listed(made: &[u16; 48], places: &[u16; 48], rows: &mut [u16; 48]) {
-    let mut i: usize = 0;
+pub(crate) fn walked(plan: Plan, rows: &mut [u16; 48]) {
+    let mut i: u16 = 0;
     while i < 42 {
-        rows[i] = entry(made, places, i);
+        rows[i as usize] = entry(plan, i);
         i += 1;
     }
 }
 
 // One number of a row: its step, its edge, or the vertex that it starts from.
-fn entry(made: &[u16; 48], places: &[u16; 48], i: usize) -> u16 {
+fn entry(plan: Plan, i: u16) -> u16 {
     let r = i / 3;
-    if 13 < r {
-        return 0;
-    }
     match i % 3 {
-        0 => get(made, STEPS + r),
-        1 => get(places, 2 * r) / 2,
-        _ => get(made, 2 * r),
+        0 => digit(plan.steps, r),
+        1 => spot_of(plan, r).place,
+        _ => name(plan, digit(plan.tails, r)),
     }
 }
 
-// Whole, with up to four numbers more than the record needs.
-fn handed(vertices: u16, edges: u16, seed: u32) -> Plan {
-    Plan {
-        seed: seed,
-        vertices: vertices,
-        edges: edges,
-        length: 2 * (edges as usize),
-        space: 3 * (edges as usize) + (below(seed, 5) as usize),
-    }
-}
-
-// One damage, or two.
-fn damaged(plan: Plan, ends: &mut [u16; 48]) -> Plan {
-    let how = draw(plan.seed, 1, 7);
-    let second = later(plan.seed, 2);
-    spoiled(ends, how, plan.vertices, second);
-    if how == 5 {
-        return resized(plan, how, next(second));
-    }
-    resized(plan, how, second)
-}
-
-// An end is too large, or an edge has the same vertex twice.
-fn spoiled(ends: &mut [u16; 48], how: u16, vertices: u16, seed: u32) {
-    match how {
-        3 => put(ends, wide(below(seed, 28)), vertices),
-        4 => end_twice(ends, below(seed, MAX_EDGES)),
-        5 => {
-            put(ends, wide(below(seed, 28)), vertices);
-            end_twice(ends, draw(seed, 1, MAX_EDGES));
-        }
-        _ => {}
-    }
-}
-
-fn end_twice(ends: &mut [u16; 48], e: u16) {
-    let i = 2 * (e as usize);
+// An end that is too large, and an edge that has the same vertex twice.
+fn spoiled(plan: Plan, ends: &mut [u16; 48]) {
+    put(ends, plan.large as usize, plan.vertices);
+    let i = 2 * (plan.twice as usize);
     let a = get(ends, i);
     put(ends, i + 1, a);
 }
 
-// One end less, another number of vertices, or too little space.
-fn resized(mut plan: Plan, how: u16, seed: u32) -> Plan {
-    plan.seed = seed;
-    let length = plan.length;
-    let space = 3 * (plan.edges as usize);
-    match how {
-        0 => if 0 < length {
-            plan.length = length - 1;
+// One damage, or two: one end less, another number of vertices, an end or an edge that is wrong or both, or too little space.
+fn damaged(plan: Plan) -> Plan {
+    let seed = later(plan.seed, 2);
+    let mut bad = plan;
+    bad.seed = seed;
+    match draw(plan.seed, 1, 7) {
+        0 => if 0 < plan.length {
+            bad.length = plan.length - 1;
         },
         1 => {
-            plan.vertices = below(seed, 2);
+            bad.vertices = below(seed, 2);
         }
         2 => {
-            plan.vertices = 1001;
+            bad.vertices = 1001;
         }
-        6 => if 0 < space {
-            plan.space = space - 1;
+        3 => {
+            bad.large = below(seed, 28);
+        }
+        4 => {
+            bad.twice = below(seed, MAX_EDGES);
+        }
+        5 => {
+            bad.large = below(seed, 28);
+            bad.twice = draw(seed, 1, MAX_EDGES);
+            bad.seed = later(seed, 1);
+        }
+        6 => if 0 < plan.edges {
+            bad.space = 3 * (plan.edges as usize) - 1;
         },
         _ => {}
     }
-    plan
+    bad
 }

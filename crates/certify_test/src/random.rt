@@ -1,7 +1,7 @@
 // Random numbers from a seed, each from the one before (Lehmer's generator with factor 48271).
 ghost use Prim.Native.Nat.{_≤_};
 
-pub(crate) fn next(seed: u32) -> u32 {
+fn next(seed: u32) -> u32 {
     ((seed as u64) * 48271 % 2147483647) as u32
 }
 

@@ -27,18 +27,12 @@ pub(crate) fn told(number: u16, place: u16) -> u32 {
 
 // What stands at a place; NONE behind the end.
 pub(crate) fn at(list: &[u16], i: usize) -> u16 {
-    if i < list.len() {
-        return list[i];
-    }
-    NONE
+    if i < list.len() { list[i] } else { NONE }
 }
 
 // The set of one vertex or one edge.
 fn one(x: u16) -> u32 {
-    if x < 16 {
-        return 1 << (x as u32);
-    }
-    0
+    if x < 16 { 1 << (x as u32) } else { 0 }
 }
 
 // The two ends of an edge.
@@ -48,27 +42,20 @@ fn both(ends: &[u16], e: u16) -> u32 {
 
 fn edges_of(ends: &[u16]) -> u16 {
     let n = ends.len() / 2;
-    if n < 65536 {
-        return n as u16;
-    }
-    NONE
+    if n < 65536 { n as u16 } else { NONE }
 }
 
 // The plan's own refusal, 1 to 5, or 0.
 fn refusal(vertices: u16, ends: &[u16]) -> u32 {
     if ends.len() % 2 == 1 {
-        return told(1, 0);
+        told(1, 0)
+    } else if vertices < 2 || 1000 < vertices {
+        told(2, 0)
+    } else if 8000 < ends.len() {
+        told(3, 0)
+    } else {
+        misfit(vertices, ends)
     }
-    if vertices < 2 {
-        return told(2, 0);
-    }
-    if 1000 < vertices {
-        return told(2, 0);
-    }
-    if 8000 < ends.len() {
-        return told(3, 0);
-    }
-    misfit(vertices, ends)
 }
 
 // 4 or 5 at the first edge that has it, or 0.
@@ -86,15 +73,16 @@ fn misfit(vertices: u16, ends: &[u16]) -> u32 {
 }
 
 fn edge_number(vertices: u16, ends: &[u16], e: u16) -> u16 {
-    let a = at(ends, 2 * (e as usize));
-    let b = at(ends, 2 * (e as usize) + 1);
-    if vertices <= a {
-        return 4;
+    let i = 2 * (e as usize);
+    let a = at(ends, i);
+    let b = at(ends, i + 1);
+    if vertices <= a || vertices <= b {
+        4
+    } else if a == b {
+        5
+    } else {
+        0
     }
-    if vertices <= b {
-        return 4;
-    }
-    if a == b { 5 } else { 0 }
 }
 
 // The vertices that are reached from some over these edges, past no barred vertex: passes until nothing changes, which 16 vertices have
@@ -129,13 +117,11 @@ fn pass(ends: &[u16], live: u32, barred: u32, start: u32) -> u32 {
 
 // Both ends of an edge are reached if one is.
 fn crossed(both: u32, barred: u32, set: u32) -> u32 {
-    if both & barred != 0 {
-        return set;
+    if both & barred != 0 || both & set == 0 {
+        set
+    } else {
+        both | set
     }
-    if both & set == 0 {
-        return set;
-    }
-    both | set
 }
 
 // Whether the graph without some edges is not connected.
@@ -175,67 +161,67 @@ fn pair(vertices: u16, ends: &[u16]) -> [u16; 6] {
 pub(crate) fn verdict(vertices: u16, ends: &[u16], space: usize) -> [u16; 6] {
     let own = refusal(vertices, ends);
     if own != 0 {
-        return [REFUSED, (own / 65536) as u16, (own % 65536) as u16, 0, 0, 0];
+        [REFUSED, (own / 65536) as u16, (own % 65536) as u16, 0, 0, 0]
+    } else if space < 3 * (edges_of(ends) as usize) {
+        [REFUSED, 6, 0, 0, 0, 0]
+    } else if parts(vertices, ends, 0) {
+        [WEAK, 0, 0, 0, 0, 0]
+    } else {
+        cut(vertices, ends)
     }
-    if space < 3 * (edges_of(ends) as usize) {
-        return [REFUSED, 6, 0, 0, 0, 0];
-    }
-    if parts(vertices, ends, 0) {
-        return [WEAK, 0, 0, 0, 0, 0];
-    }
+}
+
+// Weak with the lowest edge that parts the graph, or with the lowest pair, or firm.
+fn cut(vertices: u16, ends: &[u16]) -> [u16; 6] {
     let e = lowest(vertices, ends, 0, 0);
     if e != NONE {
-        return [WEAK, 0, 0, 1, e, 0];
+        [WEAK, 0, 0, 1, e, 0]
+    } else {
+        pair(vertices, ends)
     }
-    pair(vertices, ends)
 }
 
 // The answer to a verdict.
 pub(crate) fn check(vertices: u16, ends: &[u16], kind: u16, list: &[u16]) -> u32 {
     let own = refusal(vertices, ends);
     if own != 0 {
-        return own;
+        own
+    } else if kind == FIRM {
+        check_firm(vertices, ends, list)
+    } else if kind == WEAK {
+        check_weak(vertices, ends, list)
+    } else {
+        told(9, 0)
     }
-    if kind == FIRM {
-        return check_firm(vertices, ends, list);
-    }
-    if kind == WEAK {
-        return check_weak(vertices, ends, list);
-    }
-    told(9, 0)
 }
 
 fn check_weak(vertices: u16, ends: &[u16], list: &[u16]) -> u32 {
-    if 2 < list.len() {
-        return told(9, 0);
-    }
     let place = disorder(list, edges_of(ends));
-    if place < 2 {
-        return told(11, place);
+    if 2 < list.len() {
+        told(9, 0)
+    } else if place < 2 {
+        told(11, place)
+    } else if parts(vertices, ends, one(at(list, 0)) | one(at(list, 1))) {
+        0
+    } else {
+        told(17, 0)
     }
-    if parts(vertices, ends, one(at(list, 0)) | one(at(list, 1))) {
-        return 0;
-    }
-    told(17, 0)
 }
 
 // The first place of a list of up to two edges that has none, or not one above the one before; or 2.
 fn disorder(list: &[u16], edges: u16) -> u16 {
     let a = at(list, 0);
     let b = at(list, 1);
-    if list.len() < 1 {
-        return 2;
+    let n = list.len();
+    if n < 1 {
+        2
+    } else if edges <= a {
+        0
+    } else if 1 < n && (edges <= b || b <= a) {
+        1
+    } else {
+        2
     }
-    if edges <= a {
-        return 0;
-    }
-    if list.len() < 2 {
-        return 2;
-    }
-    if edges <= b {
-        return 1;
-    }
-    if b <= a { 1 } else { 2 }
 }
 
 fn check_firm(vertices: u16, ends: &[u16], list: &[u16]) -> u32 {
@@ -252,17 +238,19 @@ fn check_firm(vertices: u16, ends: &[u16], list: &[u16]) -> u32 {
         r += 1;
     }
     if closes(vertices, ends, list) {
-        return 0;
+        0
+    } else {
+        told(16, 0)
     }
-    told(16, 0)
 }
 
 // One part of a row.
 fn cell(list: &[u16], r: u16, part: usize) -> u16 {
     if part < 3 {
-        return at(list, 3 * (r as usize) + part);
+        at(list, 3 * (r as usize) + part)
+    } else {
+        NONE
     }
-    NONE
 }
 
 // The set of what stands in a part of the rows from `low` to before `high`.
@@ -279,9 +267,10 @@ fn column(list: &[u16], part: usize, low: u16, high: u16) -> u32 {
 // How many steps the rows before row r have.
 fn begun(list: &[u16], r: u16) -> u32 {
     if r == 0 {
-        return 0;
+        0
+    } else {
+        (cell(list, r - 1, STEP) as u32) + 1
     }
-    (cell(list, r - 1, STEP) as u32) + 1
 }
 
 // Whether a row is not the first of its step: its vertex is an inner one.
@@ -317,24 +306,19 @@ fn row_number(ends: &[u16], list: &[u16], r: u16, next: u16) -> u16 {
 
 // Steps count 0, 1, 2 and so on.
 fn counts(list: &[u16], r: u16) -> bool {
-    if inner(list, r) {
-        return true;
-    }
-    (cell(list, r, STEP) as u32) == begun(list, r)
+    inner(list, r) || (cell(list, r, STEP) as u32) == begun(list, r)
 }
 
 // The vertex is an end of the edge, and where the row before led if that is of the same step.
 fn walks(ends: &[u16], list: &[u16], r: u16) -> bool {
     let from = one(cell(list, r, FROM));
     if both(ends, cell(list, r, EDGE)) & from == 0 {
-        return false;
+        false
+    } else if 0 < r {
+        !inner(list, r) || far(ends, list, r - 1) == from
+    } else {
+        true
     }
-    if inner(list, r) {
-        if 0 < r {
-            return far(ends, list, r - 1) == from;
-        }
-    }
-    true
 }
 
 // The first row of the step of row r.
@@ -357,18 +341,20 @@ fn tips_of(ends: &[u16], list: &[u16], r: u16) -> u32 {
 // 13, or 14 and 15, or 0 for the step that ends with row r.
 fn step_number(ends: &[u16], list: &[u16], r: u16, next: u16) -> u16 {
     let b = first_row(list, r);
-    let fits = inner_fit(ends, list, b, next, tips_of(ends, list, r));
+    let tips = tips_of(ends, list, r);
+    let fits = inner_fit(ends, list, b, next, tips);
     if cell(list, r, STEP) < 3 {
         if fits {
-            return path_number(ends, list, b, tips_of(ends, list, r));
+            path_number(ends, list, b, tips)
+        } else {
+            13
         }
-        return 13;
-    }
-    if fits {
+    } else if fits {
         let start = one(cell(list, b, FROM));
-        return ear_number(ends, column(list, EDGE, 0, b), start, far(ends, list, r));
+        ear_number(ends, column(list, EDGE, 0, b), start, far(ends, list, r))
+    } else {
+        14
     }
-    14
 }
 
 // The inner vertices are no ends of the step, new and all different.
@@ -377,21 +363,18 @@ fn inner_fit(ends: &[u16], list: &[u16], b: u16, next: u16, tips: u32) -> bool {
         return false;
     }
     let inner = column(list, FROM, b + 1, next);
-    if inner & (tips | of_degree(ends, column(list, EDGE, 0, b), 1)) != 0 {
-        return false;
-    }
-    u32::count_ones(inner) == ((next - b - 1) as u32)
+    let count = (next - b - 1) as u32;
+    u32::count_ones(inner) == count
+        && inner & (tips | of_degree(ends, column(list, EDGE, 0, b), 1)) == 0
 }
 
 // A path between two vertices, the same as those of the step before.
 fn path_number(ends: &[u16], list: &[u16], b: u16, tips: u32) -> u16 {
     if u32::count_ones(tips) != 2 {
-        return 13;
-    }
-    if b == 0 {
-        return 0;
-    }
-    if tips_of(ends, list, b - 1) == tips {
+        13
+    } else if b == 0 {
+        0
+    } else if tips_of(ends, list, b - 1) == tips {
         0
     } else {
         13
@@ -404,18 +387,16 @@ fn ear_number(ends: &[u16], built: u32, start: u32, stop: u32) -> u16 {
     let branches = of_degree(ends, built, 3);
     let tips = start | stop;
     if tips & !of_degree(ends, built, 1) != 0 {
-        return 14;
+        14
+    } else if tips & branches != 0 {
+        0
+    } else if start == stop {
+        14
+    } else if reached(ends, built, branches, start) & stop != 0 {
+        15
+    } else {
+        0
     }
-    if tips & branches != 0 {
-        return 0;
-    }
-    if start == stop {
-        return 14;
-    }
-    if reached(ends, built, branches, start) & stop != 0 {
-        return 15;
-    }
-    0
 }
 
 // The vertices at which n or more of these edges end.
@@ -446,8 +427,6 @@ fn edges_at(ends: &[u16], v: u32) -> u32 {
 
 // Three steps or more, and three edges or more at each vertex.
 fn closes(vertices: u16, ends: &[u16], list: &[u16]) -> bool {
-    if column(list, STEP, 0, edges_of(ends)) & one(2) == 0 {
-        return false;
-    }
-    u32::count_ones(of_degree(ends, ALL, 3)) == (vertices as u32)
+    column(list, STEP, 0, edges_of(ends)) & one(2) != 0
+        && u32::count_ones(of_degree(ends, ALL, 3)) == (vertices as u32)
 }

@@ -1,6 +1,7 @@
 // The cases of the table: a line each.
 use crate::lent;
 use crate::plan;
+use crate::second::at;
 use crate::show;
 ghost use Prim.Native.Nat.{_≤_};
 ghost use lib.ListN.{length};
@@ -32,10 +33,8 @@ fn worth(byte: u8) -> u16 {
     }
 }
 
-// Puts the numbers of a part of a line, 17 at most, into a table; how many they are.
-pub(crate) fn read(line: &[u8], part: u16, table: &mut [u16]) -> usize
-    ensures { λ r. ⌜ r ≤ 17 ⌝ }
-{
+// Puts the numbers of a part of a line into a table, as far as there is room; how many they are.
+pub(crate) fn read(line: &[u8], part: u16, table: &mut [u16]) -> usize {
     let mut seen: u16 = 0;
     let mut n = 0;
     let mut i = 0;
@@ -49,21 +48,9 @@ pub(crate) fn read(line: &[u8], part: u16, table: &mut [u16]) -> usize
 }
 
 // Takes up a byte of the part that is read; how many numbers there are then.
-fn taken(byte: u8, here: bool, table: &mut [u16], n: usize) -> usize
-    requires { ⌜ n ≤ 17 ⌝ }
-    ensures { λ r. ⌜ r ≤ 17 ⌝ }
-{
-    if !here {
-        return n;
-    }
-    if byte == b' ' {
-        return n;
-    }
-    if byte == b';' {
-        return n;
-    }
-    if n < table.len() {
-        if n < 17 {
+fn taken(byte: u8, here: bool, table: &mut [u16], n: usize) -> usize {
+    if here && byte != b' ' && byte != b';' {
+        if n < table.len() {
             table[n] = worth(byte);
             return n + 1;
         }
@@ -74,9 +61,10 @@ fn taken(byte: u8, here: bool, table: &mut [u16], n: usize) -> usize
 // How many parts have ended.
 fn passed(byte: u8, seen: u16) -> u16 {
     if byte == b';' {
-        return std::num::wrapping_add_u16(seen, 1);
+        std::num::wrapping_add_u16(seen, 1)
+    } else {
+        seen
     }
-    seen
 }
 
 fn byte_at(line: &[u8], i: usize) -> u8 {
@@ -90,16 +78,17 @@ fn byte_at(line: &[u8], i: usize) -> u8 {
 pub(crate) fn run(line: &[u8]) {
     let end = find(line, 0, b';');
     show::say(&line[..end]);
-    let mut numbers = [0; 17];
-    read(line, 2, &mut numbers);
+    let mut table = [0; 17];
+    read(line, 2, &mut table);
+    let numbers: &[u16] = &table;
     match byte_at(line, end + 2) {
-        b'f' => lent::fill(line, &numbers),
-        b's' => lent::search(line, &numbers),
-        b'u' => lent::undo(line, &numbers),
-        b'b' => lent::balance(line, &numbers),
-        b'l' => lent::label(line, &numbers),
-        b'c' => lent::chain(line, &numbers),
-        b'g' => plan::large(numbers[0], numbers[1]),
+        b'f' => lent::fill(line, numbers),
+        b's' => lent::search(line, numbers),
+        b'u' => lent::undo(line, numbers),
+        b'b' => lent::balance(line, numbers),
+        b'l' => lent::label(line, numbers),
+        b'c' => lent::chain(line, numbers),
+        b'g' => plan::large(at(numbers, 0), at(numbers, 1)),
         _ => {}
     }
     show::byte(b'\n');

@@ -5,91 +5,115 @@ use crate::second_labels;
 use crate::show;
 use depth::Explored;
 use labels::Labelling;
-ghost use Prim.Native.Nat.{_≤_};
 
-// A length, if so much can be lent.
-fn length(n: u16) -> usize
-    ensures { λ r. ⌜ r ≤ 17 ⌝ }
-{
-    if n < 17 { n as usize } else { 17 }
+// The k-th number of a case, as a length.
+fn length(numbers: &[u16], k: usize) -> usize {
+    at(numbers, k) as usize
 }
 
-pub(crate) fn fill(line: &[u8], numbers: &[u16; 17]) {
-    let i = length(numbers[1]);
-    let b = length(numbers[2]);
+// The first numbers of a table, or all where there are fewer: as many as the k-th number of a case tells.
+fn lend<'a, 'b>(numbers: &'b [u16], k: usize, table: &'a mut [u16]) -> &'a mut [u16] {
+    part(table, length(numbers, k))
+}
+
+fn lend_bytes<'a, 'b>(numbers: &'b [u16], k: usize, table: &'a mut [u8]) -> &'a mut [u8] {
+    let n = length(numbers, k);
+    if table.len() < n {
+        return table;
+    }
+    &mut table[0..n]
+}
+
+fn lend_wide<'a, 'b>(numbers: &'b [u16], k: usize, table: &'a mut [u64]) -> &'a mut [u64] {
+    let n = length(numbers, k);
+    if table.len() < n {
+        return table;
+    }
+    &mut table[0..n]
+}
+
+fn part(table: &mut [u16], n: usize) -> &mut [u16] {
+    if table.len() < n {
+        return table;
+    }
+    &mut table[0..n]
+}
+
+// What was lent, as it is then.
+fn front(table: &[u16], n: usize) -> &[u16] {
+    if table.len() < n {
+        return table;
+    }
+    &table[0..n]
+}
+
+fn front_bytes(table: &[u8], n: usize) -> &[u8] {
+    if table.len() < n {
+        return table;
+    }
+    &table[0..n]
+}
+
+fn front_wide(table: &[u64], n: usize) -> &[u64] {
+    if table.len() < n {
+        return table;
+    }
+    &table[0..n]
+}
+
+fn shown(table: &[u16; 17], numbers: &[u16], k: usize) {
+    show::table(front(table, length(numbers, k)));
+}
+
+// The numbers of a part of a line, in a table that is lent.
+fn list<'a, 'b>(line: &'b [u8], at: u16, table: &'a mut [u16]) -> &'a mut [u16] {
+    let n = read(line, at, table);
+    part(table, n)
+}
+
+// The same, to be read.
+fn given<'a, 'b>(line: &'b [u8], at: u16, table: &'a mut [u16]) -> &'a [u16] {
+    let n = read(line, at, table);
+    front(table, n)
+}
+
+pub(crate) fn fill(line: &[u8], numbers: &[u16]) {
     let mut ends = [0; 17];
-    let e = read(line, 3, &mut ends);
     let mut incident = [9; 17];
     let mut begins = [9; 17];
-    filled(numbers[0], &ends[..e], &mut incident[..i], &mut begins[..b]);
-}
-
-fn filled(pieces: u16, ends: &[u16], incident: &mut [u16], begins: &mut [u16]) {
-    let answer = incidence::fill(pieces, ends, incident, begins);
+    let answer = incidence::fill(
+        at(numbers, 0),
+        given(line, 3, &mut ends),
+        lend(numbers, 1, &mut incident),
+        lend(numbers, 2, &mut begins),
+    );
     show::answer(answer);
-    show::table(incident);
-    show::table(begins);
+    shown(&incident, numbers, 1);
+    shown(&begins, numbers, 2);
 }
 
-pub(crate) fn search(line: &[u8], numbers: &[u16; 17]) {
+pub(crate) fn search(line: &[u8], numbers: &[u16]) {
     let mut ends = [0; 17];
-    let e = read(line, 3, &mut ends);
     let mut incident = [0; 17];
-    let i = read(line, 4, &mut incident);
     let mut begins = [0; 17];
-    let b = read(line, 5, &mut begins);
     let mut marks = [0; 17];
     let d = read(line, 6, &mut marks);
     let mut dead = [0; 17];
     narrow(&marks, &mut dead);
-    let mut first = [0; 17];
-    let f = read(line, 7, &mut first);
-    let mut order = [0; 17];
-    let o = read(line, 8, &mut order);
-    let mut cursor = [0; 17];
-    let c = read(line, 9, &mut cursor);
-    searched(
-        numbers[0],
-        numbers[1],
-        numbers[2],
-        &ends[..e],
-        &incident[..i],
-        &begins[..b],
-        &dead[..d],
-        &mut first[..f],
-        &mut order[..o],
-        &mut cursor[..c],
-    );
-}
-
-fn narrow(list: &[u16], table: &mut [u8]) {
-    let mut i = 0;
-    while i < table.len() {
-        table[i] = (at(list, i) % 256) as u8;
-        i += 1;
-    }
-}
-
-fn searched(
-    pieces: u16,
-    root: u16,
-    seen: u16,
-    ends: &[u16],
-    incident: &[u16],
-    begins: &[u16],
-    dead: &[u8],
-    first: &mut [u16],
-    order: &mut [u16],
-    cursor: &mut [u16],
-) {
+    let mut entered = [0; 17];
+    let first = list(line, 7, &mut entered);
+    let mut listed = [0; 17];
+    let order = list(line, 8, &mut listed);
+    let mut places = [0; 17];
+    let cursor = list(line, 9, &mut places);
     let told = depth::explore(
-        pieces,
-        ends,
-        incident,
-        begins,
-        dead,
-        root,
-        seen,
+        at(numbers, 0),
+        given(line, 3, &mut ends),
+        given(line, 4, &mut incident),
+        given(line, 5, &mut begins),
+        front_bytes(&dead, d),
+        at(numbers, 1),
+        at(numbers, 2),
         first,
         order,
         cursor,
@@ -98,6 +122,14 @@ fn searched(
     show::table(first);
     show::table(order);
     show::table(cursor);
+}
+
+fn narrow(list: &[u16], table: &mut [u8]) {
+    let mut i = 0;
+    while i < table.len() {
+        table[i] = (at(list, i) % 256) as u8;
+        i += 1;
+    }
 }
 
 fn explored(told: Explored) {
@@ -110,59 +142,64 @@ fn explored(told: Explored) {
     }
 }
 
-pub(crate) fn undo(line: &[u8], numbers: &[u16; 17]) {
+pub(crate) fn undo(line: &[u8], numbers: &[u16]) {
     let mut order = [0; 17];
-    let o = read(line, 3, &mut order);
-    let mut first = [0; 17];
-    let f = read(line, 4, &mut first);
-    undone(numbers[0], numbers[1], &order[..o], &mut first[..f]);
-}
-
-fn undone(from: u16, to: u16, order: &[u16], first: &mut [u16]) {
-    depth::undo(order, from, to, first);
+    let mut entered = [0; 17];
+    let first = list(line, 4, &mut entered);
+    depth::undo(
+        given(line, 3, &mut order),
+        at(numbers, 0),
+        at(numbers, 1),
+        first,
+    );
     show::table(first);
 }
 
-pub(crate) fn balance(line: &[u8], numbers: &[u16; 17]) {
-    let l = length(numbers[1]);
-    let s = length(numbers[2]);
-    let mut ends = [0; 17];
-    let e = read(line, 3, &mut ends);
+pub(crate) fn balance(line: &[u8], numbers: &[u16]) {
+    let mut plan = [0; 17];
+    let ends = given(line, 3, &mut plan);
     let mut first = [0; 17];
-    let f = read(line, 4, &mut first);
     let mut order = [0; 17];
-    let o = read(line, 5, &mut order);
     let mut labels = [9; 17];
     let mut sums = [9; 17];
-    balanced(
-        numbers[0],
-        &ends[..e],
-        &first[..f],
-        &order[..o],
-        &mut labels[..l],
-        &mut sums[..s],
+    let answer = labels::balance(
+        at(numbers, 0),
+        ends,
+        given(line, 4, &mut first),
+        given(line, 5, &mut order),
+        lend_wide(numbers, 1, &mut labels),
+        lend_wide(numbers, 2, &mut sums),
     );
-}
-
-fn balanced(
-    pieces: u16,
-    ends: &[u16],
-    first: &[u16],
-    order: &[u16],
-    labels: &mut [u64],
-    sums: &mut [u64],
-) {
-    let answer = labels::balance(pieces, ends, first, order, labels, sums);
     show::answer(answer);
-    told(answer.number == 0, pieces, ends, labels, sums);
+    told(answer.number == 0, numbers, 1, ends, &labels, &sums);
 }
 
 // Of labels only what is promised is shown: whether they cancel around every piece, and what lies behind them; all of it, if they were refused.
-fn told(served: bool, pieces: u16, ends: &[u16], labels: &[u64], sums: &[u64]) {
-    if !served {
-        show::wide(labels, 0);
-        return show::wide(sums, 0);
+// Numbers k and k + 1 of the case are the lengths of the two tables.
+fn told(
+    served: bool,
+    numbers: &[u16],
+    k: usize,
+    ends: &[u16],
+    labels: &[u64; 17],
+    sums: &[u64; 17],
+) {
+    let l = front_wide(labels, length(numbers, k));
+    let s = front_wide(sums, length(numbers, behind(k)));
+    let pieces = at(numbers, 0);
+    if served {
+        kept(pieces, ends, l, s);
+    } else {
+        show::wide(l, 0);
+        show::wide(s, 0);
     }
+}
+
+fn behind(k: usize) -> usize {
+    if k < 16 { k + 1 } else { k }
+}
+
+fn kept(pieces: u16, ends: &[u16], labels: &[u64], sums: &[u64]) {
     show::wide(labels, ends.len() / 2);
     show::wide(sums, pieces as usize);
     if second_labels::is_balanced(pieces, ends, labels) {
@@ -173,17 +210,9 @@ fn told(served: bool, pieces: u16, ends: &[u16], labels: &[u64], sums: &[u64]) {
     }
 }
 
-pub(crate) fn label(line: &[u8], numbers: &[u16; 17]) {
-    let i = length(numbers[1]);
-    let b = length(numbers[2]);
-    let d = length(numbers[3]);
-    let f = length(numbers[4]);
-    let o = length(numbers[5]);
-    let c = length(numbers[6]);
-    let l = length(numbers[7]);
-    let s = length(numbers[8]);
-    let mut ends = [0; 17];
-    let e = read(line, 3, &mut ends);
+pub(crate) fn label(line: &[u8], numbers: &[u16]) {
+    let mut plan = [0; 17];
+    let ends = given(line, 3, &mut plan);
     let mut incident = [9; 17];
     let mut begins = [9; 17];
     let mut dead = [9; 17];
@@ -192,63 +221,26 @@ pub(crate) fn label(line: &[u8], numbers: &[u16; 17]) {
     let mut cursor = [9; 17];
     let mut labels = [9; 17];
     let mut sums = [9; 17];
-    labelled(
-        numbers[0],
-        &ends[..e],
-        &mut incident[..i],
-        &mut begins[..b],
-        &mut dead[..d],
-        &mut first[..f],
-        &mut order[..o],
-        &mut cursor[..c],
-        &mut labels[..l],
-        &mut sums[..s],
-    );
-}
-
-fn labelled(
-    pieces: u16,
-    ends: &[u16],
-    incident: &mut [u16],
-    begins: &mut [u16],
-    dead: &mut [u8],
-    first: &mut [u16],
-    order: &mut [u16],
-    cursor: &mut [u16],
-    labels: &mut [u64],
-    sums: &mut [u64],
-) {
     let said = labels::label(
-        pieces,
+        at(numbers, 0),
         ends,
-        incident,
-        begins,
-        dead,
-        first,
-        order,
-        cursor,
-        labels,
-        sums,
+        lend(numbers, 1, &mut incident),
+        lend(numbers, 2, &mut begins),
+        lend_bytes(numbers, 3, &mut dead),
+        lend(numbers, 4, &mut first),
+        lend(numbers, 5, &mut order),
+        lend(numbers, 6, &mut cursor),
+        lend_wide(numbers, 7, &mut labels),
+        lend_wide(numbers, 8, &mut sums),
     );
     let served = named(said);
-    tables(incident, begins, dead, first, order, cursor);
-    told(served, pieces, ends, labels, sums);
-}
-
-fn tables(
-    incident: &[u16],
-    begins: &[u16],
-    dead: &[u8],
-    first: &[u16],
-    order: &[u16],
-    cursor: &[u16],
-) {
-    show::table(incident);
-    show::table(begins);
-    show::bytes(dead);
-    show::table(first);
-    show::table(order);
-    show::table(cursor);
+    shown(&incident, numbers, 1);
+    shown(&begins, numbers, 2);
+    show::bytes(front_bytes(&dead, length(numbers, 3)));
+    shown(&first, numbers, 4);
+    shown(&order, numbers, 5);
+    shown(&cursor, numbers, 6);
+    told(served, numbers, 7, ends, &labels, &sums);
 }
 
 // Says what is said of a plan; whether it is labelled.
@@ -269,16 +261,22 @@ fn named(said: Labelling) -> bool {
     }
 }
 
-pub(crate) fn chain(line: &[u8], numbers: &[u16; 17]) {
-    let n = length(numbers[1]);
-    let h = length(numbers[2]);
+pub(crate) fn chain(line: &[u8], numbers: &[u16]) {
     let mut keys = [0; 17];
     let k = read(line, 3, &mut keys);
     let mut labels = [0; 17];
     widen(&keys, &mut labels);
     let mut next = [9; 17];
     let mut heads = [9; 17];
-    chained(numbers[0], &labels[..k], &mut next[..n], &mut heads[..h]);
+    let answer = chains::chain(
+        at(numbers, 0),
+        front_wide(&labels, k),
+        lend(numbers, 1, &mut next),
+        lend(numbers, 2, &mut heads),
+    );
+    show::answer(answer);
+    shown(&next, numbers, 1);
+    shown(&heads, numbers, 2);
 }
 
 fn widen(list: &[u16], table: &mut [u64]) {
@@ -291,11 +289,4 @@ fn widen(list: &[u16], table: &mut [u64]) {
 
 fn wide(x: u16) -> u64 {
     x as u64
-}
-
-fn chained(edges: u16, labels: &[u64], next: &mut [u16], heads: &mut [u16]) {
-    let answer = chains::chain(edges, labels, next, heads);
-    show::answer(answer);
-    show::table(next);
-    show::table(heads);
 }

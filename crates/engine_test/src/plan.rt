@@ -78,12 +78,7 @@ fn length(tabs: u16) -> usize
 // What a run has counted.
 pub(crate) fn shown(run: &[u16; 6]) {
     show::say(b": plans, refused by, in one body, searches, entered, differences");
-    show::short(run[0]);
-    show::short(run[1]);
-    show::short(run[2]);
-    show::short(run[3]);
-    show::short(run[4]);
-    show::short(run[5]);
+    show::numbers(run);
 }
 
 fn lay(ends: &mut [u16], rule: u16, pieces: u16, seed: u32) {

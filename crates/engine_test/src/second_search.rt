@@ -22,10 +22,7 @@ pub(crate) fn search(
     first: &mut [u16],
     order: &mut [u16],
 ) -> u16 {
-    if vertices <= seen {
-        return seen;
-    }
-    if at(first, root as usize) != 0 {
+    if vertices <= seen || at(first, root as usize) != 0 {
         return seen;
     }
     let turns = 2 * (vertices as usize);
@@ -61,15 +58,18 @@ fn step(
     if s.v == NONE {
         return s;
     }
-    if s.count < vertices {
-        let e = onward(vertices, ends, incident, begins, dead, first, s.v);
-        if e != NONE {
-            return entered(far(ends, e, s.v), e + 1, s.count, first, order);
+    let e = if s.count < vertices {
+        onward(vertices, ends, incident, begins, dead, first, s.v)
+    } else {
+        NONE
+    };
+    if e != NONE {
+        entered(far(ends, e, s.v), e + 1, s.count, first, order)
+    } else {
+        Spot {
+            v: back(ends, first, s.v),
+            count: s.count,
         }
-    }
-    Spot {
-        v: back(ends, first, s.v),
-        count: s.count,
     }
 }
 
@@ -116,13 +116,12 @@ fn group_end(vertices: u16, size: usize, begins: &[u16], v: u16) -> usize {
 
 fn leads(vertices: u16, ends: &[u16], dead: &[u8], first: &[u16], e: u16, v: u16) -> bool {
     let w = far(ends, e, v);
-    if vertices <= w {
-        return false;
-    }
     let i = e as usize;
-    if i < dead.len() {
-        if dead[i] == 0 {
-            return at(first, w as usize) == 0;
+    if w < vertices {
+        if i < dead.len() {
+            if dead[i] == 0 {
+                return at(first, w as usize) == 0;
+            }
         }
     }
     false

@@ -33,6 +33,10 @@ pub(crate) fn answer(told: Answer) {
 // A table: a semicolon, and its numbers.
 pub(crate) fn table(list: &[u16]) {
     byte(b';');
+    numbers(list);
+}
+
+pub(crate) fn numbers(list: &[u16]) {
     let mut i = 0;
     while i < list.len() {
         short(list[i]);

@@ -48,40 +48,45 @@ fn is_same(a: &[u16], b: &[u16]) -> bool {
 
 // All on one plan: the tables, and where it is admitted, the rest.
 pub(crate) fn tried(run: &mut [u16; 6], vertices: u16, ends: &[u16], seed: u32) {
+    count(run, PLANS, 1);
+    let number = filled(run, vertices, ends);
+    if number == 0 {
+        searched(run, vertices, ends, seed);
+    } else {
+        count(run, REFUSED, number);
+    }
+}
+
+// The tables of a plan, and by what it is refused.
+fn filled(run: &mut [u16; 6], vertices: u16, ends: &[u16]) -> u16 {
     let mut incident = [UNTOUCHED; 8000];
     let mut begins = [UNTOUCHED; 1000];
+    let answer = incidence::fill(vertices, ends, &mut incident, &mut begins);
+    if answer.number == 0 {
+        grouped(run, vertices, ends, &incident, &begins);
+    }
+    answer.number
+}
+
+// The tables are those of the second implementation.
+fn grouped(run: &mut [u16; 6], vertices: u16, ends: &[u16], incident: &[u16], begins: &[u16]) {
     let mut groups = [UNTOUCHED; 8000];
     let mut places = [UNTOUCHED; 1000];
-    let answer = incidence::fill(vertices, ends, &mut incident, &mut begins);
-    count(run, PLANS, 1);
-    if answer.number != 0 {
-        return count(run, REFUSED, answer.number);
-    }
     second::fill(vertices, ends, &mut groups, &mut places);
-    require(run, is_same(&incident, &groups));
-    require(run, is_same(&begins, &places));
-    searched(run, vertices, ends, &mut groups, &mut places, seed);
+    require(run, is_same(incident, &groups));
+    require(run, is_same(begins, &places));
 }
 
 // Searches over the tables as they are filled, and over damaged ones; and labels.
-fn searched(
-    run: &mut [u16; 6],
-    vertices: u16,
-    ends: &[u16],
-    incident: &mut [u16],
-    begins: &mut [u16],
-    seed: u32,
-) {
-    let seen = explored(run, vertices, ends, incident, begins, 0, seed);
+fn searched(run: &mut [u16; 6], vertices: u16, ends: &[u16], seed: u32) {
+    let seen = explored(run, vertices, ends, begun(vertices, 0, seed), 0, 0);
     labelled(run, vertices, ends, seen == vertices);
-    explored(run, vertices, ends, incident, begins, 5, seed);
-    damage(incident, 3, seed);
-    explored(run, vertices, ends, incident, begins, 9, seed);
-    damage(begins, 4, seed);
-    explored(run, vertices, ends, incident, begins, 7, seed);
+    explored(run, vertices, ends, begun(vertices, 5, seed), 0, 0);
+    explored(run, vertices, ends, begun(vertices, 9, seed), 3, 0);
+    explored(run, vertices, ends, begun(vertices, 7, seed), 3, 4);
 }
 
-// One of so many numbers becomes another.
+// One of so many numbers becomes another; none, if that is 0.
 fn damage(list: &mut [u16], times: u16, seed: u32) {
     let mut i = 0;
     while i < list.len() {
@@ -130,28 +135,43 @@ fn begun(vertices: u16, times: u16, seed: u32) -> Walk {
     }
 }
 
-// A search by both; how many vertices then stand in the order.
+// A search by both over tables in which one of so many numbers is damaged; how many vertices then stand in the order.
 fn explored(
+    run: &mut [u16; 6],
+    vertices: u16,
+    ends: &[u16],
+    walk: Walk,
+    of_incident: u16,
+    of_begins: u16,
+) -> u16 {
+    let mut incident = [UNTOUCHED; 8000];
+    let mut begins = [UNTOUCHED; 1000];
+    second::fill(vertices, ends, &mut incident, &mut begins);
+    damage(&mut incident, of_incident, walk.seed);
+    damage(&mut begins, of_begins, walk.seed);
+    walked(run, vertices, ends, &incident, &begins, walk)
+}
+
+fn walked(
     run: &mut [u16; 6],
     vertices: u16,
     ends: &[u16],
     incident: &[u16],
     begins: &[u16],
-    times: u16,
-    seed: u32,
+    walk: Walk,
 ) -> u16 {
-    let walk = begun(vertices, times, seed);
-    let mut dead = [0u8; 4000];
-    kill(&mut dead, times, seed);
+    let mut marks = [0u8; 4000];
+    kill(&mut marks, walk.times, walk.seed);
+    let dead: &[u8] = &marks;
     let mut found = [0u16; 1000];
-    damage(&mut found, times, seed);
+    damage(&mut found, walk.times, walk.seed);
     let mut listed = [UNTOUCHED; 1000];
     let n = second_search::search(
         vertices,
         ends,
         incident,
         begins,
-        &dead,
+        dead,
         walk.root,
         walk.seen,
         &mut found,
@@ -163,6 +183,7 @@ fn explored(
         ends,
         incident,
         begins,
+        dead,
         walk,
         n,
         &found,
@@ -179,13 +200,12 @@ fn compared(
     ends: &[u16],
     incident: &[u16],
     begins: &[u16],
+    dead: &[u8],
     walk: Walk,
     n: u16,
     found: &[u16],
     listed: &[u16],
 ) {
-    let mut dead = [0u8; 4000];
-    kill(&mut dead, walk.times, walk.seed);
     let mut first = [0u16; 1000];
     damage(&mut first, walk.times, walk.seed);
     let mut order = [UNTOUCHED; 1000];
@@ -195,7 +215,7 @@ fn compared(
         ends,
         incident,
         begins,
-        &dead,
+        dead,
         walk.root,
         walk.seen,
         &mut first,
@@ -205,7 +225,8 @@ fn compared(
     require(run, is_seen(told, n));
     require(run, is_same(&first, found));
     require(run, is_same(&order, listed));
-    undone(run, walk, n, listed, &mut first, &cursor);
+    cleared(run, walk, n, listed, &cursor);
+    undone(run, walk, n, listed, &mut first);
 }
 
 fn is_seen(told: Explored, count: u16) -> bool {
@@ -215,19 +236,16 @@ fn is_seen(told: Explored, count: u16) -> bool {
     }
 }
 
-fn undone(
-    run: &mut [u16; 6],
-    walk: Walk,
-    n: u16,
-    order: &[u16],
-    first: &mut [u16],
-    cursor: &[u16],
-) {
-    count(run, SEARCHES, 1);
-    count(run, ENTERED, std::num::wrapping_sub_u16(n, walk.seen));
+// Undoing the search in a table that is untouched clears the same places as the search has.
+fn cleared(run: &mut [u16; 6], walk: Walk, n: u16, order: &[u16], cursor: &[u16]) {
     let mut places = [UNTOUCHED; 1000];
     depth::undo(order, walk.seen, n, &mut places);
     require(run, is_same(cursor, &places));
+    count(run, SEARCHES, 1);
+    count(run, ENTERED, std::num::wrapping_sub_u16(n, walk.seen));
+}
+
+fn undone(run: &mut [u16; 6], walk: Walk, n: u16, order: &[u16], first: &mut [u16]) {
     let mut before = [0u16; 1000];
     damage(&mut before, walk.times, walk.seed);
     depth::undo(order, walk.seen, n, first);

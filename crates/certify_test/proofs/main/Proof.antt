@@ -5,13 +5,10 @@ use Rattle.certify_test.proofs.main.Statement.{statement}
 use Rattle.certify_test.proofs.main.Tie as tie
 
 abbrev Inv-loop : tie.InvT-loop
-Inv-loop run₀ shape₀ t3 run shape = shape ≤ 8
+Inv-loop run₀ seed₀ shape₀ run seed shape = shape ≤ 8
 
 abbrev μ-loop : tie.MeasureT-loop
-μ-loop run₀ shape₀ t3 run shape = 8 - shape
-
-array-write-run : tie.Need-array-write-run Inv-loop μ-loop
-array-write-run c = search needs
+μ-loop run₀ seed₀ shape₀ run seed shape = 8 - shape
 
 loop-holds : tie.Need-loop-holds Inv-loop μ-loop
 loop-holds c = search needs
@@ -28,9 +25,6 @@ loop-less c = search needs
 loop-again : tie.Need-loop-again Inv-loop μ-loop
 loop-again c = search needs
 
-slice-aggregate-say : tie.Need-slice-aggregate-say Inv-loop μ-loop
-slice-aggregate-say c = search needs
-
 say-requires : tie.Need-say-requires Inv-loop μ-loop
 say-requires c κs = search needs
 
@@ -43,12 +37,10 @@ main-spec =
     (tie.spec
     Inv-loop
     μ-loop
-    array-write-run
     loop-holds
     shaped-requires
     add-shape
     loop-less
     loop-again
-    slice-aggregate-say
     say-requires
     returns)

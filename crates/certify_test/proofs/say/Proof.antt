@@ -6,10 +6,13 @@ use Rattle.certify_test.proofs.say.Statement.{statement}
 use Rattle.certify_test.proofs.say.Tie as tie
 
 abbrev Inv-loop : tie.InvT-loop
-Inv-loop text part numbers first seen₀ n₀ i₀ seen n i = i ≤ length text
+Inv-loop part numbers first text seen₀ n₀ i₀ seen n i = i ≤ length text
 
 abbrev μ-loop : tie.MeasureT-loop
-μ-loop text part numbers first seen₀ n₀ i₀ seen n i = length text - i
+μ-loop part numbers first text seen₀ n₀ i₀ seen n i = length text - i
+
+slice-aggregate-text : tie.Need-slice-aggregate-text Inv-loop μ-loop
+slice-aggregate-text c = search needs
 
 loop-holds : tie.Need-loop-holds Inv-loop μ-loop
 loop-holds c = search needs
@@ -17,11 +20,11 @@ loop-holds c = search needs
 shared-slice-read-b : tie.Need-shared-slice-read-b Inv-loop μ-loop
 shared-slice-read-b c = search needs
 
+more-requires : tie.Need-more-requires Inv-loop μ-loop
+more-requires c κs = search needs
+
 glyph-requires : tie.Need-glyph-requires Inv-loop μ-loop
 glyph-requires c κs = search needs
-
-passed-requires : tie.Need-passed-requires Inv-loop μ-loop
-passed-requires c κs = search needs
 
 add-i : tie.Need-add-i Inv-loop μ-loop
 add-i c = search needs
@@ -41,10 +44,11 @@ say-spec =
     (tie.spec
     Inv-loop
     μ-loop
+    slice-aggregate-text
     loop-holds
     shared-slice-read-b
+    more-requires
     glyph-requires
-    passed-requires
     add-i
     loop-less
     loop-again

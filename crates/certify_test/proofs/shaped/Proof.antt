@@ -5,10 +5,10 @@ use Rattle.certify_test.proofs.shaped.Statement.{statement}
 use Rattle.certify_test.proofs.shaped.Tie as tie
 
 abbrev Inv-loop : tie.InvT-loop
-Inv-loop run₀ shape i₀ run i = i ≤ 1250
+Inv-loop run₀ shape seed s₀ i₀ run s i = i ≤ 1250
 
 abbrev μ-loop : tie.MeasureT-loop
-μ-loop run₀ shape i₀ run i = 1250 - i
+μ-loop run₀ shape seed s₀ i₀ run s i = 1250 - i
 
 cleared-requires : tie.Need-cleared-requires Inv-loop μ-loop
 cleared-requires c κs = search needs
@@ -34,8 +34,11 @@ loop-less c = search needs
 loop-again : tie.Need-loop-again Inv-loop μ-loop
 loop-again c = search needs
 
-shown-requires : tie.Need-shown-requires Inv-loop μ-loop
-shown-requires c κs = search needs
+say-requires : tie.Need-say-requires Inv-loop μ-loop
+say-requires c κs = search needs
+
+say-requires-2 : tie.Need-say-requires-2 Inv-loop μ-loop
+say-requires-2 c κs = search needs
 
 returns : tie.Need-returns Inv-loop μ-loop
 returns c = search needs
@@ -54,5 +57,6 @@ shaped-spec =
     add-i
     loop-less
     loop-again
-    shown-requires
+    say-requires
+    say-requires-2
     returns)

@@ -5,19 +5,16 @@ use Rattle.certify_test.proofs.tried.Statement.{statement}
 use Rattle.certify_test.proofs.tried.Tie as tie
 
 abbrev Inv-loop : tie.InvT-loop
-Inv-loop run₀ plan ends rows how₀ i₀ run how i = i ≤ 7
+Inv-loop run₀ ends rows now₀ how₀ i₀ run now how i = i ≤ 7
 
 abbrev μ-loop : tie.MeasureT-loop
-μ-loop run₀ plan ends rows how₀ i₀ run how i = 7 - i
+μ-loop run₀ ends rows now₀ how₀ i₀ run now how i = 7 - i
 
 loop-holds : tie.Need-loop-holds Inv-loop μ-loop
 loop-holds c = search needs
 
 tried-changed-requires : tie.Need-tried-changed-requires Inv-loop μ-loop
 tried-changed-requires c κs = search needs
-
-element-copy-out-draw : tie.Need-element-copy-out-draw Inv-loop μ-loop
-element-copy-out-draw c = search needs
 
 draw-requires : tie.Need-draw-requires Inv-loop μ-loop
 draw-requires c κs = search needs
@@ -42,7 +39,6 @@ tried-spec =
     μ-loop
     loop-holds
     tried-changed-requires
-    element-copy-out-draw
     draw-requires
     add-i
     loop-less

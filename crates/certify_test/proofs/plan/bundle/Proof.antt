@@ -5,10 +5,10 @@ use Rattle.certify_test.proofs.plan.bundle.Statement.{statement}
 use Rattle.certify_test.proofs.plan.bundle.Tie as tie
 
 abbrev Inv-loop : tie.InvT-loop
-Inv-loop made₀ a b count i₀ made i = i ≤ count
+Inv-loop a b count more₀ i₀ more i = i ≤ count
 
 abbrev μ-loop : tie.MeasureT-loop
-μ-loop made₀ a b count i₀ made i = count - i
+μ-loop a b count more₀ i₀ more i = count - i
 
 loop-holds : tie.Need-loop-holds Inv-loop μ-loop
 loop-holds c = search needs

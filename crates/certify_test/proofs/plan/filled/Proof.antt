@@ -5,13 +5,31 @@ use Rattle.certify_test.proofs.plan.filled.Statement.{statement}
 use Rattle.certify_test.proofs.plan.filled.Tie as tie
 
 abbrev Inv-loop : tie.InvT-loop
-Inv-loop made₀ shape border turns seed draws s₀ i₀ made s i = i ≤ turns
+Inv-loop shape seed vertices border plan₀ turns i₀ plan i = i ≤ turns
 
 abbrev μ-loop : tie.MeasureT-loop
-μ-loop made₀ shape border turns seed draws s₀ i₀ made s i = turns - i
+μ-loop shape seed vertices border plan₀ turns i₀ plan i = turns - i
 
-draws-of-requires : tie.Need-draws-of-requires Inv-loop μ-loop
-draws-of-requires c κs = search needs
+later-requires : tie.Need-later-requires Inv-loop μ-loop
+later-requires c κs = search needs
+
+vertices-of-requires : tie.Need-vertices-of-requires Inv-loop μ-loop
+vertices-of-requires c κs = search needs
+
+later-requires-2 : tie.Need-later-requires-2 Inv-loop μ-loop
+later-requires-2 c κs = search needs
+
+border-of-requires : tie.Need-border-of-requires Inv-loop μ-loop
+border-of-requires c κs = search needs
+
+later-requires-3 : tie.Need-later-requires-3 Inv-loop μ-loop
+later-requires-3 c κs = search needs
+
+bare-requires : tie.Need-bare-requires Inv-loop μ-loop
+bare-requires c κs = search needs
+
+turns-of-requires : tie.Need-turns-of-requires Inv-loop μ-loop
+turns-of-requires c κs = search needs
 
 loop-holds : tie.Need-loop-holds Inv-loop μ-loop
 loop-holds c = search needs
@@ -19,8 +37,11 @@ loop-holds c = search needs
 turn-requires : tie.Need-turn-requires Inv-loop μ-loop
 turn-requires c κs = search needs
 
-later-requires : tie.Need-later-requires Inv-loop μ-loop
-later-requires c κs = search needs
+draws-of-requires : tie.Need-draws-of-requires Inv-loop μ-loop
+draws-of-requires c κs = search needs
+
+later-requires-4 : tie.Need-later-requires-4 Inv-loop μ-loop
+later-requires-4 c κs = search needs
 
 add-i : tie.Need-add-i Inv-loop μ-loop
 add-i c = search needs
@@ -40,10 +61,17 @@ filled-spec =
     (tie.spec
     Inv-loop
     μ-loop
-    draws-of-requires
+    later-requires
+    vertices-of-requires
+    later-requires-2
+    border-of-requires
+    later-requires-3
+    bare-requires
+    turns-of-requires
     loop-holds
     turn-requires
-    later-requires
+    draws-of-requires
+    later-requires-4
     add-i
     loop-less
     loop-again

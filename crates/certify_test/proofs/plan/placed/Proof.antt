@@ -5,40 +5,55 @@ use Rattle.certify_test.proofs.plan.placed.Statement.{statement}
 use Rattle.certify_test.proofs.plan.placed.Tie as tie
 
 abbrev Inv-loop : tie.InvT-loop
-Inv-loop made places ends₀ i₀ ends i = i ≤ 28
+Inv-loop plan ends₀ e₀ ends e = e ≤ (plan .edges)
 
 abbrev μ-loop : tie.MeasureT-loop
-μ-loop made places ends₀ i₀ ends i = 28 - i
+μ-loop plan ends₀ e₀ ends e = (plan .edges) - e
 
 loop-holds : tie.Need-loop-holds Inv-loop μ-loop
 loop-holds c = search needs
 
-mul-wide : tie.Need-mul-wide Inv-loop μ-loop
-mul-wide c = search needs
+spot-of-requires : tie.Need-spot-of-requires Inv-loop μ-loop
+spot-of-requires c κs = search needs
 
-element-copy-out-wide : tie.Need-element-copy-out-wide Inv-loop μ-loop
-element-copy-out-wide c = search needs
+cast-i : tie.Need-cast-i Inv-loop μ-loop
+cast-i c = search needs
 
-wide-requires : tie.Need-wide-requires Inv-loop μ-loop
-wide-requires c κs = search needs
+mul-i : tie.Need-mul-i Inv-loop μ-loop
+mul-i c = search needs
 
-mul-put : tie.Need-mul-put Inv-loop μ-loop
-mul-put c = search needs
+cast-i-2 : tie.Need-cast-i-2 Inv-loop μ-loop
+cast-i-2 c = search needs
 
-element-copy-out-put : tie.Need-element-copy-out-put Inv-loop μ-loop
-element-copy-out-put c = search needs
+digit-requires : tie.Need-digit-requires Inv-loop μ-loop
+digit-requires c κs = search needs
+
+name-requires : tie.Need-name-requires Inv-loop μ-loop
+name-requires c κs = search needs
 
 put-requires : tie.Need-put-requires Inv-loop μ-loop
 put-requires c κs = search needs
 
-add-i : tie.Need-add-i Inv-loop μ-loop
-add-i c = search needs
+digit-requires-2 : tie.Need-digit-requires-2 Inv-loop μ-loop
+digit-requires-2 c κs = search needs
+
+name-requires-2 : tie.Need-name-requires-2 Inv-loop μ-loop
+name-requires-2 c κs = search needs
+
+put-requires-2 : tie.Need-put-requires-2 Inv-loop μ-loop
+put-requires-2 c κs = search needs
+
+add-e : tie.Need-add-e Inv-loop μ-loop
+add-e c = search needs
 
 loop-less : tie.Need-loop-less Inv-loop μ-loop
 loop-less c = search needs
 
 loop-again : tie.Need-loop-again Inv-loop μ-loop
 loop-again c = search needs
+
+spoiled-requires : tie.Need-spoiled-requires Inv-loop μ-loop
+spoiled-requires c κs = search needs
 
 returns : tie.Need-returns Inv-loop μ-loop
 returns c = search needs
@@ -50,13 +65,18 @@ placed-spec =
     Inv-loop
     μ-loop
     loop-holds
-    mul-wide
-    element-copy-out-wide
-    wide-requires
-    mul-put
-    element-copy-out-put
+    spot-of-requires
+    cast-i
+    mul-i
+    cast-i-2
+    digit-requires
+    name-requires
     put-requires
-    add-i
+    digit-requires-2
+    name-requires-2
+    put-requires-2
+    add-e
     loop-less
     loop-again
+    spoiled-requires
     returns)

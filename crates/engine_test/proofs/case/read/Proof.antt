@@ -7,7 +7,7 @@ use Rattle.engine_test.proofs.case.read.Statement.{statement}
 use Rattle.engine_test.proofs.case.read.Tie as tie
 
 abbrev Inv-loop : tie.InvT-loop
-Inv-loop line part table₀ seen₀ n₀ i₀ table seen n i = (i ≤ length line) × (n ≤ 17) × (length table ≡ length table₀)
+Inv-loop line part table₀ seen₀ n₀ i₀ table seen n i = (i ≤ length line) × (length table ≡ length table₀)
 
 abbrev μ-loop : tie.MeasureT-loop
 μ-loop line part table₀ seen₀ n₀ i₀ table seen n i = length line - i

@@ -1,4 +1,4 @@
--- `run` is safe.
+-- `run` is safe and ends.
 use native.Mathlib.Omega.{arith}
 use lib.ListN.{length-take}
 use borrow.Author.Needs.{needs}
@@ -19,6 +19,9 @@ slice-aggregate-read c = search needs
 
 read-requires : tie.Need-read-requires
 read-requires c κs = search needs
+
+slice-aggregate-numbers : tie.Need-slice-aggregate-numbers
+slice-aggregate-numbers c = search needs
 
 add-byte-at : tie.Need-add-byte-at
 add-byte-at c = search needs
@@ -44,11 +47,11 @@ label-requires c κs = search needs
 chain-requires : tie.Need-chain-requires
 chain-requires c κs = search needs
 
-array-read-large : tie.Need-array-read-large
-array-read-large c = search needs
+at-requires : tie.Need-at-requires
+at-requires c κs = search needs
 
-array-read-large-2 : tie.Need-array-read-large-2
-array-read-large-2 c = search needs
+at-requires-2 : tie.Need-at-requires-2
+at-requires-2 c κs = search needs
 
 large-requires : tie.Need-large-requires
 large-requires c κs = search needs
@@ -68,6 +71,7 @@ run-spec =
     say-requires
     slice-aggregate-read
     read-requires
+    slice-aggregate-numbers
     add-byte-at
     byte-at-requires
     fill-requires
@@ -76,8 +80,8 @@ run-spec =
     balance-requires
     label-requires
     chain-requires
-    array-read-large
-    array-read-large-2
+    at-requires
+    at-requires-2
     large-requires
     byte-requires
     returns)

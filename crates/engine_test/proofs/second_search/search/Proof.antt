@@ -12,17 +12,11 @@ Inv-loop vertices ends incident begins dead root seen first₀ order₀ turns s�
 abbrev μ-loop : tie.MeasureT-loop
 μ-loop vertices ends incident begins dead root seen first₀ order₀ turns s₀ turn₀ first order s turn = turns - turn
 
-returns : tie.Need-returns Inv-loop μ-loop
-returns c = search needs
-
 at-requires : tie.Need-at-requires Inv-loop μ-loop
 at-requires c κs = search needs
 
-same-length : tie.Need-same-length Inv-loop μ-loop
-same-length c = search needs
-
-returns-2 : tie.Need-returns-2 Inv-loop μ-loop
-returns-2 c = search needs
+returns : tie.Need-returns Inv-loop μ-loop
+returns c = search needs
 
 mul-turns : tie.Need-mul-turns Inv-loop μ-loop
 mul-turns c = search needs
@@ -45,14 +39,14 @@ loop-less c = search needs
 loop-again : tie.Need-loop-again Inv-loop μ-loop
 loop-again c = search needs
 
+same-length : tie.Need-same-length Inv-loop μ-loop
+same-length c = search needs
+
 same-length-2 : tie.Need-same-length-2 Inv-loop μ-loop
 same-length-2 c = search needs
 
-same-length-3 : tie.Need-same-length-3 Inv-loop μ-loop
-same-length-3 c = search needs
-
-returns-3 : tie.Need-returns-3 Inv-loop μ-loop
-returns-3 c = search needs
+returns-2 : tie.Need-returns-2 Inv-loop μ-loop
+returns-2 c = search needs
 
 pub search-spec : {M : Type 1} → statement M
 search-spec =
@@ -60,10 +54,8 @@ search-spec =
     (tie.spec
     Inv-loop
     μ-loop
-    returns
     at-requires
-    same-length
-    returns-2
+    returns
     mul-turns
     entered-requires
     loop-holds
@@ -71,6 +63,6 @@ search-spec =
     add-turn
     loop-less
     loop-again
+    same-length
     same-length-2
-    same-length-3
-    returns-3)
+    returns-2)

@@ -1,14 +1,14 @@
--- `shuffled` is safe and ends.
+-- `spot_of` is safe and ends.
 use Prim.Native.Nat.{_-_, _≤_}
 use borrow.Author.Needs.{needs}
-use Rattle.certify_test.proofs.plan.shuffled.Statement.{statement}
-use Rattle.certify_test.proofs.plan.shuffled.Tie as tie
+use Rattle.certify_test.proofs.plan.spot_of.Statement.{statement}
+use Rattle.certify_test.proofs.plan.spot_of.Tie as tie
 
 abbrev Inv-loop : tie.InvT-loop
-Inv-loop places₀ edges seed s₀ e₀ places s e = e ≤ edges
+Inv-loop plan edge s₀ e₀ turned₀ d₀ s e turned d = d ≤ (plan .edges)
 
 abbrev μ-loop : tie.MeasureT-loop
-μ-loop places₀ edges seed s₀ e₀ places s e = edges - e
+μ-loop plan edge s₀ e₀ turned₀ d₀ s e turned d = (plan .edges) - d
 
 loop-holds : tie.Need-loop-holds Inv-loop μ-loop
 loop-holds c = search needs
@@ -16,17 +16,17 @@ loop-holds c = search needs
 draw-requires : tie.Need-draw-requires Inv-loop μ-loop
 draw-requires c κs = search needs
 
+other-requires : tie.Need-other-requires Inv-loop μ-loop
+other-requires c κs = search needs
+
 draw-requires-2 : tie.Need-draw-requires-2 Inv-loop μ-loop
 draw-requires-2 c κs = search needs
-
-moved-requires : tie.Need-moved-requires Inv-loop μ-loop
-moved-requires c κs = search needs
 
 later-requires : tie.Need-later-requires Inv-loop μ-loop
 later-requires c κs = search needs
 
-add-e : tie.Need-add-e Inv-loop μ-loop
-add-e c = search needs
+add-d : tie.Need-add-d Inv-loop μ-loop
+add-d c = search needs
 
 loop-less : tie.Need-loop-less Inv-loop μ-loop
 loop-less c = search needs
@@ -37,18 +37,18 @@ loop-again c = search needs
 returns : tie.Need-returns Inv-loop μ-loop
 returns c = search needs
 
-pub shuffled-spec : {M : Type 1} → statement M
-shuffled-spec =
+pub spot-of-spec : {M : Type 1} → statement M
+spot-of-spec =
     tie.close
     (tie.spec
     Inv-loop
     μ-loop
     loop-holds
     draw-requires
+    other-requires
     draw-requires-2
-    moved-requires
     later-requires
-    add-e
+    add-d
     loop-less
     loop-again
     returns)

@@ -1,26 +1,26 @@
--- `renamed` is safe and ends.
+-- `name` is safe and ends.
 use Prim.Native.Nat.{_-_, _≤_}
 use borrow.Author.Needs.{needs}
-use Rattle.certify_test.proofs.plan.renamed.Statement.{statement}
-use Rattle.certify_test.proofs.plan.renamed.Tie as tie
+use Rattle.certify_test.proofs.plan.name.Statement.{statement}
+use Rattle.certify_test.proofs.plan.name.Tie as tie
 
 abbrev Inv-loop : tie.InvT-loop
-Inv-loop made₀ vertices seed s₀ v₀ made s v = v ≤ vertices
+Inv-loop plan vertex s₀ x₀ v₀ s x v = v ≤ (plan .named)
 
 abbrev μ-loop : tie.MeasureT-loop
-μ-loop made₀ vertices seed s₀ v₀ made s v = vertices - v
+μ-loop plan vertex s₀ x₀ v₀ s x v = (plan .named) - v
 
 loop-holds : tie.Need-loop-holds Inv-loop μ-loop
 loop-holds c = search needs
 
-next-requires : tie.Need-next-requires Inv-loop μ-loop
-next-requires c κs = search needs
+later-requires : tie.Need-later-requires Inv-loop μ-loop
+later-requires c κs = search needs
 
 below-requires : tie.Need-below-requires Inv-loop μ-loop
 below-requires c κs = search needs
 
-exchanged-requires : tie.Need-exchanged-requires Inv-loop μ-loop
-exchanged-requires c κs = search needs
+other-requires : tie.Need-other-requires Inv-loop μ-loop
+other-requires c κs = search needs
 
 add-v : tie.Need-add-v Inv-loop μ-loop
 add-v c = search needs
@@ -34,16 +34,16 @@ loop-again c = search needs
 returns : tie.Need-returns Inv-loop μ-loop
 returns c = search needs
 
-pub renamed-spec : {M : Type 1} → statement M
-renamed-spec =
+pub name-spec : {M : Type 1} → statement M
+name-spec =
     tie.close
     (tie.spec
     Inv-loop
     μ-loop
     loop-holds
-    next-requires
+    later-requires
     below-requires
-    exchanged-requires
+    other-requires
     add-v
     loop-less
     loop-again

@@ -1,20 +1,23 @@
--- `listed` is safe and ends.
+-- `walked` is safe and ends.
 use Prim.Native.Nat.{_-_, _≤_}
 use borrow.Author.Needs.{needs}
-use Rattle.certify_test.proofs.plan.listed.Statement.{statement}
-use Rattle.certify_test.proofs.plan.listed.Tie as tie
+use Rattle.certify_test.proofs.plan.walked.Statement.{statement}
+use Rattle.certify_test.proofs.plan.walked.Tie as tie
 
 abbrev Inv-loop : tie.InvT-loop
-Inv-loop made places rows₀ i₀ rows i = i ≤ 42
+Inv-loop plan rows₀ i₀ rows i = i ≤ 42
 
 abbrev μ-loop : tie.MeasureT-loop
-μ-loop made places rows₀ i₀ rows i = 42 - i
+μ-loop plan rows₀ i₀ rows i = 42 - i
 
 loop-holds : tie.Need-loop-holds Inv-loop μ-loop
 loop-holds c = search needs
 
 entry-requires : tie.Need-entry-requires Inv-loop μ-loop
 entry-requires c κs = search needs
+
+cast-rows : tie.Need-cast-rows Inv-loop μ-loop
+cast-rows c = search needs
 
 mul-rows : tie.Need-mul-rows Inv-loop μ-loop
 mul-rows c = search needs
@@ -34,14 +37,15 @@ loop-again c = search needs
 returns : tie.Need-returns Inv-loop μ-loop
 returns c = search needs
 
-pub listed-spec : {M : Type 1} → statement M
-listed-spec =
+pub walked-spec : {M : Type 1} → statement M
+walked-spec =
     tie.close
     (tie.spec
     Inv-loop
     μ-loop
     loop-holds
     entry-requires
+    cast-rows
     mul-rows
     element-write-rows
     add-i

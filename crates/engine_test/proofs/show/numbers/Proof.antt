@@ -1,18 +1,15 @@
--- `table` is safe and ends.
-use Prim.Native.Nat.{_-_, _≤_}
+-- `numbers` is safe and ends.
 use lib.ListN.{length}
+use Prim.Native.Nat.{_-_, _≤_}
 use borrow.Author.Needs.{needs}
-use Rattle.engine_test.proofs.show.table.Statement.{statement}
-use Rattle.engine_test.proofs.show.table.Tie as tie
+use Rattle.engine_test.proofs.show.numbers.Statement.{statement}
+use Rattle.engine_test.proofs.show.numbers.Tie as tie
 
 abbrev Inv-loop : tie.InvT-loop
 Inv-loop list i₀ i = i ≤ length list
 
 abbrev μ-loop : tie.MeasureT-loop
 μ-loop list i₀ i = length list - i
-
-byte-requires : tie.Need-byte-requires Inv-loop μ-loop
-byte-requires c κs = search needs
 
 loop-holds : tie.Need-loop-holds Inv-loop μ-loop
 loop-holds c = search needs
@@ -38,13 +35,12 @@ loop-again c = search needs
 returns : tie.Need-returns Inv-loop μ-loop
 returns c = search needs
 
-pub table-spec : {M : Type 1} → statement M
-table-spec =
+pub numbers-spec : {M : Type 1} → statement M
+numbers-spec =
     tie.close
     (tie.spec
     Inv-loop
     μ-loop
-    byte-requires
     loop-holds
     mul-short
     shared-slice-read-short
