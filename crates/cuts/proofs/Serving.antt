@@ -24,7 +24,7 @@ use Rattle.incidence.specs.Tables as tables
 use Rattle.incidence.proofs.Filled.{incident-long, begins-long}
 use Rattle.incidence.proofs.Front.{front-kept}
 use Rattle.depth.specs.Depth.{Crossing, Found}
-use Rattle.labels.proofs.LongEnough.{told-refused, told-number}
+use Rattle.graph.proofs.Telling.{told-refused, told-number}
 use Rattle.cuts.specs.declared.Lightest.{Lightest}
 use Rattle.cuts.specs.declared.Lightest.the-variants.{Refused, NoCut}
 use Rattle.cuts.specs.Verdict.{handed, lowestHanded, lowestAfter}

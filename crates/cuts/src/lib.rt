@@ -1,19 +1,16 @@
 // The lowest cut of at most two edges of a plan.
-use graph::Admission;
 use graph::Answer;
 use graph::Graph;
 use lowest::Lowest;
 ghost use mathlib.Core.Path.{_≡_};
-ghost use mathlib.Core.Bool.{false, not};
+ghost use mathlib.Core.Bool.{not};
 ghost use Prim.Native.Nat.{_≤_};
 ghost use lib.ListN.{length};
 ghost use Rattle.connectivity.specs.Plan.{plan, graph, limits};
 ghost use Rattle.connectivity.specs.Cut.{lowestCut};
 ghost use Rattle.connectivity.specs.Verdict.{verdictOn, verdictHanded};
-ghost use Rattle.graph.specs.Admission.{toldBy, lent};
 ghost use Rattle.graph.specs.Tells.{Tells};
 ghost use Rattle.incidence.specs.Tables.{Tabled};
-ghost use Rattle.incidence.specs.Parts.{Cleared};
 ghost use Rattle.cuts.specs.Lowest.{Told};
 ghost use Rattle.cuts.specs.Tries.{Tables, Spaces, LabelledBy, Searched};
 ghost use Rattle.cuts.specs.Verdict.{handed, lightest};
@@ -44,7 +41,7 @@ pub fn lowest_cut(
     ensures { λ r. ⌜ Answered limits (plan vertices (now (ends .entry))) (now (incident .entry)) (now (begins .entry)) (now (first .entry)) (now (order .entry)) (now (incident .exit)) (now (begins .exit)) (now (first .exit)) (now (order .exit)) r ⌝ }
 {
     if is_short(vertices, first.len(), order.len()) {
-        return no_room(vertices, ends);
+        return Lightest::Refused(graph::refusal(vertices, ends, true));
     }
     let filled = incidence::fill(vertices, ends, incident, begins);
     if filled.number != 0 {
@@ -66,20 +63,6 @@ fn is_short(vertices: u16, first: usize, order: usize) -> bool
     false
 }
 
-// What is said where a lent table is too short: the plan's own refusal, else 6.
-fn no_room(vertices: u16, ends: &[u16]) -> Lightest
-    ensures { λ r. ⌜ r ≡ Lightest.Refused (toldBy (lent limits (plan vertices (now (ends .entry))) false)) ⌝ }
-{
-    let made = Graph::new(vertices, ends);
-    match made {
-        Admission::Refused(answer) => Lightest::Refused(answer),
-        Admission::Admitted(_) => Lightest::Refused(Answer {
-            number: 6,
-            place: 0,
-        }),
-    }
-}
-
 // The lowest cut of an admitted plan whose tables by vertex are filled; whatever stands in `first` is cleared.
 fn lowest_filled(
     vertices: u16,
@@ -92,7 +75,7 @@ fn lowest_filled(
     requires { ⌜ Tabled limits (plan vertices (now ends)) (now incident) (now begins) × (vertices ≤ length (now first)) × (vertices ≤ length (now order)) ⌝ }
     ensures { λ r. ⌜ (handed r ≡ verdictHanded (verdictOn (lowestCut (graph (plan vertices (now (ends .entry))))))) × SearchedFrom (plan vertices (now (ends .entry))) (now (incident .entry)) (now (begins .entry)) (now (first .entry)) (now (order .entry)) (now (first .exit)) (now (order .exit)) ⌝ }
 {
-    clear(vertices, first);
+    incidence::clear(vertices as usize, first);
     let mut dead = [0u8; Graph::MAX_EDGES];
     let mut cursor = [0u16; Graph::MAX_VERTICES];
     let mut labels = [0u64; Graph::MAX_EDGES];
@@ -111,19 +94,6 @@ fn lowest_filled(
         &mut marks,
         &mut other,
     ))
-}
-
-// No vertex has a mark.
-fn clear(vertices: u16, first: &mut [u16])
-    requires { ⌜ vertices ≤ length (now first) ⌝ }
-    ensures { λ _. ⌜ Cleared vertices (now (first .entry)) (now (first .exit)) ⌝ }
-{
-    let n = vertices as usize;
-    let mut v = 0;
-    while v < n {
-        first[v] = 0;
-        v += 1;
-    }
 }
 
 // The lowest cut of an admitted plan over its tables and lent ones in which no edge and no vertex is marked: the empty set, if a search from

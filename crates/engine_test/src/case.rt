@@ -88,6 +88,7 @@ pub(crate) fn run(line: &[u8]) {
         b'b' => lent::balance(line, numbers),
         b'l' => lent::label(line, numbers),
         b'c' => lent::chain(line, numbers),
+        b'n' => lent::below(line, numbers),
         b'g' => plan::large(at(numbers, 0), at(numbers, 1)),
         _ => {}
     }

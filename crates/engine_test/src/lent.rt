@@ -261,6 +261,28 @@ fn named(said: Labelling) -> bool {
     }
 }
 
+pub(crate) fn below(line: &[u8], sizes: &[u16]) {
+    let mut ends = [0; 17];
+    let mut first = [0; 17];
+    let mut order = [0; 17];
+    let mut number = [9; 17];
+    let mut last = [9; 17];
+    let mut over = [9; 17];
+    let answer = numbers::look_below(
+        at(sizes, 0),
+        given(line, 3, &mut ends),
+        given(line, 4, &mut first),
+        given(line, 5, &mut order),
+        lend(sizes, 1, &mut number),
+        lend(sizes, 2, &mut last),
+        lend(sizes, 3, &mut over),
+    );
+    show::answer(answer);
+    shown(&number, sizes, 1);
+    shown(&last, sizes, 2);
+    shown(&over, sizes, 3);
+}
+
 pub(crate) fn chain(line: &[u8], numbers: &[u16]) {
     let mut keys = [0; 17];
     let k = read(line, 3, &mut keys);

@@ -1,10 +1,11 @@
 // The graph that a plan lists: its limits, and the constructor that admits it or refuses it by 1 to 5.
 ghost use mathlib.Core.Path.{_≡_};
+ghost use mathlib.Core.Bool.{not, cond};
 ghost use Prim.Native.Nat.{_/_, _≤_};
 ghost use lib.ListN.{length};
 ghost use Rattle.connectivity.specs.Plan.{plan, limits};
-ghost use Rattle.connectivity.specs.Admission.{edgeNumber, endsAnswer, passed};
-ghost use Rattle.graph.specs.Admission.{toldBy, handed, constructed};
+ghost use Rattle.connectivity.specs.Admission.{answer, edgeNumber, endsAnswer, passed};
+ghost use Rattle.graph.specs.Admission.{toldBy, handed, constructed, lent};
 
 // An answer to every question asked of these crates (01): a number and a place; 0 and 0 is success.
 pub struct Answer {
@@ -64,6 +65,32 @@ fn refused(number: u16, place: u16) -> Admission
         number: number,
         place: place,
     })
+}
+
+// The plan's own refusal; else 6 where the lent space is too short, and 0 where it is not.
+pub fn refusal(vertices: u16, ends: &[u16], short: bool) -> Answer
+    ensures { λ r. ⌜ r ≡ toldBy (lent limits (plan vertices (now (ends .entry))) (not short)) ⌝ }
+{
+    let made = Graph::new(vertices, ends);
+    match made {
+        Admission::Refused(answer) => answer,
+        Admission::Admitted(_) => space(short),
+    }
+}
+
+fn space(short: bool) -> Answer
+    ensures { λ r. ⌜ r ≡ toldBy (cond short (answer 6 0) passed) ⌝ }
+{
+    if short {
+        return Answer {
+            number: 6,
+            place: 0,
+        };
+    }
+    Answer {
+        number: 0,
+        place: 0,
+    }
 }
 
 // 0 for ends that all fit; else the first edge that does not is looked for.

@@ -14,7 +14,8 @@ use Rattle.incidence.proofs.Loops.{kept-same}
 use Rattle.labels.specs.Label.{Balanced}
 use Rattle.labels.specs.Answered.{ForestOf, fits, Labelled}
 use Rattle.labels.specs.Labels.{Settling}
-use Rattle.labels.proofs.LongEnough.{Roomy, room-is, told-admitted}
+use Rattle.graph.proofs.Telling.{told-admitted}
+use Rattle.labels.proofs.LongEnough.{Roomy, room-is}
 use Rattle.labels.proofs.Settling.{settled}
 
 module _ {most : Limits} {p : Plan} (first order labels sums : List ℕ) where

@@ -65,7 +65,7 @@ fn prepare(
 {
     incidence::fill(vertices, ends, incident, begins);
     clear_edges(ends.len() / 2, dead);
-    clear_marks(vertices, first);
+    incidence::clear(vertices as usize, first);
 }
 
 // Searches from vertex 1 on, until every vertex stands in the order; `count` of them do already.
@@ -136,19 +136,7 @@ fn search_from(
     count
 }
 
-// The marks become 0, of the vertices and of the edges.
-fn clear_marks(vertices: u16, first: &mut [u16])
-    requires { ⌜ vertices ≤ length (now first) ⌝ }
-    ensures { λ _. ⌜ Cleared vertices (now (first .entry)) (now (first .exit)) ⌝ }
-{
-    let n = vertices as usize;
-    let mut v = 0;
-    while v < n {
-        first[v] = 0;
-        v += 1;
-    }
-}
-
+// No edge has a mark.
 fn clear_edges(edges: usize, dead: &mut [u8])
     requires { ⌜ edges ≤ length (now dead) ⌝ }
     ensures { λ _. ⌜ Cleared edges (now (dead .entry)) (now (dead .exit)) ⌝ }

@@ -1,8 +1,6 @@
 // Labels of edges that cancel around every vertex: the label of an edge whose loss alone parts what was joined is 0, and those of two that
 // do so only together are equal.
-use graph::Admission;
 use graph::Answer;
-use graph::Graph;
 ghost use mathlib.Core.Path.{_≡_};
 ghost use mathlib.Core.Bool.{not, cond};
 ghost use mathlib.Core.List.{[], _∷_};
@@ -10,8 +8,7 @@ ghost use Prim.Native.Nat.{_/_, _<_, _≤_};
 ghost use lib.Dec.{ltb};
 ghost use lib.ListN.{length};
 ghost use Rattle.connectivity.specs.Plan.{plan, limits};
-ghost use Rattle.connectivity.specs.Admission.{answer, passed, served, Admitted};
-ghost use Rattle.graph.specs.Admission.{toldBy, lent};
+ghost use Rattle.connectivity.specs.Admission.{served, Admitted};
 ghost use Rattle.graph.specs.Tells.{Tells};
 ghost use Rattle.incidence.specs.Parts.{Cleared};
 ghost use Rattle.labels.specs.Answered.{Labelled, tables, handed, Answered};
@@ -56,7 +53,7 @@ pub fn label(
         labels.len(),
         sums.len(),
     );
-    let answer = refusal(vertices, ends, short);
+    let answer = graph::refusal(vertices, ends, short);
     let number = answer.number;
     if number != 0 {
         return Labelling::Refused(answer);
@@ -97,38 +94,12 @@ pub fn balance(
         labels.len(),
         sums.len(),
     );
-    let answer = refusal(vertices, ends, short);
+    let answer = graph::refusal(vertices, ends, short);
     let number = answer.number;
     if number == 0 {
         distribute(vertices, ends, first, order, labels, sums);
     }
     answer
-}
-
-// The plan's own refusal; else 6 where the lent space is too short, and 0 where it is not.
-fn refusal(vertices: u16, ends: &[u16], short: bool) -> Answer
-    ensures { λ r. ⌜ r ≡ toldBy (lent limits (plan vertices (now (ends .entry))) (not short)) ⌝ }
-{
-    let made = Graph::new(vertices, ends);
-    match made {
-        Admission::Refused(answer) => answer,
-        Admission::Admitted(_) => space(short),
-    }
-}
-
-fn space(short: bool) -> Answer
-    ensures { λ r. ⌜ r ≡ toldBy (cond short (answer 6 0) passed) ⌝ }
-{
-    if short {
-        return Answer {
-            number: 6,
-            place: 0,
-        };
-    }
-    Answer {
-        number: 0,
-        place: 0,
-    }
 }
 
 // Whether one of the tables of `label`, of which these are the lengths, is too short for n vertices and m edges; and the same of `balance`.

@@ -1,5 +1,6 @@
 -- The answer about a plan and its record: refused, weak or firm as the definition has it, and what the lent list then holds.
 use mathlib.Core.Path.{_≡_, refl, sym, ap, subst, _∙_}
+use mathlib.Core.Bool.{true, false}
 use mathlib.Core.List.{List, [], _∷_}
 use mathlib.Core.Logic.{_⊎_, inl, inr}
 use mathlib.Core.Option.{Option, none, some}
@@ -19,7 +20,9 @@ use Rattle.connectivity.proofs.Admission.{admission-number, admitted-edges, adm
 use Rattle.connectivity.proofs.LowestCut.{three-edge-connected}
 use Rattle.connectivity.proofs.Verdict.{verdict-short, verdict-refused, reaches}
 use Rattle.connectivity.proofs.Judge.{firm-passes}
-use Rattle.graph.specs.Admission.{toldBy}
+use Rattle.graph.specs.Admission.{toldBy, lent as answerTo}
+use Rattle.graph.proofs.Lent.{lent-refused}
+use Rattle.graph.proofs.Telling.{lent-space}
 use Rattle.graph.proofs.Handed.{back-served}
 use Rattle.graph.specs.declared.Answer.{Answer}
 use Rattle.cuts.specs.declared.lowest.Lowest.{Lowest}
@@ -73,16 +76,25 @@ some-cut (some (e ∷ (d ∷ l))) p = (e ∷ (d ∷ l), refl, p)
 
 module _ (n : ℕ) (ends lent : List ℕ) where
   -- the plan's own refusal
-  pub answers-refused : {a : Answer} {r : Lightest} → (Admitted limits (plan n ends) → ⊥) → a ≡ toldBy (admission limits (plan n ends))
+  answers-refused : {a : Answer} {r : Lightest} → (Admitted limits (plan n ends) → ⊥) → a ≡ toldBy (admission limits (plan n ends))
       → r ≡ light.Refused a → Answered limits (plan n ends) lent lent r
   answers-refused h p q = still (meaning.refused (admission limits (plan n ends))) (verdict-refused limits (plan n ends) (length lent) h) refused-firm (q ∙ rw p)
 
   module _ (a : Admitted limits (plan n ends)) where
     -- too little space
-    pub answers-short : {r : Lightest} → length lent < 3 * (length ends / 2) → r ≡ light.Refused (record { number = 6; place = 0 })
+    answers-short : {r : Lightest} → length lent < 3 * (length ends / 2) → r ≡ light.Refused (record { number = 6; place = 0 })
         → Answered limits (plan n ends) lent lent r
     answers-short h q = still (meaning.refused (answer 6 0)) (verdict-short a (length lent) (omega (arith, h, admitted-edges a))) refused-firm q
 
+  -- of any plan: its own refusal, else that
+  pub answers-full : {a : Answer} → length lent < 3 * (length ends / 2) → a ≡ toldBy (answerTo limits (plan n ends) false) → Answered limits (plan n ends) lent lent (light.Refused a)
+  answers-full h q = elim (ℕ-discrete ((admission limits (plan n ends)) .number) 0) [
+    | yes z ↦ let m = admission-number limits (plan n ends) .0 z in answers-short m h (ap light.Refused (q ∙ ap toldBy (lent-space true m)))
+    | no z ↦ let k : Admitted limits (plan n ends) → ⊥ = λ m. z (admission-number limits (plan n ends) .1 m) in
+        answers-refused k (q ∙ sym (lent-refused false k refl .1)) refl
+  ]
+
+  module _ (a : Admitted limits (plan n ends)) where
     module _ (h : 3 * (length ends / 2) ≤ length lent) where
       on-cut : meaning.verdict limits (plan n ends) (length lent) ≡ meaning.verdictOn (lowestCut (graph (plan n ends)))
       on-cut = reaches a (length lent) (omega (arith, h, admitted-edges a))

@@ -11,8 +11,10 @@ use Rattle.tree.proofs.Above.{parent-vertex, climb-end, way-up}
 use Rattle.tree.proofs.Begin.{meeting-child}
 use Rattle.graph.specs.Marks.{read}
 use Rattle.graph.proofs.Joined.{vertex-below, joins-below, joins-edge}
-use Rattle.record.specs.Ways.{farEnd, nextUp, Rises}
-use Rattle.record.specs.Standing.{Listed, Ground, treeOf}
+use Rattle.numbers.specs.Tables.{farEnd}
+use Rattle.record.specs.Ways.{nextUp, Rises}
+use Rattle.numbers.specs.Standing.{Listed, treeOf}
+use Rattle.record.specs.Standing.{Ground}
 use Rattle.record.specs.Recording.{Beginning, Begun}
 use Rattle.record.specs.Opening.{NextDoor, Meets, Meeting, Met, Climbs, threeWalks, Finding, Forked, ForkedBy, Rowed, RowedBy, Raw, RaisedBy}
 use Rattle.record.proofs.Climbing.{parent-is, child-rises}

@@ -24,7 +24,7 @@ use Rattle.tree.proofs.Shelving.{filed-built}
 use Rattle.tree.proofs.NewLink.{links-most}
 use Rattle.graph.specs.Marks.{read}
 use Rattle.graph.proofs.Joined.{bound-is, vertex-below, joins-edge, joins-below}
-use Rattle.record.specs.Standing.{treeOf}
+use Rattle.numbers.specs.Standing.{treeOf}
 use Rattle.record.specs.Linking.{topOf, bottomOf}
 use Rattle.record.specs.Leaving.{Leaving, Exit}
 use Rattle.record.specs.Cursors.{NextLink, Ahead, Opening, Opened}
@@ -56,7 +56,7 @@ module _ {ends incident begins first order number last places below tips over : 
   new-edge {e} h i = omega (arith, h, c .holds .uses .on e i)
 
   built-edge : {e : ℕ} → Edge g e → read over e ≡ 0 → In e built
-  built-edge {e} h z = elim (in-dec e built) [ yes i ↦ i | no n ↦ absurd (omega (arith, z, c .holds .uses .off e n, c .ground .some e h)) ]
+  built-edge {e} h z = elim (in-dec e built) [ yes i ↦ i | no n ↦ absurd (omega (arith, z, c .holds .uses .off e n, c .ground .beneath .some e h)) ]
 
   -- what is listed at a vertex of the order is behind the cursor, and built, or ahead
   behind-or : (i k : ℕ) → i < c .n → read begins (read order i) ≤ k → k < read begins (read order i + 1)
@@ -143,9 +143,9 @@ module _ {ends incident begins first order number last places below tips over : 
         upper = x .upper;
         lower = x .lower;
         back = back;
-        new = step-at tree (c .holds .state .along .held) (c .ground .overs) (x .joins) (x .new) back (some-climb .2)
+        new = step-at tree (c .holds .state .along .held) (c .ground .beneath .overs) (x .joins) (x .new) back (some-climb .2)
             (c .holds .state .filed .built (x .at) (omega (arith, x .inside, c .behind .least, l .least))) .new;
-        path = λ legs y k. exit-passes tree (c .holds .state .along .held) (c .ground .overs) (c .holds .state .filed) (c .holds .state .belows) tips-at
+        path = λ legs y k. exit-passes tree (c .holds .state .along .held) (c .ground .beneath .overs) (c .holds .state .filed) (c .holds .state .belows) tips-at
             (omega (arith, c .behind .least, l .least)) (x .inside) (x .joins) (x .new) back k (x .out);
       })
         where
@@ -240,12 +240,12 @@ module _ {ends incident begins first order number last places below tips over : 
             let (u, j) = slot-joins in
             let n = new-edge (o .new) in
             let as-first = c .holds .uses .off (read incident slot') n in
-            let (s, w, b) = over-back tree (c .ground .overs) j in
+            let (s, w, b) = over-back tree (c .ground .beneath .overs) j in
             let (rest, y, k) = climb-built tree (c .holds .state .along .held) (joins-vertex (joins-sym (b .joins))) in
             subst (λ (d : ℕ). Chosen g t built (d - 1)) (sym as-first) (record {
               upper = s;
               lower = w;
               back = b;
-              new = step-at tree (c .holds .state .along .held) (c .ground .overs) j n b k at-built .new;
-              path = λ legs x i. branch-mader tree (c .holds .state .along .held) (c .ground .overs) j n b i all-branches at-built;
+              new = step-at tree (c .holds .state .along .held) (c .ground .beneath .overs) j n b k at-built .new;
+              path = λ legs x i. branch-mader tree (c .holds .state .along .held) (c .ground .beneath .overs) j n b i all-branches at-built;
             })

@@ -1,27 +1,18 @@
 -- A climb of the tree is a way up in the tables.
-use mathlib.Core.Path.{_≡_, refl, sym, _∙_}
+use mathlib.Core.Path.{_≡_}
 use mathlib.Core.List.{List}
 use Prim.Native.Nat.{ℕ, _+_, _≤_, _<_}
 use native.Mathlib.Omega.{arith}
 use lib.ListN.{length}
 use Rattle.connectivity.specs.Plan.{plan, graph, limits}
-use Rattle.connectivity.specs.Graph.{Joins}
-use Rattle.connectivity.specs.Walk.{Leg, far}
-use Rattle.connectivity.proofs.Legs.{far-is}
+use Rattle.connectivity.specs.Walk.{Leg}
 use Rattle.tree.specs.Tree.{Child, Climb, there, on}
 use Rattle.tree.proofs.Above.{climb-once, climb-new, climb-end}
 use Rattle.graph.specs.Marks.{read}
 use Rattle.graph.proofs.Joined.{vertex-below, joins-below, joins-edge}
-use Rattle.record.specs.Ways.{Way, Path, there as path-there, up, Rises, farEnd, nextUp}
-use Rattle.record.specs.Standing.{Rooted, treeOf}
-
--- the far end, as the code has it
-far-same : (n : ℕ) (ends : List ℕ) (e v : ℕ) → far (graph (plan n ends)) e v ≡ farEnd ends e v
-unfolding far graph
-far-same n ends e v = refl
-
-pub far-end : (n : ℕ) (ends : List ℕ) (e v p : ℕ) → Joins (graph (plan n ends)) e v p → farEnd ends e v ≡ p
-far-end n ends e v p j = sym (far-same n ends e v) ∙ far-is j
+use Rattle.numbers.specs.Standing.{Rooted, treeOf}
+use Rattle.numbers.proofs.Marking.{far-same}
+use Rattle.record.specs.Ways.{Way, Path, there as path-there, up, Rises, nextUp}
 
 module _ {n root : ℕ} {ends first : List ℕ} {rank : ℕ → ℕ} (r : Rooted n ends root first rank) where
   -- the parent, as the code has it

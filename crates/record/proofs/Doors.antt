@@ -14,11 +14,11 @@ use Rattle.tree.proofs.Above.{root-above, parent-vertex, tree-cases}
 use Rattle.tree.proofs.Passing.{one-passing, two-passing, passing-root}
 use Rattle.graph.specs.Marks.{read}
 use Rattle.graph.proofs.Joined.{vertex-below, joins-below, joins-edge}
-use Rattle.record.specs.Ways.{farEnd}
-use Rattle.record.specs.Standing.{Listed, Ground, treeOf}
+use Rattle.numbers.specs.Tables.{farEnd}
+use Rattle.numbers.specs.Standing.{Listed, treeOf}
+use Rattle.record.specs.Standing.{Ground}
 use Rattle.record.specs.Opening.{Door, DoorFits, DoorAt, Doors, NextDoor}
-use Rattle.record.proofs.Climbing.{far-end}
-use Rattle.record.proofs.Upper.{joins-differ}
+use Rattle.numbers.proofs.Marking.{far-end, joins-differ}
 
 -- From place to place.
 
@@ -133,7 +133,7 @@ module _ {n root : ℕ} {ends incident begins first order number last : List ℕ
                   | inr off ↦ off
                 ];
               };
-              below = s .preorder .below eldest u (eldest-child .vertex) v (positive u below j) (d .low);
+              below = s .beneath .preorder .below eldest u (eldest-child .vertex) v (positive u below j) (d .low);
               above = root-above (s .rooted .tree) (parent-vertex (s .rooted .tree) eldest-child);
             }
           where
@@ -156,7 +156,7 @@ module _ {n root : ℕ} {ends incident begins first order number last : List ℕ
         subst (λ (d : ℕ). Door (read first) (read number) (read last eldest) d (farEnd ends d root)) (sym p)
             (subst (Door (read first) (read number) (read last eldest) e) (sym (far-end n ends e root w j)) (record {
               off = λ m. q .back .off w (is-child j) (omega (arith, m));
-              low = s .preorder .within eldest w (q .below) (eldest-child .vertex);
+              low = s .beneath .preorder .within eldest w (q .below) (eldest-child .vertex);
             })),
       )
     where

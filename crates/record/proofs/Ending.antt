@@ -11,7 +11,7 @@ use Rattle.tree.specs.Filed.{Belows}
 use Rattle.tree.specs.Links.{Shelved}
 use Rattle.tree.proofs.Shelving.{marked-shelved, marked-on, marked-off, marked-branch, marked-belows}
 use Rattle.graph.specs.Marks.{read}
-use Rattle.record.specs.Standing.{treeOf}
+use Rattle.numbers.specs.Standing.{treeOf}
 use Rattle.record.specs.Linking.{topOf, bottomOf, Filing, Splitting, Parted, Ending, BothParted}
 
 -- a vertex has become a branch

@@ -9,7 +9,8 @@ use lib.Dec.{leb}
 use borrow.Author.Tests.{leb-true, leb-false}
 use Rattle.graph.specs.Marks.{read}
 use Rattle.graph.specs.Tells.{Tells}
-use Rattle.record.specs.Ways.{upperEnd, farEnd}
+use Rattle.numbers.specs.Tables.{farEnd}
+use Rattle.record.specs.Ways.{upperEnd}
 use Rattle.record.specs.Exits.{Under, Leads, away, hangs, Passes, Free}
 
 -- The numbers below a link.

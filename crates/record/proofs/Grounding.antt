@@ -23,8 +23,7 @@ use Rattle.depth.proofs.Entering.{entered-reach}
 use Rattle.depth.proofs.Above.{between, edge-above, no-root}
 use Rattle.tree.specs.Tree as t
 use Rattle.tree.specs.Tree.{Pointers, Child, Tree}
-use Rattle.record.specs.Standing.{Rooted, Grouped, Listed, Together, treeOf}
-use Rattle.record.specs.Numbers.{Ordering, Numbered, Lowering}
+use Rattle.numbers.specs.Standing.{Rooted, Ordering, Numbered, Listed, Together, DepthFirst, treeOf}
 
 module _ {n : ℕ} {ends incident begins dead first₀ order₀ cursor₀ first order cursor : List ℕ} {count : ℕ} (tabled : Tabled limits (plan n ends) incident begins)
     (three : ThreeEdgeConnected (graph (plan n ends))) (live : (e : ℕ) → Live dead e) (clear : (v : ℕ) → v < n → read first₀ v ≡ 0)
@@ -66,16 +65,10 @@ module _ {n : ℕ} {ends incident begins dead first₀ order₀ cursor₀ first 
   valid : (k : ℕ) → k < n → read order k < n
   valid k l = f .tree .valid k (omega arith) (omega (arith, count-is)) .below
 
-  pub ordering : {number last : ℕ} → n ≤ length order → n ≤ number → n ≤ last → Ordering n order number last
-  ordering x y z = record {
-    valid = valid;
-    once = λ j k l h q. f .tree .once j k (omega arith) l (omega (arith, count-is)) q;
-    order-long = x;
-    number-long = y;
-    last-long = z;
-  }
+  pub ordering : Ordering n order
+  ordering = record { valid = valid; once = λ j k l h q. f .tree .once j k (omega arith) l (omega (arith, count-is)) q }
 
-  module _ {number last : List ℕ} (numbered : Numbered n order number last) where
+  module _ {number : List ℕ} (numbered : Numbered n order number) where
     abbrev tree : Pointers
     tree = treeOf n ends root first (read number)
 
@@ -87,7 +80,7 @@ module _ {n : ℕ} {ends incident begins dead first₀ order₀ cursor₀ first 
         let h : s .place < n = omega (arith, s .high, count-is) in
         (s .place, h, s .there, subst (λ (x : ℕ). read number x ≡ s .place) (s .there) (numbered .numbers (s .place) h))
 
-    pub listing : n ≤ length order → n ≤ length number → Listed n root order number
+    listing : n ≤ length order → n ≤ length number → Listed n root order number
     listing x y = record {
       at = λ k l. (valid k l, numbered .numbers k l);
       placed = λ v l. let s = place-of v l in (omega (arith, s .1, s .3), ap (read order) (s .3) ∙ s .2);
@@ -143,7 +136,7 @@ module _ {n : ℕ} {ends incident begins dead first₀ order₀ cursor₀ first 
       ];
     }
 
-    pub rooted : n ≤ length first → Rooted n ends root first (read number)
+    rooted : n ≤ length first → Rooted n ends root first (read number)
     rooted x = record {
       admitted = a;
       tree = is-tree;
@@ -157,7 +150,7 @@ module _ {n : ℕ} {ends incident begins dead first₀ order₀ cursor₀ first 
     below (t.higher {v = v} c b) h = vertex-below n ends v (c .vertex)
 
     -- what is below a vertex stands together in the order
-    pub together : Together g tree
+    together : Together g tree
     together u v w x y b l h =
         let p = place-of u (vertex-below n ends u x) in
         let q = place-of v (vertex-below n ends v y) in
@@ -167,17 +160,12 @@ module _ {n : ℕ} {ends incident begins dead first₀ order₀ cursor₀ first 
         (p .0) (q .0) (omega arith) (omega (arith, p .3, q .3)) (r .0) (omega (arith, q .3, r .3)) (omega (arith, r .1, count-is))
         (subst (d.Above up (read order (p .0))) (sym (r .2)) (subst (λ (z : ℕ). d.Above up z w) (sym (p .2)) (from-above b))))))
 
-    -- and all that `lower_all` asks
-    pub lowering : {ends-set over : List ℕ} → Grouped n ends incident ends-set → n ≤ length first → n ≤ length order → n ≤ length number → n ≤ length last → length ends / 2 ≤ length over
-        → ((e : ℕ) → read over e ≡ 0) → Lowering n ends incident ends-set first order number last over
-    lowering h x y z w o blank = record {
+    -- the mark of the root names no edge
+    pub depth-first : n ≤ length first → n ≤ length order → n ≤ length number → DepthFirst n ends first order number
+    depth-first x y z = record {
       rooted = rooted x;
       three = three;
-      grouped = h;
       listing = listing y z;
       together = together;
-      lasts = λ v l. let s = place-of v l in subst (λ (u : ℕ). read last u ≡ read number u) (s .2) (numbered .lasts (s .0) (s .1) ∙ sym (numbered .numbers (s .0) (s .1)));
-      blank = λ e l. blank e;
-      last-long = w;
-      over-long = o;
+      rootless = omega (arith, few, root-mark);
     }

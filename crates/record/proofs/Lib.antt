@@ -12,15 +12,10 @@ pub mod Stepping
 pub mod Exits
 pub mod Narrowing
 pub mod Outward
-pub mod Numbering
 pub mod Scanning
 pub mod Grouping
 pub mod Grounding
 pub mod Choosing
-pub mod Lasts
-pub mod Overs
-pub mod Owns
-pub mod Lowers
 pub mod Parts
 pub mod Doors
 pub mod TwoWays

@@ -18,7 +18,7 @@ use Rattle.tree.proofs.NewLink.{low-climb, low-on, on-low, links-room, links-gr
 use Rattle.graph.specs.Marks.{read}
 use Rattle.graph.proofs.Joined.{bound-is, vertex-below}
 use Rattle.record.specs.Ways.{nextUp, Marking, MarkedUp, Raising, Raised, RaisedUp}
-use Rattle.record.specs.Standing.{treeOf}
+use Rattle.numbers.specs.Standing.{treeOf}
 use Rattle.record.specs.Linking.{topOf, bottomOf, withTips, Building, Walked}
 use Rattle.record.proofs.Climbing.{parent-is, climb-way}
 use Rattle.record.proofs.TwoTips.{top-same, bottom-same, top-other, bottom-other}

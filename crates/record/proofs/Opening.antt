@@ -23,7 +23,7 @@ use Rattle.tree.proofs.State.{belows-map, state-begin}
 use Rattle.tree.proofs.Opening.{Ends, filed-ends, climb-one, climb-two, climb-three}
 use Rattle.tree.proofs.Shelving.{filed-built, filed-branch, filed-own}
 use Rattle.graph.specs.Marks.{read}
-use Rattle.record.specs.Standing.{treeOf}
+use Rattle.numbers.specs.Standing.{treeOf}
 use Rattle.record.specs.Linking.{topOf, bottomOf, Roomy, Building, Walked, WalkedBy}
 use Rattle.record.specs.Leaving.{Uses}
 use Rattle.record.specs.Recording.{Holds}

@@ -17,8 +17,9 @@ use Rattle.tree.proofs.Stuck.{exit-there}
 use Rattle.tree.proofs.Along.{along-stage}
 use Rattle.graph.specs.Marks.{read}
 use Rattle.graph.proofs.Joined.{vertex-below, joins-below, joins-edge}
-use Rattle.record.specs.Ways.{upperEnd, farEnd, Rises, nextUp}
-use Rattle.record.specs.Standing.{treeOf}
+use Rattle.numbers.specs.Tables.{farEnd}
+use Rattle.record.specs.Ways.{upperEnd, Rises, nextUp}
+use Rattle.numbers.specs.Standing.{treeOf}
 use Rattle.record.specs.Leaving.{Leaving, Exit}
 use Rattle.record.specs.Exits.{Ranging, Under, Leads, away, hangs, Passes, Testing, Reading, Looking, ExitAt}
 use Rattle.record.proofs.Upper.{ended, back-upper, back-lower}
@@ -109,7 +110,7 @@ module _ {ends incident begins first number last places below over : List ℕ} {
   reading : {e v u : ℕ} → Joins g e v u → Reading ends number places over e
   reading {e} {v} {u} j = record {
     long = omega (arith, joins-edge (c .n) ends e v u j, c .over-long);
-    test = λ h. let (s, w, b) = over-back tree (c .ground .overs) j in subst (λ (x : ℕ). Testing ends number places (x - 1)) (sym (as-first h)) (testing b);
+    test = λ h. let (s, w, b) = over-back tree (c .ground .beneath .overs) j in subst (λ (x : ℕ). Testing ends number places (x - 1)) (sym (as-first h)) (testing b);
   }
 
   pub looking : {y : ℕ} → read places y ≡ c .link → Looking ends incident begins number places over y
@@ -133,15 +134,15 @@ module _ {ends incident begins first number last places below over : List ℕ} {
 
     pub stays-at : r ≡ 0 → Stays g t built (λ e. c .whole e - 1) (read places) (read below) (c .link) bottom v
     stays-at z e y s w j n b = let (k, h, l, q) = c .ground .grouped .listed e v y j in
-        leads-not-out tree (c .ground .preorder) child-vertex u (λ i. x .none z k
-        (record { from = h; to = l; new = subst (λ (d : ℕ). 1 ≤ read over d) (sym q) (omega (arith, c .uses .off e n, c .ground .some e (j .edge))) })
+        leads-not-out tree (c .ground .beneath .preorder) child-vertex u (λ i. x .none z k
+        (record { from = h; to = l; new = subst (λ (d : ℕ). 1 ≤ read over d) (sym q) (omega (arith, c .uses .off e n, c .ground .beneath .some e (j .edge))) })
         (subst (λ (d : ℕ). Passes ends number places (d - 1) (read places v) from to) (sym (ap (read over) q ∙ c .uses .off e n)) (leads-passes b i)))
 
     pub leaves-at : (r ≡ 0 → ⊥) → Exit g t built (λ e. c .whole e - 1) (read places) (read below) (c .link) bottom (r - 1)
     leaves-at n =
         let (k, h, q, i) = x .some n in
         let (y, j) = c .ground .grouped .joins v k (inside-below p) (h .from) (h .to) in
-        let (s, w, b) = over-back tree (c .ground .overs) j in
+        let (s, w, b) = over-back tree (c .ground .beneath .overs) j in
         let o = as-first (h .new) in
         let a : r - 1 ≡ c .whole (read incident k) - 1 = ap (λ (d : ℕ). d - 1) (q ∙ o) in
         record {
@@ -155,7 +156,7 @@ module _ {ends incident begins first number last places below over : List ℕ} {
           new = new-edge (h .new);
           is-over = a;
           back = subst (λ (d : ℕ). Back g t d s w) (sym a) b;
-          out = leads-out tree (c .ground .preorder) child-vertex u (joins-vertex (joins-sym (b .joins)))
+          out = leads-out tree (c .ground .beneath .preorder) child-vertex u (joins-vertex (joins-sym (b .joins)))
               (passes-leads b (subst (λ (d : ℕ). Passes ends number places (d - 1) (read places v) from to) o i));
         }
 
@@ -172,7 +173,7 @@ module _ {ends incident begins first number last places below over : List ℕ} {
 
   -- some vertex of the link has a way out
   sought-apart : {a b : ℕ} → Sought a b → Still a → a ≡ b → ⊥
-  sought-apart r s e = exit-there tree (c .state .along .held) (c .ground .overs) (c .state .filed) (c .state .belows) (c .tips) (c .large) (c .ground .three)
+  sought-apart r s e = exit-there tree (c .state .along .held) (c .ground .beneath .overs) (c .state .filed) (c .state .belows) (c .tips) (c .large) (c .ground .three)
       (along-stage (c .state .along))
       (λ v d y f w p j n k. between-all tree (c .state .filed) (c .state .belows) (c .tips) (c .large) _ r e s v p d y f w j n k)
 

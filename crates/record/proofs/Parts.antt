@@ -17,7 +17,7 @@ use Rattle.tree.proofs.Parting.{Lone, Renamed, Stays, Becomes, Lying, Within, w
 use Rattle.graph.specs.Marks.{read}
 use Rattle.graph.proofs.Joined.{bound-is, below-vertex, vertex-below}
 use Rattle.record.specs.Ways.{nextUp, Way, Marking, MarkedOn, MarkedUp}
-use Rattle.record.specs.Standing.{treeOf}
+use Rattle.numbers.specs.Standing.{treeOf}
 use Rattle.record.specs.Linking.{topOf, bottomOf, withTips, Splitting, Parted, PartedBy}
 use Rattle.record.specs.Parting.{Cutting, CutAt, InsideCut, whole, off-top, off-bottom, off-upper, off-lower}
 use Rattle.record.proofs.Climbing.{parent-is, child-rises, climb-way}

@@ -18,7 +18,7 @@ use Rattle.connectivity.proofs.Distinct.{apart-distinct}
 use Rattle.graph.specs.Marks.{read}
 use Rattle.graph.proofs.Joined.{joins-below, joins-edge}
 use Rattle.record.specs.Ways.{Path, there, up, Way, Rises, nextUp}
-use Rattle.record.proofs.Climbing.{far-end}
+use Rattle.numbers.proofs.Marking.{far-end}
 
 pub froms-append : (l r : List Leg) → froms (l ++ r) ≡ froms l ++ froms r
 froms-append [] r = refl

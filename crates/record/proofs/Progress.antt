@@ -12,8 +12,9 @@ use Rattle.connectivity.proofs.Build.{rows-length}
 use Rattle.tree.proofs.Along.{along-end}
 use Rattle.graph.specs.Marks.{read}
 use Rattle.connectivity.proofs.Lists.{in-dec}
-use Rattle.record.specs.Ways.{Written, MetFirst, OverUp, upperEnd, farEnd}
-use Rattle.record.specs.Standing.{Rooted, treeOf}
+use Rattle.numbers.specs.Tables.{farEnd}
+use Rattle.record.specs.Ways.{Written, MetFirst, OverUp, upperEnd}
+use Rattle.numbers.specs.Standing.{Rooted, treeOf}
 use Rattle.record.specs.Linking.{BothBy, WalkedBy}
 use Rattle.record.specs.Recording.{Recording, Stepping, Stepped, Chosen, Behind, Nexting, Recorded}
 use Rattle.record.specs.Progress.{Adding, Added, Going, Finishing}

@@ -23,8 +23,9 @@ use Rattle.tree.proofs.State.{filed-marked, state-step, belows-map}
 use Rattle.tree.proofs.Shelving.{filed-built, filed-own, marked-map}
 use Rattle.graph.specs.Marks.{read}
 use Rattle.graph.proofs.Joined.{vertex-below, joins-edge}
-use Rattle.record.specs.Ways.{Toward, MetFirst, OneMore, OverUp, Written, Ended, upperEnd, farEnd}
-use Rattle.record.specs.Standing.{Rooted, treeOf}
+use Rattle.numbers.specs.Tables.{farEnd}
+use Rattle.record.specs.Ways.{Toward, MetFirst, OneMore, OverUp, Written, Ended, upperEnd}
+use Rattle.numbers.specs.Standing.{Rooted, treeOf}
 use Rattle.record.specs.Linking.{topOf, bottomOf, Filing, Splitting, Ending, BothParted, BothBy, Building, Walked, WalkedBy}
 use Rattle.record.specs.Leaving.{Uses}
 use Rattle.record.specs.Recording.{Holds, Stepping, Stepped}

@@ -1,10 +1,11 @@
 -- The tables of the tree: what the parts of making them ask holds, and in the end they stand.
 use mathlib.Core.Path.{_≡_}
 use mathlib.Core.List.{List}
-use Prim.Native.Nat.{ℕ, _+_, _*_}
+use Prim.Native.Nat.{ℕ, _+_, _*_, _/_, _≤_}
 use native.Mathlib.Omega.{arith}
 use lib.ListN.{length, set, replicate, length-replicate}
 use Rattle.connectivity.specs.Plan.{plan, limits}
+use Rattle.graph.specs.declared.Answer.{Answer}
 use Rattle.graph.specs.Marks.{read}
 use Rattle.graph.proofs.Tally.{zeros}
 use Rattle.cuts.specs.declared.Lightest.{Lightest}
@@ -12,13 +13,15 @@ use Rattle.cuts.specs.declared.Lightest.the-variants as light
 use Rattle.cuts.specs.Answered.{Answered}
 use Rattle.cuts.specs.Verdict.{handed, lowestHanded}
 use Rattle.cuts.proofs.Serving.{answered-own, uncut-passed, served-tabled, served-tables}
-use Rattle.record.specs.Standing.{Listed, Ground}
-use Rattle.record.specs.Numbers.{Ordering, Numbered, Lowering}
+use Rattle.numbers.specs.Answered.{Filled, Looked}
+use Rattle.numbers.specs.Standing.{DepthFirst, Beneath}
+use Rattle.numbers.proofs.Serving.{looked-filled, number-long, last-long, over-long, numbered}
+use Rattle.numbers.proofs.Lowers.{lowered}
 use Rattle.record.specs.Recording.{Sturdy, Beginning, Begun}
-use Rattle.record.specs.Tabling.{Searched, Numbering}
+use Rattle.record.specs.Tabling.{Searched}
 use Rattle.record.specs.Progress.{Finishing, Ready}
 use Rattle.record.proofs.Grouping.{grouped-from}
-use Rattle.record.proofs.Grounding.{ordering, listing, lowering}
+use Rattle.record.proofs.Grounding.{ordering, depth-first}
 
 -- a table of which nothing is set
 pub long : (k : ℕ) → length (replicate {A = ℕ} k 0) ≡ k
@@ -63,42 +66,45 @@ searched {n} {room} {ends} {incident} {begins} {first} {order} {l} a q u =
       order-long = omega (arith, s .order-long, u .admitted .vertices, long (limits .vertices));
     }
 
--- the numbers
-module _ {n : ℕ} {ends incident begins first order over : List ℕ} {number last : ℕ} (c : Numbering n ends incident begins first order over number last) where
-  abbrev s : Searched n ends incident begins first order
-  s = c .searched
+-- the numbers, and what lies below each vertex: over tables of which nothing is set, as they are made
 
-  pub ordered : Ordering n order number last
-  ordered = ordering (s .tabled) (s .three) (s .live) (s .clear) (s .found) (s .order-long) (c .number-long) (c .last-long)
+abbrev pub BelowAnswer : ℕ → List ℕ → List ℕ → List ℕ → List ℕ → List ℕ → List ℕ → Answer → Type 0
+BelowAnswer n ends first order number last over r = Looked limits (plan n ends) first order (replicate (limits .vertices) 0) (replicate (limits .vertices) 0) (replicate (limits .edges) 0)
+    number last over r
 
-  module _ {number' last' : List ℕ} (numbered : Numbered n order number' last') where
-    pub lowers : length number' ≡ number → length last' ≡ last → Lowering n ends incident begins first order number' last' over
-    lowers p q = lowering (s .tabled) (s .three) (s .live) (s .clear) (s .found) numbered (s .grouped) (s .first-long) (s .order-long) (omega (arith, p, c .number-long))
-        (omega (arith, q, c .last-long)) (c .over-long) (c .blank)
+module _ {n : ℕ} {ends incident begins first order : List ℕ} {room : ℕ} (u : Sturdy n ends room) (s : Searched n ends incident begins first order)
+    {number last over : List ℕ} {r : Answer} (a : BelowAnswer n ends first order number last over r) where
+  pub vertices-room : n ≤ length (replicate {A = ℕ} (limits .vertices) 0)
+  vertices-room = omega (arith, u .admitted .vertices, long (limits .vertices))
 
-    pub listed : length number' ≡ number → Listed n (read order 0) order number'
-    listed p = listing (s .tabled) (s .three) (s .live) (s .clear) (s .found) numbered (s .order-long) (omega (arith, p, c .number-long))
+  pub edges-room : length ends / 2 ≤ length (replicate {A = ℕ} (limits .edges) 0)
+  edges-room = omega (arith, u .admitted .edges, long (limits .edges))
 
--- the other tables, as they are made
+  -- they are long enough for any plan
+  pub filled : Filled (plan n ends) first order (replicate (limits .vertices) 0) (replicate (limits .vertices) 0) (replicate (limits .edges) 0) number last over
+  filled = looked-filled a (u .admitted) (record { marks = s .first-long; places = s .order-long; numbers = vertices-room; lasts = vertices-room; edges = edges-room })
 
-module _ {n : ℕ} {ends incident begins first order : List ℕ} {room : ℕ} (u : Sturdy n ends room) (s : Searched n ends incident begins first order) where
-  pub numbering : Numbering n ends incident begins first order (replicate (limits .edges) 0) (length (replicate {A = ℕ} (limits .vertices) 0)) (length (replicate {A = ℕ} (limits .vertices) 0))
-  numbering = record {
-    searched = s;
-    blank = λ e. zeros (limits .edges) e;
-    number-long = omega (arith, u .admitted .vertices, long (limits .vertices));
-    last-long = omega (arith, u .admitted .vertices, long (limits .vertices));
-    over-long = omega (arith, u .admitted .edges, long (limits .edges));
-  }
+  pub tree : DepthFirst n ends first order number
+  tree = depth-first (s .tabled) (s .three) (s .live) (s .clear) (s .found)
+      (numbered filled (ordering (s .tabled) (s .three) (s .live) (s .clear) (s .found)) vertices-room)
+      (s .first-long) (s .order-long) (omega (arith, number-long filled, vertices-room))
 
-  abbrev pub ready : {number last : List ℕ} (over : List ℕ)
-      → Ground n (read order 0) ends incident begins first number last (read over) × Listed n (read order 0) order number × (length over ≡ length (replicate {A = ℕ} (limits .edges) 0))
-      → Ready ends incident begins first order number last over room
-  ready over g = record {
+  pub beneath : Beneath n (read order 0) ends first (read number) (read last) (read over)
+  beneath = lowered tree vertices-room edges-room filled
+
+  abbrev pub ready : Ready ends incident begins first order number last over room
+  ready = record {
     n = n;
-    ground = g .0;
-    listing = g .1;
-    over-long = omega (arith, g .2, u .admitted .edges, long (limits .edges));
+    ground = record {
+      rooted = tree .rooted;
+      three = s .three;
+      grouped = s .grouped;
+      beneath = beneath;
+      number-long = tree .listing .number-long;
+      last-long = omega (arith, last-long filled, vertices-room);
+    };
+    listing = tree .listing;
+    over-long = omega (arith, over-long filled, edges-room);
     fits = u .fits;
   }
 

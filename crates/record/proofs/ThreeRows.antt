@@ -17,7 +17,7 @@ use Rattle.tree.proofs.Begin.{meeting-child}
 use Rattle.tree.proofs.Opening.{to-root, along-begin}
 use Rattle.graph.proofs.Joined.{vertex-below, joins-below, joins-edge}
 use Rattle.record.specs.Ways.{Written, Way, OneMore, OverUp}
-use Rattle.record.specs.Standing.{treeOf}
+use Rattle.numbers.specs.Standing.{treeOf}
 use Rattle.record.specs.Opening.{Climbs, threeWalks, Rowed}
 use Rattle.record.proofs.Climbing.{climb-way}
 use Rattle.record.proofs.Counting.{done-most}

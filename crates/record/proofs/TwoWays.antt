@@ -15,7 +15,7 @@ use Rattle.tree.specs.Tree.{Pointers, Above, Climb}
 use Rattle.tree.proofs.Above.{above-cases, root-above, way-up, climb-cases, climb-end, climb-new, climb-to, climb-as, climb-on}
 use Rattle.graph.specs.Marks.{read}
 use Rattle.record.specs.Ways.{Marking, MarkedOn, Toward}
-use Rattle.record.specs.Standing.{Rooted, treeOf}
+use Rattle.numbers.specs.Standing.{Rooted, treeOf}
 use Rattle.record.specs.Opening.{Meets, Meeting}
 use Rattle.record.proofs.Climbing.{climb-way}
 

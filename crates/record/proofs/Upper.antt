@@ -1,5 +1,5 @@
 -- The upper and the lower end of an edge, as the code has them.
-use mathlib.Core.Path.{_≡_, refl, sym, _∙_}
+use mathlib.Core.Path.{_≡_, refl, sym}
 use mathlib.Core.Logic.{inl, inr}
 use mathlib.Core.List.{List}
 use Prim.Native.Nat.{ℕ, _+_, _*_, _≤_, _<_}
@@ -11,29 +11,18 @@ use Rattle.connectivity.specs.Plan.{plan, graph}
 use Rattle.connectivity.specs.Graph.{Edge, Joins}
 use Rattle.connectivity.proofs.Admission.{cond-both, edge-size}
 use Rattle.tree.specs.Tree.{Back}
-use Rattle.tree.proofs.Above.{above-cases, above-rank}
 use Rattle.graph.specs.Marks.{read}
-use Rattle.graph.proofs.Joined.{joins-edge, joins-ends, ends-below}
-use Rattle.record.specs.Ways.{Ended, upperEnd, farEnd}
-use Rattle.record.specs.Standing.{Rooted, treeOf}
+use Rattle.graph.proofs.Joined.{joins-ends, ends-below}
+use Rattle.numbers.specs.Tables.{farEnd}
+use Rattle.numbers.specs.Standing.{Rooted, treeOf}
+use Rattle.numbers.proofs.Marking.{joins-differ, back-child}
+use Rattle.record.specs.Ways.{Ended, upperEnd}
 
 -- the upper end is one of the two
 pub upper-below : (ends number : List ℕ) (e : ℕ) → Ended ends number e → upperEnd ends number e < length number
 upper-below ends number e h = cond-both (λ (v : ℕ). v < length number) (ltb (read number (getD ends (2 * e) 0)) (read number (getD ends (2 * e + 1) 0))) (h .left) (h .right)
 
 module _ (n root : ℕ) (ends first number : List ℕ) (r : Rooted n ends root first (read number)) where
-  -- the ends of an edge differ
-  pub joins-differ : {e u v : ℕ} → Joins (graph (plan n ends)) e u v → u ≡ v → ⊥
-  joins-differ {e} {u} {v} j p = let d = r .admitted .fit e (joins-edge n ends e u v j) .different in
-      elim (joins-ends (plan n ends) j) [ inl (a, b) ↦ d (a ∙ p ∙ sym b) | inr (a, b) ↦ d (a ∙ sym p ∙ sym b) ]
-
-  -- the number of the upper end is lower
-  pub back-falls : {f s w : ℕ} → Back (graph (plan n ends)) (treeOf n ends root first (read number)) f s w → read number s < read number w
-  back-falls {f} {s} {w} b = elim (above-cases (b .above)) [
-    | inl p ↦ absurd (joins-differ (b .joins) p)
-    | inr (c, a) ↦ omega (arith, above-rank (r .tree) a, r .tree .falls w c)
-  ]
-
   pub ended : n ≤ length number → {e : ℕ} → Edge (graph (plan n ends)) e → Ended ends number e
   ended h k = record { below = edge-size (plan n ends) k; left = omega (arith, ends-below (plan n ends) k); right = omega (arith, ends-below (plan n ends) k) }
 
@@ -45,10 +34,10 @@ module _ (n root : ℕ) (ends first number : List ℕ) (r : Rooted n ends root f
   ]
 
   pub back-upper : {f s w : ℕ} → Back (graph (plan n ends)) (treeOf n ends root first (read number)) f s w → upperEnd ends number f ≡ s
-  back-upper b = upper-is (b .joins) (back-falls b)
+  back-upper b = upper-is (b .joins) (back-child n root ends first number r b .1)
 
   pub back-lower : {f s w : ℕ} → Back (graph (plan n ends)) (treeOf n ends root first (read number)) f s w → farEnd ends f s ≡ w
   back-lower {f} {s} {w} b = elim (joins-ends (plan n ends) (b .joins)) [
     | inl (p, q) ↦ rw (p, q, eq-eqb s s refl)
-    | inr (p, q) ↦ rw (p, q, ne-eqb w s (λ e. joins-differ (b .joins) (sym e)))
+    | inr (p, q) ↦ rw (p, q, ne-eqb w s (λ e. joins-differ n root ends first number r (b .joins) (sym e)))
   ]

@@ -4,7 +4,8 @@ use mathlib.Core.List.{List}
 use Prim.Native.Nat.{ℕ, suc, _+_, _-_, _≤_, _<_}
 use lib.ListN.{length}
 use Rattle.graph.specs.Marks.{read}
-use Rattle.record.specs.Ways.{Ended, upperEnd, farEnd}
+use Rattle.numbers.specs.Tables.{farEnd}
+use Rattle.record.specs.Ways.{Ended, upperEnd}
 
 -- what `range_below` asks: the child that is noted below the bottom has its numbers
 pub record Ranging (number last below : List ℕ) (bottom : ℕ) : Type 0 where

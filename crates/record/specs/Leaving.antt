@@ -11,7 +11,8 @@ use Rattle.tree.specs.Tree.{Pointers, Above, Back}
 use Rattle.tree.specs.Filed.{Tips}
 use Rattle.tree.specs.State.{State}
 use Rattle.graph.specs.Marks.{read}
-use Rattle.record.specs.Standing.{Ground, treeOf}
+use Rattle.numbers.specs.Standing.{treeOf}
+use Rattle.record.specs.Standing.{Ground}
 
 -- the table `over` while edges are built: 0 for each that is, for any other what stood there at first
 pub record Uses (built : List ℕ) (whole over : ℕ → ℕ) : Type 0 where

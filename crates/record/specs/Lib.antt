@@ -1,14 +1,12 @@
 pub mod Answered
 pub mod Ways
 pub mod Standing
-pub mod Numbers
 pub mod Linking
 pub mod Leaving
 pub mod Exits
 pub mod Cursors
 pub mod Recording
 pub mod Progress
-pub mod Below
 pub mod Parting
 pub mod Opening
 pub mod Tabling

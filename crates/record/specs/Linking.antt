@@ -10,7 +10,7 @@ use Rattle.tree.specs.Tree.{Pointers, Climb}
 use Rattle.tree.specs.Filed.{Marked, Grown, Noted, Belows}
 use Rattle.tree.specs.Links.{Shelved, Links}
 use Rattle.graph.specs.Marks.{read}
-use Rattle.record.specs.Standing.{Rooted, treeOf}
+use Rattle.numbers.specs.Standing.{Rooted, treeOf}
 
 -- the tips of a link stand side by side, each one more than its number: the top, then the bottom
 abbrev pub topOf : List ℕ → ℕ → ℕ

@@ -11,8 +11,10 @@ use Rattle.connectivity.specs.Admission.{Admitted}
 use Rattle.connectivity.proofs.Legs.{leg}
 use Rattle.tree.specs.Tree.{Pointers, Child, Above, Passing, Climb}
 use Rattle.graph.specs.Marks.{read}
-use Rattle.record.specs.Ways.{Written, farEnd}
-use Rattle.record.specs.Standing.{Rooted, Grouped, Listed, Ground, treeOf}
+use Rattle.numbers.specs.Tables.{farEnd}
+use Rattle.record.specs.Ways.{Written}
+use Rattle.numbers.specs.Standing.{Rooted, Listed, treeOf}
+use Rattle.record.specs.Standing.{Grouped, Ground}
 use Rattle.record.specs.Linking.{Roomy}
 use Rattle.record.specs.Recording.{Holds}
 

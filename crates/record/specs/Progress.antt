@@ -6,7 +6,8 @@ use lib.ListN.{length}
 use Rattle.connectivity.specs.Plan.{plan, graph}
 use Rattle.connectivity.specs.Walk.{Leg, allEdges}
 use Rattle.graph.specs.Marks.{read}
-use Rattle.record.specs.Standing.{Rooted, Listed, Ground, treeOf}
+use Rattle.numbers.specs.Standing.{Rooted, Listed, treeOf}
+use Rattle.record.specs.Standing.{Ground}
 use Rattle.record.specs.Recording.{Recording, Chosen, Behind, Recorded}
 
 -- what `add_path` asks: the rows so far, and an edge over which a Mader-path begins

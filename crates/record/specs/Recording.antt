@@ -15,7 +15,8 @@ use Rattle.tree.specs.State.{State}
 use Rattle.tree.specs.Links.{Links}
 use Rattle.graph.specs.Marks.{read}
 use Rattle.record.specs.Ways.{Written}
-use Rattle.record.specs.Standing.{Rooted, Listed, Ground, treeOf}
+use Rattle.numbers.specs.Standing.{Rooted, Listed, treeOf}
+use Rattle.record.specs.Standing.{Ground}
 use Rattle.record.specs.Linking.{Roomy, topOf, bottomOf}
 use Rattle.record.specs.Leaving.{Uses}
 

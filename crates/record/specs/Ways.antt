@@ -3,7 +3,7 @@ use mathlib.Core.Path.{_≡_}
 use mathlib.Core.Bool.{cond}
 use mathlib.Core.List.{List, [], _∷_, _++_, List·Memᴰ as In}
 use Prim.Native.Nat.{ℕ, suc, _+_, _-_, _*_, _/_, _≤_, _<_}
-use lib.Dec.{eqb, ltb}
+use lib.Dec.{ltb}
 use lib.ListN.{length, getD, set, drop}
 use Rattle.connectivity.specs.Lists.{Distinct}
 use Rattle.connectivity.specs.Plan.{plan, graph, limits}
@@ -13,6 +13,7 @@ use Rattle.connectivity.specs.Mader.{stepRows}
 use Rattle.connectivity.specs.Admission.{Admitted}
 use Rattle.connectivity.proofs.Legs.{leg}
 use Rattle.graph.specs.Marks.{read, Marked}
+use Rattle.numbers.specs.Tables.{farEnd}
 
 -- the rows with one written after the first `count`
 abbrev pub withRow : List ℕ → ℕ → ℕ → ℕ → ℕ → List ℕ
@@ -21,10 +22,6 @@ withRow rows count step e v = set (set (set rows (3 * count) step) (3 * count + 
 -- what a list holds after some numbers are written at its front
 abbrev pub Written : List ℕ → List ℕ → List ℕ → Type 0
 Written numbers before after = after ≡ numbers ++ drop (length numbers) before
-
--- the end of e that is not v
-abbrev pub farEnd : List ℕ → ℕ → ℕ → ℕ
-farEnd ends e v = cond (eqb (getD ends (2 * e) 0) v) (getD ends (2 * e + 1) 0) (getD ends (2 * e) 0)
 
 -- where the first edge of v leads
 abbrev pub nextUp : List ℕ → List ℕ → ℕ → ℕ

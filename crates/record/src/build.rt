@@ -1,5 +1,4 @@
 // The tables, and walk after walk, until every edge is built.
-use crate::number;
 use crate::step;
 use crate::step::Progress;
 use crate::step::Stage;
@@ -11,7 +10,7 @@ ghost use lib.ListN.{length};
 ghost use Rattle.graph.specs.Marks.{read};
 ghost use Rattle.record.specs.Recording.{Sturdy, Recorded};
 ghost use Rattle.record.specs.Progress.{Finishing, FinishedBy, Ready, AllBuilt};
-ghost use Rattle.record.specs.Tabling.{Searched, Numbering, StandsBy};
+ghost use Rattle.record.specs.Tabling.{Searched};
 
 // Writes the record at the front of `rows`, over the tables by vertex and the search of the lowest cut. What stands behind stays.
 pub(crate) fn build_record(
@@ -29,11 +28,9 @@ pub(crate) fn build_record(
     let mut number = [0u16; Graph::MAX_VERTICES];
     let mut last = [0u16; Graph::MAX_VERTICES];
     let mut over = [0u16; Graph::MAX_EDGES];
-    look_below(
+    numbers::look_below(
         vertices,
         ends,
-        incident,
-        begins,
         first,
         order,
         &mut number,
@@ -50,35 +47,6 @@ pub(crate) fn build_record(
         &last,
         &mut over,
         rows,
-    );
-}
-
-// The numbers of the vertices, and what lies below each.
-fn look_below(
-    vertices: u16,
-    ends: &[u16],
-    incident: &[u16],
-    begins: &[u16],
-    first: &[u16],
-    order: &[u16],
-    number: &mut [u16],
-    last: &mut [u16],
-    over: &mut [u16],
-)
-    requires { ⌜ Numbering vertices (now ends) (now incident) (now begins) (now first) (now order) (now over) (length (now number)) (length (now last)) ⌝ }
-    ensures { λ _. ⌜ StandsBy vertices (now (ends .entry)) (now (incident .entry)) (now (begins .entry)) (now (first .entry)) (now (order .entry)) (now (number .entry)) (now (last .entry)) (now (over .entry)) (now (number .exit)) (now (last .exit)) (now (over .exit)) ⌝ }
-{
-    number::number_all(vertices, order, number, last);
-    number::lower_all(
-        vertices,
-        ends,
-        incident,
-        begins,
-        first,
-        order,
-        number,
-        last,
-        over,
     );
 }
 

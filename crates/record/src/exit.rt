@@ -1,5 +1,4 @@
 // A way out of a link: an edge that a Mader-path from its inside begins with, sought from both ends of the link.
-use crate::number;
 use crate::walk;
 ghost use Prim.Native.Nat.{_+_, _≤_, _<_};
 ghost use lib.ListN.{length};
@@ -140,7 +139,7 @@ fn is_exit(
     requires { ⌜ Testing (now ends) (now number) (now places) f ⌝ }
     ensures { λ r. ⌜ Tells r (Passes (now (ends .entry)) (now (number .entry)) (now (places .entry)) f own from to) ⌝ }
 {
-    let s = number::upper(ends, number, f);
+    let s = walk::upper(ends, number, f);
     if places[s as usize] != own {
         return true;
     }

@@ -1,18 +1,12 @@
 // The record of a plan that has no cut of at most two edges: three walks and then Mader-paths.
 use cuts::Lightest;
-use graph::Admission;
-use graph::Answer;
 use graph::Graph;
-ghost use mathlib.Core.List.{List};
-ghost use Prim.Native.Nat.{ℕ, _*_, _/_, _<_};
-ghost use lib.ListN.{length};
 ghost use Rattle.connectivity.specs.Plan.{plan, limits};
 ghost use Rattle.record.specs.Answered.{Answered};
 
 mod build; // build.rt: the tables, and walk after walk, until every edge is built
 mod exit; // exit.rt: a way out of a link
 mod link; // link.rt: the places of built vertices, and the links
-mod number; // number.rt: numbers along the order, and what lies below each vertex
 mod open; // open.rt: which link or edge is next
 mod step; // step.rt: one Mader-path more
 mod theta; // theta.rt: the first three walks
@@ -24,7 +18,7 @@ pub fn write_record(vertices: u16, ends: &[u16], rows: &mut [u16]) -> Lightest
     ensures { λ r. ⌜ Answered limits (plan vertices (now (ends .entry))) (now (rows .entry)) (now (rows .exit)) r ⌝ }
 {
     if rows.len() / 3 < ends.len() / 2 {
-        return no_room(vertices, ends);
+        return Lightest::Refused(graph::refusal(vertices, ends, true));
     }
     let mut incident = [0u16; 2 * Graph::MAX_EDGES];
     let mut begins = [0u16; Graph::MAX_VERTICES + 1];
@@ -45,18 +39,4 @@ pub fn write_record(vertices: u16, ends: &[u16], rows: &mut [u16]) -> Lightest
     begins[vertices as usize] = ends.len() as u16;
     build::build_record(vertices, ends, &incident, &begins, &first, &order, rows);
     Lightest::NoCut
-}
-
-// What is said where the lent list is too short: the plan's own refusal, else 6.
-fn no_room(vertices: u16, ends: &[u16]) -> Lightest
-    ensures { λ r. ⌜ ((rows : List ℕ) → length rows < 3 * (length (now (ends .entry)) / 2) → Answered limits (plan vertices (now (ends .entry))) rows rows r) ⌝ }
-{
-    let made = Graph::new(vertices, ends);
-    match made {
-        Admission::Refused(answer) => Lightest::Refused(answer),
-        Admission::Admitted(_) => Lightest::Refused(Answer {
-            number: 6,
-            place: 0,
-        }),
-    }
 }

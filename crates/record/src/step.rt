@@ -1,7 +1,6 @@
 // One step more: a Mader-path.
 use crate::exit;
 use crate::link;
-use crate::number;
 use crate::open;
 use crate::walk;
 ghost use Rattle.record.specs.Recording.{Nexting, NextBy};
@@ -93,7 +92,7 @@ pub(crate) fn add_path(
     requires { ⌜ Adding (now ends) (now first) (now number) f (done .row) (done .step) (done .next) (now places) (now below) (now tips) (now over) (now rows) ⌝ }
     ensures { λ r. ⌜ AddedBy (now (ends .entry)) (now (first .entry)) (now (number .entry)) f (done .row) (done .step) (done .next) (now (places .entry)) (now (below .entry)) (now (tips .entry)) (now (over .entry)) (now (rows .entry)) (now (places .exit)) (now (below .exit)) (now (tips .exit)) (now (over .exit)) (now (rows .exit)) (r .row) (r .step) (r .next) ⌝ }
 {
-    let s = number::upper(ends, number, f);
+    let s = walk::upper(ends, number, f);
     let w = walk::other_end(ends, f, s);
     let x = walk::first_marked(ends, first, places, w);
     let from = 3 * (done.row as usize);

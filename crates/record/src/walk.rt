@@ -2,7 +2,8 @@
 ghost use mathlib.Core.Path.{_≡_};
 ghost use Prim.Native.Nat.{_+_, _*_, _/_, _≤_, _<_};
 ghost use lib.ListN.{length};
-ghost use Rattle.record.specs.Ways.{withRow, farEnd, nextUp, Rises, Climbing, Climbed, OneMore, OverUp, Marking, MarkedUp, Toward, MetFirst, Raising, RaisedUp};
+ghost use Rattle.numbers.specs.Tables.{farEnd};
+ghost use Rattle.record.specs.Ways.{withRow, nextUp, upperEnd, Ended, Rises, Climbing, Climbed, OneMore, OverUp, Marking, MarkedUp, Toward, MetFirst, Raising, RaisedUp};
 
 // Writes the rows of step `step` from `v` up to `stop` along first edges at the front of `rows`; how many there are.
 pub(crate) fn climb(
@@ -49,6 +50,20 @@ pub(crate) fn other_end(ends: &[u16], e: u16, v: u16) -> u16
         return ends[k + 1];
     }
     l
+}
+
+// The end of an edge that has the lower number.
+pub(crate) fn upper(ends: &[u16], number: &[u16], e: u16) -> u16
+    requires { ⌜ Ended (now ends) (now number) e ⌝ }
+    ensures { λ r. ⌜ r ≡ upperEnd (now (ends .entry)) (now (number .entry)) e ⌝ }
+{
+    let k = 2 * (e as usize);
+    let l = ends[k];
+    let r = ends[k + 1];
+    if number[l as usize] < number[r as usize] {
+        return l;
+    }
+    r
 }
 
 // Where the first edge of `v` leads.

@@ -1,9 +1,11 @@
 -- `lowest_cut` meets its contract: a refusal, and all tables stay; or the lowest cut, and the tables by vertex and the search.
+use mathlib.Core.Path.{ap}
 use Prim.Native.Nat.{_≤_}
 use lib.ListN.{length}
 use Rattle.incidence.proofs.Filled.{filled-tabled}
 use Rattle.cuts.proofs.Serving.{answers-short, answers-refused, answers-served}
 use borrow.Author.Needs.{needs}
+use Rattle.cuts.specs.declared.Lightest.the-variants.{Refused}
 use Rattle.cuts.proofs.lowest_cut.Statement.{statement}
 use Rattle.cuts.proofs.lowest_cut.Tie as tie
 
@@ -14,11 +16,11 @@ roomy c = rw (c .if1 .left) at (c .before .is-short .ensures)
 is-short-requires : tie.Need-is-short-requires
 is-short-requires c κs = search needs
 
-no-room-requires : tie.Need-no-room-requires
-no-room-requires c κs = search needs
+refusal-requires : tie.Need-refusal-requires
+refusal-requires c κs = search needs
 
 returns : tie.Need-returns
-returns c = answers-short _ _ _ _ _ (c .no-room .ensures) (rw (c .before .if1 .taken) at (c .before .before .is-short .ensures))
+returns c = answers-short _ _ _ _ _ (ap Refused (c .refusal .ensures)) (rw (c .before .if1 .taken) at (c .before .before .is-short .ensures))
 
 fill-requires : tie.Need-fill-requires
 fill-requires c κs = search needs
@@ -58,7 +60,7 @@ lowest-cut-spec =
     tie.close
     (tie.spec
     is-short-requires
-    no-room-requires
+    refusal-requires
     returns
     fill-requires
     same-length

@@ -5,7 +5,8 @@ use borrow.Author.Needs.{needs}
 use Rattle.connectivity.specs.Plan.{plan, limits}
 use Rattle.graph.specs.Admission.{toldBy, lent}
 use Rattle.labels.specs.Answered.{fits}
-use Rattle.labels.proofs.LongEnough.{room-is, lent-told, told-admitted, told-room, told-refused}
+use Rattle.graph.proofs.Telling.{lent-told, told-admitted, told-room, told-refused}
+use Rattle.labels.proofs.LongEnough.{room-is}
 use Rattle.labels.proofs.Labelled.{labelled-refused, labelled-done}
 use Rattle.labels.proofs.balance.Statement.{statement}
 use Rattle.labels.proofs.balance.Tie as tie

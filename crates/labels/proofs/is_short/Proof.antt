@@ -2,7 +2,7 @@
 use mathlib.Core.Bool.{not}
 use native.Mathlib.Omega.{arith}
 use borrow.Author.Needs.{needs}
-use Rattle.labels.proofs.LongEnough.{tells-to}
+use Rattle.graph.proofs.Telling.{tells-to}
 use Rattle.labels.proofs.is_short.Statement.{statement}
 use Rattle.labels.proofs.is_short.Tie as tie
 

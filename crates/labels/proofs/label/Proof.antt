@@ -7,7 +7,8 @@ use Rattle.connectivity.specs.Plan.{Plan, plan, limits}
 use Rattle.connectivity.specs.Admission.{Admitted}
 use Rattle.graph.specs.Admission.{toldBy, lent}
 use Rattle.labels.specs.Answered.{Tables, tables, enough}
-use Rattle.labels.proofs.LongEnough.{AmpleFor, ample-is, ample-spacious, ample-rooms, lent-told, told-refused, told-admitted, told-room, told-number}
+use Rattle.graph.proofs.Telling.{lent-told, told-refused, told-admitted, told-room, told-number}
+use Rattle.labels.proofs.LongEnough.{AmpleFor, ample-is, ample-spacious, ample-rooms}
 use Rattle.labels.proofs.Answers.{cancelled, answers-refused, answers-served}
 use Rattle.labels.proofs.label.Statement.{statement}
 use Rattle.labels.proofs.label.Tie as tie

@@ -8,7 +8,7 @@ use Rattle.connectivity.specs.Plan.{plan, limits}
 use Rattle.connectivity.specs.Admission.{Admitted}
 use Rattle.cuts.specs.Verdict.{handed, lowestHanded}
 use Rattle.record.specs.Recording.{Sturdy}
-use Rattle.record.proofs.Answering.{answers-cut, answers-firm, uncut-admitted, sturdy}
+use Rattle.record.proofs.Answering.{answers-full, answers-cut, answers-firm, uncut-admitted, sturdy}
 use Rattle.record.proofs.Tabling.{cut-own, searched}
 use Rattle.record.proofs.write_record.Statement.{statement}
 use Rattle.record.proofs.write_record.Tie as tie
@@ -34,11 +34,11 @@ strong c =
     let a = o .before .before .before .before .before .before .before .before .args in
     sturdy (a .vertices) (a .ends .now) (a .rows .now) (admitted c) (enough (o .before .before .before .before .before)) (told o) (c .enum-told .given .1)
 
-no-room-requires : tie.Need-no-room-requires
-no-room-requires c κs = search needs
+refusal-requires : tie.Need-refusal-requires
+refusal-requires c κs = search needs
 
 returns : tie.Need-returns
-returns c = c .no-room .ensures _ (omega (arith, c .before .if1 .taken))
+returns c = answers-full _ _ _ (omega (arith, c .before .if1 .taken)) (c .refusal .ensures)
 
 slice-aggregate-lowest-cut : tie.Need-slice-aggregate-lowest-cut
 slice-aggregate-lowest-cut c = search needs
@@ -103,7 +103,7 @@ pub write-record-spec : {M : Type 1} → statement M
 write-record-spec =
     tie.close
     (tie.spec
-    no-room-requires
+    refusal-requires
     returns
     slice-aggregate-lowest-cut
     slice-aggregate-lowest-cut-2

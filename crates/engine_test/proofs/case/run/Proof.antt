@@ -47,6 +47,9 @@ label-requires c κs = search needs
 chain-requires : tie.Need-chain-requires
 chain-requires c κs = search needs
 
+below-requires : tie.Need-below-requires
+below-requires c κs = search needs
+
 at-requires : tie.Need-at-requires
 at-requires c κs = search needs
 
@@ -80,6 +83,7 @@ run-spec =
     balance-requires
     label-requires
     chain-requires
+    below-requires
     at-requires
     at-requires-2
     large-requires

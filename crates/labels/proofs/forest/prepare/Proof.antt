@@ -10,8 +10,8 @@ fill-requires c κs = search needs
 clear-edges-requires : tie.Need-clear-edges-requires
 clear-edges-requires c κs = search needs
 
-clear-marks-requires : tie.Need-clear-marks-requires
-clear-marks-requires c κs = search needs
+clear-requires : tie.Need-clear-requires
+clear-requires c κs = search needs
 
 same-length : tie.Need-same-length
 same-length c = search needs
@@ -31,7 +31,7 @@ returns c =
     let edges = marks .before .before .before .before in
     let fill = edges .before .before .before .before .before .before in
     let start = fill .before .before .before .before .before .before .before .before in
-    prepared (start .pre .0) (start .pre .1) (fill .fill .ensures) (edges .clear-edges .ensures) (marks .clear-marks .ensures)
+    prepared (start .pre .0) (start .pre .1) (fill .fill .ensures) (edges .clear-edges .ensures) (marks .clear .ensures)
 
 pub prepare-spec : {M : Type 1} → statement M
 prepare-spec =
@@ -39,7 +39,7 @@ prepare-spec =
     (tie.spec
     fill-requires
     clear-edges-requires
-    clear-marks-requires
+    clear-requires
     same-length
     same-length-2
     same-length-3

@@ -1,6 +1,6 @@
 -- `build_record` meets its contract: over tables of which nothing is set.
 use borrow.Author.Needs.{needs}
-use Rattle.record.proofs.Tabling.{numbering, ready}
+use Rattle.record.proofs.Tabling.{ready}
 use Rattle.record.proofs.build.build_record.Statement.{statement}
 use Rattle.record.proofs.build.build_record.Tie as tie
 
@@ -14,7 +14,7 @@ slice-aggregate-look-below-3 : tie.Need-slice-aggregate-look-below-3
 slice-aggregate-look-below-3 c = search needs
 
 look-below-requires : tie.Need-look-below-requires
-look-below-requires c κs = let s = c .before .before .before .before .before .before .before .before .before in numbering (s .pre .0) (s .pre .1)
+look-below-requires c κs = search needs
 
 slice-aggregate-build-all : tie.Need-slice-aggregate-build-all
 slice-aggregate-build-all c = search needs
@@ -27,19 +27,19 @@ slice-aggregate-build-all-3 c = search needs
 
 build-all-requires : tie.Need-build-all-requires
 build-all-requires c κs =
-    let k = c .before .before .before .before .before .before .before in
-    let s = k .before .before .before .before .before .before .before .before .before .before in
-    ready (s .pre .0) (s .pre .1) (k .look-below .last .1 .1 .1 .1 .1 .1 .1 .1 .0) (k .look-below .ensures (numbering (s .pre .0) (s .pre .1)))
+    let below = c .before .before .before .before .before .before .before in
+    let start = below .before .before .before .before .before .before .before .before .before .before in
+    ready (start .pre .0) (start .pre .1) (below .look-below .ensures)
 
 same-length : tie.Need-same-length
 same-length c = search needs
 
 returns : tie.Need-returns
 returns c =
-    let b = c .before .before .before in
-    let k = b .before .before .before .before .before .before .before .before in
-    let s = k .before .before .before .before .before .before .before .before .before .before in
-    b .build-all .ensures (ready (s .pre .0) (s .pre .1) (k .look-below .last .1 .1 .1 .1 .1 .1 .1 .1 .0) (k .look-below .ensures (numbering (s .pre .0) (s .pre .1))))
+    let build = c .before .before .before in
+    let below = build .before .before .before .before .before .before .before .before in
+    let start = below .before .before .before .before .before .before .before .before .before .before in
+    build .build-all .ensures (ready (start .pre .0) (start .pre .1) (below .look-below .ensures))
 
 pub build-record-spec : {M : Type 1} → statement M
 build-record-spec =

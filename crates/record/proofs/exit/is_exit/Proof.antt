@@ -1,7 +1,7 @@
 -- `is_exit` meets its contract: each way out cites the law for its tests.
 use mathlib.Core.Path.{_∙_, ap}
 use native.Mathlib.Omega.{arith}
-use Rattle.record.specs.Ways.{farEnd}
+use Rattle.numbers.specs.Tables.{farEnd}
 use Rattle.record.proofs.Exits.{test-away, test-before, test-within}
 use borrow.Author.Needs.{needs}
 use Rattle.record.proofs.exit.is_exit.Statement.{statement}

@@ -1,0 +1,4 @@
+pub mod Tables
+pub mod Answered
+pub mod Parts
+pub mod Standing
