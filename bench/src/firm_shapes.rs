@@ -9,9 +9,10 @@ use crate::shapes::{
 /// A long shape leaves room for a blob.
 const LONG_PIECES: usize = MAX_PIECES - 10;
 
-/// Those that are made at random, the long ones, those made to have dear links, those with pieces of many tabs.
+/// Those that are made at random, the long ones, those made to have dear links, those with pieces of many tabs, and those in which every piece
+/// has few, without parallel ones.
 pub fn firm() -> Vec<Shape> {
-    named(&[&RANDOM[..], &LONG[..], &LINKS[..], &WIDE[..]].concat())
+    named(&[&RANDOM[..], &LONG[..], &LINKS[..], &WIDE[..], &PLAIN[..]].concat())
 }
 
 const RANDOM: [(&str, Make); 5] = [
@@ -62,6 +63,15 @@ const WIDE: [(&str, Make); 8] = [
     }),
     ("every two pieces", |_, m| every_two(m)),
     ("few pieces, many tabs", |_, m| joined(5, m / 4, m / 4)),
+];
+
+const PLAIN: [(&str, Make); 6] = [
+    ("prism", |_, m| filled(prism(m), m)),
+    ("torus", |_, m| filled(torus(m), m)),
+    ("ring with chords", |_, m| filled(chords(m), m)),
+    ("corners cut off", |r, m| filled(corners(r, m), m)),
+    ("stacked triangles", |r, m| filled(stacked(r, m), m)),
+    ("each on three before", |_, m| filled(three_before(m), m)),
 ];
 
 /// So many tabs, if a long shape may have them with so many for each piece.
@@ -214,4 +224,62 @@ fn every_two(tabs: usize) -> Drawn {
     let pieces = (2..).take_while(|n| n * (n - 1) / 2 <= tabs).last();
     let before = |v| (0..v).map(move |u| [u, v]);
     Drawn::of((1..pieces.unwrap_or(2)).flat_map(before).collect())
+}
+
+/// Two rings, each piece of the one joined to its own in the other.
+fn prism(tabs: usize) -> Vec<[usize; 2]> {
+    let side = (tabs / 3).min(LONG_PIECES / 2);
+    let place = |v: usize| {
+        let next = (v + 1) % side;
+        [[v, next], [side + v, side + next], [v, side + v]]
+    };
+    (0..side).flat_map(place).collect()
+}
+
+/// A grid of ten rows, closed in both directions.
+fn torus(tabs: usize) -> Vec<[usize; 2]> {
+    let last = 10 * (tabs / 20).min(LONG_PIECES / 10);
+    let right = |v: usize| v / 10 * 10 + (v + 1) % 10;
+    let place = |v: usize| [[v, right(v)], [v, (v + 10) % last]];
+    (0..last).flat_map(place).collect()
+}
+
+/// A ring, each piece joined to the tenth behind it, too.
+fn chords(tabs: usize) -> Vec<[usize; 2]> {
+    let pieces = (tabs / 2).min(LONG_PIECES);
+    let place = |v: usize| [1, 10].map(|far| [v, (v + far) % pieces]);
+    (0..pieces).flat_map(place).collect()
+}
+
+/// Four pieces, each joined to each; then again and again a piece becomes a triangle, each of its tabs at another corner.
+fn corners(random: &mut Random, tabs: usize) -> Vec<[usize; 2]> {
+    let mut list = every_two(6).tabs;
+    let pieces = (2 * tabs / 3).min(LONG_PIECES) / 2 * 2;
+    for new in (4..pieces).step_by(2) {
+        let piece = random.below(new);
+        let mut triangle = [piece, new, new + 1].into_iter();
+        let ends = list.iter_mut().flatten().filter(|end| **end == piece);
+        ends.zip(&mut triangle).for_each(|(end, v)| *end = v);
+        list.extend([[piece, new], [new, new + 1], [new + 1, piece]]);
+    }
+    list
+}
+
+/// A triangle; each further piece is joined to the corners of one, which it parts into three.
+fn stacked(random: &mut Random, tabs: usize) -> Vec<[usize; 2]> {
+    let mut list = every_two(3).tabs;
+    let mut triangles = vec![[0, 1, 2]; 2];
+    for v in 3..(tabs / 3).min(LONG_PIECES) {
+        let [a, b, c] = triangles.swap_remove(random.below(triangles.len()));
+        list.extend([a, b, c].map(|u| [u, v]));
+        triangles.extend([[a, b, v], [a, v, c], [v, b, c]]);
+    }
+    list
+}
+
+/// A triangle; each further piece is joined to the three before it.
+fn three_before(tabs: usize) -> Vec<[usize; 2]> {
+    let before = |v| [v - 3, v - 2, v - 1].map(|u| [u, v]);
+    let further = (3..(tabs / 3).min(LONG_PIECES)).flat_map(before);
+    every_two(3).tabs.into_iter().chain(further).collect()
 }
