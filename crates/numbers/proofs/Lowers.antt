@@ -21,7 +21,7 @@ use Rattle.numbers.specs.Standing.{Ordering, DepthFirst, Beneath, treeOf
 use Rattle.numbers.proofs.Lengths.{numbers-long, owns-long, lasts-long, overs-long}
 use Rattle.numbers.proofs.Numbering.{numbers-are}
 use Rattle.numbers.proofs.Overs.{Put, Entry, none, some, Owned, owned-start, owned-other, owned-step, Sofar, overs-start, overs-root, overs-some, overs-handed, overs-end}
-use Rattle.numbers.proofs.Marking.{back-child, higher-is, few, first-edge, mark-child, mark-root, parent-is, levels, edge-cases}
+use Rattle.numbers.proofs.Marking.{back-child, higher-is, first-edge, mark-child, mark-root, parent-is, levels, edge-cases}
 use Rattle.numbers.proofs.Lasts.{Lasts, raised, lasts-start, lasts-step, lasts-end}
 
 -- one place of a table is written
@@ -71,7 +71,7 @@ module _ {n : ℕ} {ends first order number : List ℕ} (h : DepthFirst n ends f
         rw (mark-child h c, ne-eqb (read first (lowerEnd ends number e)) (e + 1) (λ q. b .off (lowerEnd ends number e) c (omega arith)))
         (owned-step (h .rooted .tree) o c b (put-set over e (e + 1) (omega arith))
         (hand-put (set over e (e + 1)) (e + 1) c (simp length-set long))
-        (higher-is ends number (small c b) (omega arith) (omega arith) (few h (e + 1 - 1) (omega arith))) child-of)
+        (higher-is ends number (small c b) (omega arith) (omega arith)) child-of)
   ]
     where
       small : {s w : ℕ} → Child g t w → Back g t e s w → read (set over e (e + 1)) (t .first w) ≤ length ends / 2
@@ -117,8 +117,7 @@ module _ {n : ℕ} {ends first order number : List ℕ} (h : DepthFirst n ends f
       | no q ↦ let c : Child g t (t .parent v) = record { vertex = parent-vertex (h .rooted .tree) is-child; other = q } in rw (mark-child h c)
           (overs-handed (h .rooted .tree) (h .three) (levels h) only is-child has-rank s child-of c
           (hand-put over (read over (t .first v)) c long)
-          (higher-is ends number (entry-small (s .entry (t .parent v) c)) there (entry-small (s .entry v is-child))
-          (few h (read over (t .first v) - 1) (omega (arith, there, entry-small (s .entry v is-child))))))
+          (higher-is ends number (entry-small (s .entry (t .parent v) c)) there (entry-small (s .entry v is-child))))
     ])
       where
         there : 1 ≤ read over (t .first v)

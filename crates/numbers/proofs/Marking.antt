@@ -3,24 +3,24 @@ use mathlib.Core.Path.{_≡_, refl, sym, subst, _∙_}
 use mathlib.Core.Logic.{_⊎_, inl, inr}
 use mathlib.Core.Bool.{Bool, true, false, cond}
 use mathlib.Core.List.{List}
-use Prim.Native.Nat.{ℕ, _+_, _-_, _*_, _/_, _≤_, _<_}
+use Prim.Native.Nat.{ℕ, _-_, _/_, _≤_, _<_}
 use native.Mathlib.Omega.{arith}
 use native.Mathlib.Decide.{ℕ-discrete}
-use borrow.Author.Tests.{ne-eqb, lt-ltb, le-ltb, lt-leb, ltb-true, ltb-false}
+use borrow.Author.Tests.{lt-ltb, le-ltb, lt-leb, ltb-true, ltb-false}
 use lib.Dec.{ltb}
-use lib.ListN.{length, getD}
+use lib.ListN.{length}
 use Rattle.connectivity.specs.Plan.{plan, graph}
 use Rattle.connectivity.specs.Graph.{Graph, Edge, Joins}
 use Rattle.connectivity.specs.Walk.{far}
 use Rattle.connectivity.proofs.Reach.{joins-sym}
 use Rattle.connectivity.proofs.Legs.{far-is}
-use Rattle.connectivity.proofs.Admission.{cond-both}
 use Rattle.tree.specs.Tree.{Pointers, Child, Back}
 use Rattle.tree.proofs.Above.{above-cases, above-rank, first-leads, tree-cases}
 use Rattle.graph.specs.Marks.{read}
 use Rattle.graph.proofs.Joined.{vertex-below, joins-edge, joins-ends}
-use Rattle.numbers.specs.Tables.{farEnd, lowerEnd, leastNumber, levelOf, higherOf, markOf}
+use Rattle.numbers.specs.Tables.{farEnd, lowerEnd, leastNumber, higherOf, markOf}
 use Rattle.numbers.specs.Standing.{Rooted, DepthFirst, treeOf}
+use Rattle.numbers.proofs.Steps.{edge-some, zero-none}
 use Rattle.numbers.proofs.Overs.{Higher, next, stays}
 
 -- the far end
@@ -62,30 +62,17 @@ module _ (n : ℕ) (ends number : List ℕ) {e u v : ℕ} (j : Joins (graph (pla
 
 -- The higher of two edges.
 
-module _ (ends number : List ℕ) where
-  level-none : levelOf ends number 0 ≡ 65535
-  unfolding levelOf
-  level-none = refl
-
-  level-some : (x : ℕ) → 1 ≤ x → x ≤ length ends / 2 → levelOf ends number x ≡ leastNumber ends number (x - 1)
-  unfolding levelOf
-  level-some x a b = rw (ne-eqb x 0 (λ q. omega arith), le-ltb (length ends / 2) x b)
-
-  -- each is an edge, the first may also be none
-  pub higher-is : {x y : ℕ} → x ≤ length ends / 2 → 1 ≤ y → y ≤ length ends / 2 → leastNumber ends number (y - 1) < 65535
-      → Higher (leastNumber ends number) x y (higherOf ends number x y)
-  unfolding higherOf
-  higher-is {x} {y} a b c few = go (ltb (levelOf ends number y) (levelOf ends number x)) refl
-    where
-      at-y : levelOf ends number y ≡ leastNumber ends number (y - 1)
-      at-y = level-some y b c
-
-      go : (t : Bool) → ltb (levelOf ends number y) (levelOf ends number x) ≡ t → Higher (leastNumber ends number) x y (cond t y x)
-      go true p = next refl (λ h. omega (arith, ltb-true (levelOf ends number y) (levelOf ends number x) p, at-y, level-some x h a))
-      go false p = elim (ℕ-discrete x 0) [
-        | yes q ↦ absurd (omega (arith, ltb-false (levelOf ends number y) (levelOf ends number x) p, at-y, subst (λ (z : ℕ). levelOf ends number z ≡ 65535) (sym q) level-none))
-        | no q ↦ stays refl (omega arith) (omega (arith, ltb-false (levelOf ends number y) (levelOf ends number x) p, at-y, level-some x (omega arith) a))
-      ]
+-- each is an edge, the first may also be none
+pub higher-is : (ends number : List ℕ) {x y : ℕ} → x ≤ length ends / 2 → 1 ≤ y → y ≤ length ends / 2 → Higher (leastNumber ends number) x y (higherOf ends number x y)
+unfolding higherOf
+higher-is ends number {x} {y} a b c = elim (ℕ-discrete x 0) [
+  | yes q ↦ rw (zero-none ends q) (next refl (λ h. omega arith))
+  | no q ↦ rw (edge-some ends x (omega arith) a, edge-some ends y b c) (go (ltb (leastNumber ends number (y - 1)) (leastNumber ends number (x - 1))) refl (omega arith))
+]
+  where
+    go : (t : Bool) → ltb (leastNumber ends number (y - 1)) (leastNumber ends number (x - 1)) ≡ t → 1 ≤ x → Higher (leastNumber ends number) x y (cond t y x)
+    go true p h = next refl (λ i. omega (arith, ltb-true (leastNumber ends number (y - 1)) (leastNumber ends number (x - 1)) p))
+    go false p h = stays refl h (omega (arith, ltb-false (leastNumber ends number (y - 1)) (leastNumber ends number (x - 1)) p))
 
 -- Marks, and which edges are in the tree.
 
@@ -95,11 +82,6 @@ module _ {n : ℕ} {ends first order number : List ℕ} (h : DepthFirst n ends f
 
   abbrev t : Pointers
   t = treeOf n ends (read order 0) first (read number)
-
-  pub few : (e : ℕ) → e < length ends / 2 → leastNumber ends number e < 65535
-  few e l = let f = h .rooted .admitted .fit e l in cond-both (λ (x : ℕ). x < 65535) (ltb (read number (getD ends (2 * e) 0)) (read number (getD ends (2 * e + 1) 0)))
-      (omega (arith, h .listing .placed (getD ends (2 * e) 0) (f .left) .0, h .rooted .admitted .vertices))
-      (omega (arith, h .listing .placed (getD ends (2 * e + 1) 0) (f .right) .0, h .rooted .admitted .vertices))
 
   pub first-edge : {v : ℕ} → Child g t v → (1 ≤ read first v) × (read first v ≤ length ends / 2)
   first-edge {v} c = (h .rooted .marked v c, omega (arith, joins-edge n ends (read first v - 1) v (t .parent v) (h .rooted .tree .joins v c)))

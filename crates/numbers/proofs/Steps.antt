@@ -1,15 +1,16 @@
 -- The cases of one place and the steps of all places, as the code goes through them.
-use mathlib.Core.Path.{_≡_, refl, sym, ap, _∙_}
+use mathlib.Core.Path.{_≡_, refl, sym, ap, subst, _∙_}
+use mathlib.Core.Bool.{Bool, true, false, _||_}
 use mathlib.Core.List.{List}
 use Prim.Native.Nat.{ℕ, suc, _+_, _-_, _*_, _/_, _≤_, _<_}
 use native.Mathlib.Omega.{arith}
 use native.Mathlib.Decide.{decLe}
-use lib.Dec.{eqb, leb}
+use lib.Dec.{T, eqb, leb, ltb}
 use lib.ListN.{length, getD, set}
-use borrow.Author.Tests.{eq-eqb, ne-eqb, lt-ltb, le-ltb, le-leb}
+use borrow.Author.Tests.{eq-eqb, ne-eqb, lt-ltb, le-ltb, le-leb, eqb-false, ltb-false}
 use Rattle.connectivity.proofs.Admission.{cond-both}
 use Rattle.graph.specs.Marks.{read}
-use Rattle.numbers.specs.Tables.{farEnd, lowerEnd, higherOf, markOf, handTo, ownAt, raiseTo, lowerLast, lowerOver, ownsTo, lastsDown, oversDown}
+use Rattle.numbers.specs.Tables.{farEnd, lowerEnd, isNone, higherOf, markOf, handTo, ownAt, raiseTo, lowerLast, lowerOver, ownsTo, lastsDown, oversDown}
 use Rattle.numbers.specs.Parts.{EndsBelow, Owning}
 
 -- Bounds.
@@ -17,6 +18,23 @@ use Rattle.numbers.specs.Parts.{EndsBelow, Owning}
 -- both ends of an edge have numbers
 pub ends-below : {n : ℕ} {ends : List ℕ} {first number over : ℕ} → Owning n ends first number over → EndsBelow ends number
 ends-below h e l = let f = h .admitted .fit e l in (omega (arith, f .left, h .numbers), omega (arith, f .right, h .numbers))
+
+-- there is such an edge
+pub some-edge : (ends : List ℕ) (x : ℕ) → isNone ends x ≡ false → (1 ≤ x) × (x ≤ length ends / 2)
+unfolding isNone
+some-edge ends x = go (eqb x 0) refl
+  where
+    go : (t : Bool) → eqb x 0 ≡ t → (t || ltb (length ends / 2) x) ≡ false → (1 ≤ x) × (x ≤ length ends / 2)
+    go true q p = absurd (subst T p tt)
+    go false q p = (omega (arith, eqb-false x 0 q), ltb-false (length ends / 2) x p)
+
+pub edge-some : (ends : List ℕ) (x : ℕ) → 1 ≤ x → x ≤ length ends / 2 → isNone ends x ≡ false
+unfolding isNone
+edge-some ends x a b = rw (ne-eqb x 0 (λ q. omega arith), le-ltb (length ends / 2) x b)
+
+pub zero-none : (ends : List ℕ) {x : ℕ} → x ≡ 0 → isNone ends x ≡ true
+unfolding isNone
+zero-none ends {x} p = rw (eq-eqb x 0 p)
 
 -- a mark names an edge, or none
 pub mark-edge : (n m : ℕ) (first : List ℕ) (v : ℕ) → markOf n m first v ≤ m

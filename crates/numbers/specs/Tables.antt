@@ -1,5 +1,5 @@
 -- What the three tables become, for any marks and any order. In `first` and `over` an edge is given as one more than its number, 0 for none.
-use mathlib.Core.Bool.{cond}
+use mathlib.Core.Bool.{Bool, cond, _||_}
 use mathlib.Core.List.{List}
 use Prim.Native.Nat.{ℕ, zero, suc, _+_, _-_, _*_, _/_}
 use lib.Dec.{eqb, leb, ltb}
@@ -16,18 +16,19 @@ farEnd ends e v = cond (eqb (getD ends (2 * e) 0) v) (getD ends (2 * e + 1) 0) (
 abbrev pub lowerEnd : List ℕ → List ℕ → ℕ → ℕ
 lowerEnd ends number e = cond (ltb (read number (getD ends (2 * e) 0)) (read number (getD ends (2 * e + 1) 0))) (getD ends (2 * e + 1) 0) (getD ends (2 * e) 0)
 
--- the lower of the numbers of both ends
+-- the lower of the numbers of both ends: that of the upper end
 abbrev pub leastNumber : List ℕ → List ℕ → ℕ → ℕ
 leastNumber ends number e =
     cond (ltb (read number (getD ends (2 * e) 0)) (read number (getD ends (2 * e + 1) 0))) (read number (getD ends (2 * e) 0)) (read number (getD ends (2 * e + 1) 0))
 
--- the number of the upper end of the edge x, above all others for none
-unfoldable pub levelOf : List ℕ → List ℕ → ℕ → ℕ
-levelOf ends number x = cond (eqb x 0) 65535 (cond (ltb (length ends / 2) x) 65535 (leastNumber ends number (x - 1)))
+-- x is not one more than the number of an edge
+unfoldable pub isNone : List ℕ → ℕ → Bool
+isNone ends x = eqb x 0 || ltb (length ends / 2) x
 
--- of two edges the one whose upper end is higher
+-- of two edges the one whose upper end is higher; the other where one is none
 unfoldable pub higherOf : List ℕ → List ℕ → ℕ → ℕ → ℕ
-higherOf ends number x y = cond (ltb (levelOf ends number y) (levelOf ends number x)) y x
+higherOf ends number x y =
+    cond (isNone ends x) y (cond (isNone ends y) x (cond (ltb (leastNumber ends number (y - 1)) (leastNumber ends number (x - 1))) y x))
 
 -- the first edge of v, of n vertices and m edges: none for a root, and for what is no vertex
 unfoldable pub markOf : ℕ → ℕ → List ℕ → ℕ → ℕ

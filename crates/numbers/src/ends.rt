@@ -2,7 +2,7 @@
 ghost use mathlib.Core.Path.{_≡_};
 ghost use Prim.Native.Nat.{_/_, _≤_, _<_};
 ghost use lib.ListN.{length};
-ghost use Rattle.numbers.specs.Tables.{farEnd, lowerEnd, levelOf, higherOf, markOf};
+ghost use Rattle.numbers.specs.Tables.{farEnd, lowerEnd, leastNumber, isNone, higherOf, markOf};
 ghost use Rattle.numbers.specs.Parts.{EndsBelow};
 
 // The end of `e` that is not `v`.
@@ -32,18 +32,22 @@ pub(crate) fn lower(ends: &[u16], number: &[u16], e: u16) -> u16
     l
 }
 
-// The number of the upper end of an edge, above all others for none.
-fn level(ends: &[u16], number: &[u16], x: u16) -> u16
-    requires { ⌜ EndsBelow (now ends) (length (now number)) ⌝ }
-    ensures { λ r. ⌜ r ≡ levelOf (now (ends .entry)) (now (number .entry)) x ⌝ }
+// Whether there is no such edge.
+fn is_none(ends: &[u16], x: u16) -> bool
+    ensures { λ r. ⌜ r ≡ isNone (now (ends .entry)) x ⌝ }
 {
     if x == 0 {
-        return 65535;
+        return true;
     }
-    if ends.len() / 2 < x as usize {
-        return 65535;
-    }
-    let k = 2 * (x as usize - 1);
+    ends.len() / 2 < x as usize
+}
+
+// The number of the upper end of `e`.
+fn level(ends: &[u16], number: &[u16], e: u16) -> u16
+    requires { ⌜ (e < length (now ends) / 2) × EndsBelow (now ends) (length (now number)) ⌝ }
+    ensures { λ r. ⌜ r ≡ leastNumber (now (ends .entry)) (now (number .entry)) e ⌝ }
+{
+    let k = 2 * (e as usize);
     let a = number[ends[k] as usize];
     let b = number[ends[k + 1] as usize];
     if a < b {
@@ -52,12 +56,18 @@ fn level(ends: &[u16], number: &[u16], x: u16) -> u16
     b
 }
 
-// Of two edges the one whose upper end is higher.
+// Of two edges the one whose upper end is higher; the other where one is none.
 pub(crate) fn higher(ends: &[u16], number: &[u16], x: u16, y: u16) -> u16
     requires { ⌜ EndsBelow (now ends) (length (now number)) ⌝ }
     ensures { λ r. ⌜ r ≡ higherOf (now (ends .entry)) (now (number .entry)) x y ⌝ }
 {
-    if level(ends, number, y) < level(ends, number, x) {
+    if is_none(ends, x) {
+        return y;
+    }
+    if is_none(ends, y) {
+        return x;
+    }
+    if level(ends, number, y - 1) < level(ends, number, x - 1) {
         return y;
     }
     x

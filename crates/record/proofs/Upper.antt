@@ -2,14 +2,13 @@
 use mathlib.Core.Path.{_≡_, refl, sym}
 use mathlib.Core.Logic.{inl, inr}
 use mathlib.Core.List.{List}
-use Prim.Native.Nat.{ℕ, _+_, _*_, _≤_, _<_}
+use Prim.Native.Nat.{ℕ, _≤_, _<_}
 use native.Mathlib.Omega.{arith}
 use borrow.Author.Tests.{eq-eqb, ne-eqb, lt-ltb, le-ltb}
-use lib.Dec.{ltb}
-use lib.ListN.{length, getD}
+use lib.ListN.{length}
 use Rattle.connectivity.specs.Plan.{plan, graph}
 use Rattle.connectivity.specs.Graph.{Edge, Joins}
-use Rattle.connectivity.proofs.Admission.{cond-both, edge-size}
+use Rattle.connectivity.proofs.Admission.{edge-size}
 use Rattle.tree.specs.Tree.{Back}
 use Rattle.graph.specs.Marks.{read}
 use Rattle.graph.proofs.Joined.{joins-ends, ends-below}
@@ -17,10 +16,6 @@ use Rattle.numbers.specs.Tables.{farEnd}
 use Rattle.numbers.specs.Standing.{Rooted, treeOf}
 use Rattle.numbers.proofs.Marking.{joins-differ, back-child}
 use Rattle.record.specs.Ways.{Ended, upperEnd}
-
--- the upper end is one of the two
-pub upper-below : (ends number : List ℕ) (e : ℕ) → Ended ends number e → upperEnd ends number e < length number
-upper-below ends number e h = cond-both (λ (v : ℕ). v < length number) (ltb (read number (getD ends (2 * e) 0)) (read number (getD ends (2 * e + 1) 0))) (h .left) (h .right)
 
 module _ (n root : ℕ) (ends first number : List ℕ) (r : Rooted n ends root first (read number)) where
   pub ended : n ≤ length number → {e : ℕ} → Edge (graph (plan n ends)) e → Ended ends number e
