@@ -11,11 +11,9 @@ use Rattle.numbers.proofs.ends.higher.Statement.{statement}
 use Rattle.numbers.proofs.ends.higher.Tie as tie
 
 -- both are edges
-one : (c : tie.Else1) → let a = c .before .before .before .before .args in (1 ≤ a .x) × (a .x ≤ length (a .ends .now) / 2)
-one c = some-edge _ _ (sym (c .before .is-none .ensures) ∙ c .if1 .left)
-
-other : (c : tie.Else2) → let a = c .before .before .before .before .before .before .args in (1 ≤ a .y) × (a .y ≤ length (a .ends .now) / 2)
-other c = some-edge _ _ (sym (c .before .is-none2 .ensures) ∙ c .if2 .left)
+edges : (c : tie.Else2) → let a = c .before .before .before .before .before .before .args in
+    ((1 ≤ a .x) × (a .x ≤ length (a .ends .now) / 2)) × ((1 ≤ a .y) × (a .y ≤ length (a .ends .now) / 2))
+edges c = (some-edge _ _ (sym (c .before .before .before .is-none .ensures) ∙ c .before .before .if1 .left), some-edge _ _ (sym (c .before .is-none2 .ensures) ∙ c .if2 .left))
 
 is-none-requires : tie.Need-is-none-requires
 is-none-requires c κs = search needs
@@ -32,16 +30,16 @@ unfolding higherOf
 returns-2 c = rw (sym (c .before .before .before .is-none .ensures) ∙ c .before .before .if1 .left, sym (c .before .is-none2 .ensures) ∙ c .if2 .taken)
 
 sub-level : tie.Need-sub-level
-sub-level c = omega (arith, other c)
+sub-level c = omega (arith, edges c)
 
 level-requires : tie.Need-level-requires
-level-requires c κs = (omega (arith, other c), c .before .before .before .before .before .before .pre)
+level-requires c κs = (omega (arith, edges c), c .before .before .before .before .before .before .pre)
 
 sub-level-2 : tie.Need-sub-level-2
-sub-level-2 c = omega (arith, one (c .before .before .before))
+sub-level-2 c = omega (arith, edges (c .before))
 
 level-requires-2 : tie.Need-level-requires-2
-level-requires-2 c κs = (omega (arith, one (c .before .before .before)), c .before .before .before .before .before .before .before .pre)
+level-requires-2 c κs = (omega (arith, edges (c .before)), c .before .before .before .before .before .before .before .pre)
 
 returns-3 : tie.Need-returns-3
 unfolding higherOf
