@@ -8,7 +8,7 @@ use native.Mathlib.Decide.{ℕ-discrete}
 use borrow.Author.Tests.{eq-eqb, ne-eqb}
 use lib.ListN.{length, set, length-set}
 use lib.Seq.{getD-set-same, getD-set-other}
-use Rattle.connectivity.specs.Plan.{plan, graph}
+use Rattle.connectivity.specs.Plan.{plan, graph, Limits}
 use Rattle.connectivity.specs.Graph.{Graph, Vertex, Edge}
 use Rattle.connectivity.proofs.Admission.{admitted-vertex, admitted-edge, edge-size}
 use Rattle.tree.specs.Tree.{Pointers, Child, Back, Overs}
@@ -28,7 +28,7 @@ use Rattle.numbers.proofs.Lasts.{Lasts, raised, lasts-start, lasts-step
 put-set : (table : List ℕ) (k x : ℕ) → k < length table → Put (read table) (read (set table k x)) k x
 put-set table k x h = record { here = getD-set-same table k x 0 h; away = λ j n. getD-set-other table k j x 0 n }
 
-module _ {n : ℕ} {ends first order number : List ℕ} (h : DepthFirst n ends first order number) where
+module _ {most : Limits} {n : ℕ} {ends first order number : List ℕ} (h : DepthFirst most n ends first order number) where
   abbrev g : Graph
   g = graph (plan n ends)
 

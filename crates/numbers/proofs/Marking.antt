@@ -9,7 +9,7 @@ use native.Mathlib.Decide.{ℕ-discrete}
 use borrow.Author.Tests.{lt-ltb, le-ltb, lt-leb, ltb-true, ltb-false}
 use lib.Dec.{ltb}
 use lib.ListN.{length}
-use Rattle.connectivity.specs.Plan.{plan, graph}
+use Rattle.connectivity.specs.Plan.{plan, graph, Limits}
 use Rattle.connectivity.specs.Graph.{Graph, Edge, Joins}
 use Rattle.connectivity.specs.Walk.{far}
 use Rattle.connectivity.proofs.Reach.{joins-sym}
@@ -33,7 +33,7 @@ far-end n ends e v p j = sym (far-same n ends e v) ∙ far-is j
 
 -- An edge by the numbers of its ends.
 
-module _ (n root : ℕ) (ends first number : List ℕ) (r : Rooted n ends root first (read number)) where
+module _ {most : Limits} (n root : ℕ) (ends first number : List ℕ) (r : Rooted most n ends root first (read number)) where
   -- the ends of an edge differ
   pub joins-differ : {e u v : ℕ} → Joins (graph (plan n ends)) e u v → u ≡ v → ⊥
   joins-differ {e} {u} {v} j p = let d = r .admitted .fit e (joins-edge n ends e u v j) .different in
@@ -76,7 +76,7 @@ higher-is ends number {x} {y} a b c = elim (ℕ-discrete x 0) [
 
 -- Marks, and which edges are in the tree.
 
-module _ {n : ℕ} {ends first order number : List ℕ} (h : DepthFirst n ends first order number) where
+module _ {most : Limits} {n : ℕ} {ends first order number : List ℕ} (h : DepthFirst most n ends first order number) where
   abbrev g : Graph
   g = graph (plan n ends)
 

@@ -8,6 +8,7 @@ use native.Mathlib.Decide.{decLe}
 use lib.Dec.{T, eqb, leb, ltb}
 use lib.ListN.{length, getD, set}
 use borrow.Author.Tests.{eq-eqb, ne-eqb, lt-ltb, le-ltb, le-leb, eqb-false, ltb-false}
+use Rattle.connectivity.specs.Plan.{Limits}
 use Rattle.connectivity.proofs.Admission.{cond-both}
 use Rattle.graph.specs.Marks.{read}
 use Rattle.numbers.specs.Tables.{farEnd, lowerEnd, isNone, higherOf, markOf, handTo, ownAt, raiseTo, lowerLast, lowerOver, ownsTo, lastsDown, oversDown}
@@ -16,7 +17,7 @@ use Rattle.numbers.specs.Parts.{EndsBelow, Owning}
 -- Bounds.
 
 -- both ends of an edge have numbers
-pub ends-below : {n : ℕ} {ends : List ℕ} {first number over : ℕ} → Owning n ends first number over → EndsBelow ends number
+pub ends-below : {most : Limits} {n : ℕ} {ends : List ℕ} {first number over : ℕ} → Owning most n ends first number over → EndsBelow ends number
 ends-below h e l = let f = h .admitted .fit e l in (omega (arith, f .left, h .numbers), omega (arith, f .right, h .numbers))
 
 -- there is such an edge
@@ -50,8 +51,8 @@ unfolding markOf
 mark-vertex n m first v some = elim (decLe n v) [ yes l ↦ absurd (some (rw (le-leb n v l))) | no k ↦ omega (arith, k) ]
 
 -- the other end of an edge is a vertex
-pub far-below : {n : ℕ} {ends : List ℕ} {first number over : ℕ} → Owning n ends first number over → (e v : ℕ) → e < length ends / 2 → farEnd ends e v < n
-far-below {n} {ends} h e v l = cond-both (λ (x : ℕ). x < n) (eqb (getD ends (2 * e) 0) v) (h .admitted .fit e l .right) (h .admitted .fit e l .left)
+pub far-below : {most : Limits} {n : ℕ} {ends : List ℕ} {first number over : ℕ} → Owning most n ends first number over → (e v : ℕ) → e < length ends / 2 → farEnd ends e v < n
+far-below {most} {n} {ends} h e v l = cond-both (λ (x : ℕ). x < n) (eqb (getD ends (2 * e) 0) v) (h .admitted .fit e l .right) (h .admitted .fit e l .left)
 
 -- One place.
 

@@ -3,7 +3,7 @@ use mathlib.Core.Path.{_≡_}
 use mathlib.Core.List.{List}
 use Prim.Native.Nat.{ℕ, _-_, _/_, _≤_, _<_}
 use lib.ListN.{length}
-use Rattle.connectivity.specs.Plan.{plan, graph, limits}
+use Rattle.connectivity.specs.Plan.{plan, graph, Limits}
 use Rattle.connectivity.specs.Graph.{Graph, Vertex, Edge}
 use Rattle.connectivity.specs.Reach.{ThreeEdgeConnected}
 use Rattle.connectivity.specs.Walk.{far}
@@ -19,8 +19,8 @@ abbrev pub treeOf : ℕ → List ℕ → ℕ → List ℕ → (ℕ → ℕ) → 
 treeOf n ends root first rank = pointers (graph (plan n ends)) root (read first) rank
 
 -- it is a tree of the plan, and every vertex but the root has a mark
-pub record Rooted (n : ℕ) (ends : List ℕ) (root : ℕ) (first : List ℕ) (rank : ℕ → ℕ) : Type 0 where
-  pub admitted : Admitted limits (plan n ends)
+pub record Rooted (most : Limits) (n : ℕ) (ends : List ℕ) (root : ℕ) (first : List ℕ) (rank : ℕ → ℕ) : Type 0 where
+  pub admitted : Admitted most (plan n ends)
   pub tree : Tree (graph (plan n ends)) (treeOf n ends root first rank)
   pub marked : (v : ℕ) → Child (graph (plan n ends)) (treeOf n ends root first rank) v → 1 ≤ read first v
   pub few : (v : ℕ) → Vertex (graph (plan n ends)) v → rank v < n
@@ -48,8 +48,8 @@ abbrev pub Together : Graph → Pointers → Type 0
 Together g t = (u v w : ℕ) → Vertex g u → Vertex g v → Above g t u w → t .rank u ≤ t .rank v → t .rank v ≤ t .rank w → Above g t u v
 
 -- a depth-first tree of a 3-edge-connected plan; the mark of the root names no edge
-pub record DepthFirst (n : ℕ) (ends first order number : List ℕ) : Type 0 where
-  pub rooted : Rooted n ends (read order 0) first (read number)
+pub record DepthFirst (most : Limits) (n : ℕ) (ends first order number : List ℕ) : Type 0 where
+  pub rooted : Rooted most n ends (read order 0) first (read number)
   pub three : ThreeEdgeConnected (graph (plan n ends))
   pub listing : Listed n (read order 0) order number
   pub together : Together (graph (plan n ends)) (treeOf n ends (read order 0) first (read number))

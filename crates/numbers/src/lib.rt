@@ -86,7 +86,7 @@ fn fill(
     last: &mut [u16],
     over: &mut [u16],
 )
-    requires { ⌜ Fit vertices (now ends) (length (now first)) (length (now order)) (length (now number)) (length (now last)) (length (now over)) ⌝ }
+    requires { ⌜ Fit limits vertices (now ends) (length (now first)) (length (now order)) (length (now number)) (length (now last)) (length (now over)) ⌝ }
     ensures { λ _. ⌜ Filled (plan vertices (now (ends .entry))) (now (first .entry)) (now (order .entry)) (now (number .entry)) (now (last .entry)) (now (over .entry)) (now (number .exit)) (now (last .exit)) (now (over .exit)) ⌝ }
 {
     number_all(vertices, order, number, last);

@@ -114,7 +114,7 @@ module _ (n : ℕ) (ends lent : List ℕ) where
         uncut : lowestCut (graph (plan n ends)) ≡ none
         uncut = no-cut (lowestCut (graph (plan n ends))) (sym q ∙ found _ p)
 
-        pub sturdy : Sturdy n ends (length lent)
+        pub sturdy : Sturdy limits n ends (length lent)
         sturdy = record {
           admitted = a;
           three = three-edge-connected 0 1 (admitted-vertex a 0 (omega (arith, a .two))) (admitted-vertex a 1 (omega (arith, a .two))) (λ z. omega (arith, z)) .0 uncut;

@@ -4,7 +4,7 @@ use mathlib.Core.List.{List}
 use Prim.Native.Nat.{ℕ, _+_, _-_, _/_, _≤_, _<_}
 use native.Mathlib.Omega.{arith}
 use lib.ListN.{length}
-use Rattle.connectivity.specs.Plan.{plan, graph}
+use Rattle.connectivity.specs.Plan.{plan, graph, Limits}
 use Rattle.connectivity.specs.Graph.{Graph}
 use Rattle.tree.specs.Tree.{Pointers, Passing}
 use Rattle.tree.proofs.Above.{parent-vertex, climb-end, way-up}
@@ -24,7 +24,7 @@ use Rattle.record.proofs.ThreeRows.{x-child}
 
 -- The doors, and where the ways up meet.
 
-module _ {n root : ℕ} {ends incident begins first order number last : List ℕ} {over : ℕ → ℕ} (s : Ground n root ends incident begins first number last over)
+module _ {most : Limits} {n root : ℕ} {ends incident begins first order number last : List ℕ} {over : ℕ → ℕ} (s : Ground most n root ends incident begins first number last over)
     (l : Listed n root order number) {i k : ℕ} (o : NextDoor ends incident begins first number (read last (read order 1)) root (read begins root) i)
     (h : NextDoor ends incident begins first number (read last (read order 1)) root (i + 1) k) where
   abbrev g : Graph
@@ -52,7 +52,7 @@ module _ {n root : ℕ} {ends incident begins first order number last : List ℕ
     pub other-passing : Passing g t (read order 1) (read incident k) root u
     other-passing = subst (λ (y : ℕ). Passing g t (read order 1) (read incident k) root y) (sym to-u) (other-leads s l o h)
 
-    abbrev pub meets : (places : List ℕ) → n ≤ length places → ((v : ℕ) → read places v ≡ 0) → Meets ends first w u root places
+    abbrev pub meets : (places : List ℕ) → n ≤ length places → ((v : ℕ) → read places v ≡ 0) → Meets most ends first w u root places
     meets places long blank = record {
       n = n;
       rank = read number;
@@ -63,7 +63,7 @@ module _ {n root : ℕ} {ends incident begins first order number last : List ℕ
       blank = blank;
     }
 
-    pub climbs : {x : ℕ} → Meeting g t w u x → Climbs n root ends first (read number) x (read incident i) w (read incident k) u
+    pub climbs : {x : ℕ} → Meeting g t w u x → Climbs most n root ends first (read number) x (read incident i) w (read incident k) u
     climbs {x} m =
         let (low, to-x) = way-up (climb-end (m .climb)) in
         let (high, up) = root-climb (s .rooted) (vertex-below n ends _ (parent-vertex (s .rooted .tree)
@@ -83,24 +83,24 @@ module _ {n root : ℕ} {ends incident begins first order number last : List ℕ
           meets = m .climb;
         }
 
-module _ {ends incident begins first order number last places : List ℕ} {root : ℕ} (c : Finding ends incident begins first order number last root places)
+module _ {most : Limits} {ends incident begins first order number last places : List ℕ} {root : ℕ} (c : Finding most ends incident begins first order number last root places)
     {i k w u : ℕ} (o : NextDoor ends incident begins first number (read last (read order 1)) root (read begins root) i)
     (h : NextDoor ends incident begins first number (read last (read order 1)) root (i + 1) k)
     (to-w : w ≡ farEnd ends (read incident i) root) (to-u : u ≡ farEnd ends (read incident k) root) where
-  pub find-meets : Meets ends first w u root places
+  pub find-meets : Meets most ends first w u root places
   find-meets = meets (c .ground) (c .listing) o h to-w to-u places (c .places-long) (c .places-blank)
 
-  module _ {x : ℕ} (places' : List ℕ) (m : Met ends first w u root places places' x) where
+  module _ {x : ℕ} (places' : List ℕ) (m : Met most ends first w u root places places' x) where
     met : ((v : ℕ) → read places' v ≡ 0) × Meeting (graph (plan (c .n) ends)) (treeOf (c .n) ends root first (read number)) w u x
     met = m .1 (meets (c .ground) (c .listing) o h to-w to-u places (c .places-long) (c .places-blank))
 
-    find-climbs : Climbs (c .n) root ends first (read number) x (read incident i) w (read incident k) u
+    find-climbs : Climbs most (c .n) root ends first (read number) x (read incident i) w (read incident k) u
     find-climbs = climbs (c .ground) (c .listing) o h to-w to-u (met .1)
 
     pub find-rises : Rises ends first x
     find-rises = child-rises (c .ground .rooted) (x-child find-climbs)
 
-    pub forked : {p : ℕ} → p ≡ nextUp ends first x → Forked (c .n) root ends first (read number) places' x (read first x - 1) p (read incident i) w (read incident k) u
+    pub forked : {p : ℕ} → p ≡ nextUp ends first x → Forked most (c .n) root ends first (read number) places' x (read first x - 1) p (read incident i) w (read incident k) u
     forked q = record {
       climbs = find-climbs;
       edge = refl;
@@ -110,9 +110,9 @@ module _ {ends incident begins first order number last places : List ℕ} {root 
 
 -- What writing and building the walks ask, and what they leave behind.
 
-module _ {ends incident begins first order number last places below tips over : List ℕ} {room : ℕ}
-    (c : Beginning ends incident begins first order number last places below tips over room) where
-  abbrev pub finding : Finding ends incident begins first order number last (read order 0) places
+module _ {most : Limits} {ends incident begins first order number last places below tips over : List ℕ} {room : ℕ}
+    (c : Beginning most ends incident begins first order number last places below tips over room) where
+  abbrev pub finding : Finding most ends incident begins first order number last (read order 0) places
   finding = record {
     n = c .n;
     over = read over;
@@ -122,11 +122,11 @@ module _ {ends incident begins first order number last places below tips over : 
     places-long = c .roomy .places-long;
   }
 
-  module _ (places' : List ℕ) {x e p f w d u : ℕ} (m : ForkedBy ends incident begins first order number last (read order 0) places places' x e p f w d u) where
-    abbrev pub rowed : Rowed ends first (read order 0) x e p f w d u room
+  module _ (places' : List ℕ) {x e p f w d u : ℕ} (m : ForkedBy most ends incident begins first order number last (read order 0) places places' x e p f w d u) where
+    abbrev pub rowed : Rowed most ends first (read order 0) x e p f w d u room
     rowed = let r = m .1 finding in record { n = c .n; rank = read number; climbs = r .climbs; edge = r .edge; parent = r .parent; fits = c .fits }
 
-    abbrev pub raw : Raw ends first (read order 0) x e p f w d u places' below tips over
+    abbrev pub raw : Raw most ends first (read order 0) x e p f w d u places' below tips over
     raw = let r = m .1 finding in record {
       n = c .n;
       rank = read number;
@@ -143,11 +143,11 @@ module _ {ends incident begins first order number last places below tips over : 
       over-long = c .over-long;
     }
 
-pub begun : {ends incident begins first order number last places below tips over : List ℕ} (before : List ℕ)
-    (c : Beginning ends incident begins first order number last places below tips over (length before)) (places-1 : List ℕ) {x e p f w d u : ℕ}
-    → ForkedBy ends incident begins first order number last (read order 0) places places-1 x e p f w d u
-    → (after places' below' tips' over' : List ℕ) {count next : ℕ} → RowedBy ends first (read order 0) x e p f w d u before after count
-    → RaisedBy ends first (read order 0) x e p f w d u places-1 below tips over places' below' tips' over' next
+pub begun : {most : Limits} {ends incident begins first order number last places below tips over : List ℕ} (before : List ℕ)
+    (c : Beginning most ends incident begins first order number last places below tips over (length before)) (places-1 : List ℕ) {x e p f w d u : ℕ}
+    → ForkedBy most ends incident begins first order number last (read order 0) places places-1 x e p f w d u
+    → (after places' below' tips' over' : List ℕ) {count next : ℕ} → RowedBy most ends first (read order 0) x e p f w d u before after count
+    → RaisedBy most ends first (read order 0) x e p f w d u places-1 below tips over places' below' tips' over' next
     → Begun (c .n) (read order 0) ends first (read number) (read over) before after places' below' tips' over' count 3 next
 begun {order = order} before c places-1 {x} {e} {p} {f} {w} {d} {u} m after places' below' tips' over' r b =
     let k = m .1 (finding c) .climbs in

@@ -7,7 +7,7 @@ use Prim.Native.Nat.{ℕ, suc, _+_, _*_, _-_, _≤_, _<_}
 use native.Mathlib.Omega.{arith}
 use native.Mathlib.Decide.{ℕ-discrete, decLe, decLt}
 use lib.ListN.{length}
-use Rattle.connectivity.specs.Plan.{plan, graph, limits}
+use Rattle.connectivity.specs.Plan.{plan, graph, Limits}
 use Rattle.connectivity.specs.Graph.{Graph, Edge, Joins}
 use Rattle.connectivity.specs.Walk.{Leg, allEdges, Built, Branch}
 use Rattle.connectivity.proofs.Lists.{in-dec}
@@ -32,8 +32,8 @@ use Rattle.record.specs.Recording.{Chosen, Behind, Nexting}
 use Rattle.record.proofs.Counting.{done-every}
 
 -- over an edge at a vertex, where every climb makes a Mader-path
-module _ {ends incident begins first order number last places below tips over : List ℕ} {next empty at slot : ℕ}
-    (c : Nexting ends incident begins first order number last places below tips over next empty at slot) where
+module _ {most : Limits} {ends incident begins first order number last places below tips over : List ℕ} {next empty at slot : ℕ}
+    (c : Nexting most ends incident begins first order number last places below tips over next empty at slot) where
   abbrev pub g : Graph
   g = graph (plan (c .n) ends)
 
@@ -121,7 +121,7 @@ module _ {ends incident begins first order number last places below tips over : 
           let v : b ≡ bottomOf tips m - 1 = omega (arith, q) in
           subst (λ (x : ℕ). Tips g t (read places) m x (bottomOf tips m - 1)) u (subst (λ (x : ℕ). Tips g t (read places) m a x) v s)
 
-      abbrev pub leaving : Leaving ends incident begins first number last places below over (topOf tips m - 1) (bottomOf tips m - 1)
+      abbrev pub leaving : Leaving most ends incident begins first number last places below over (topOf tips m - 1) (bottomOf tips m - 1)
       leaving = record {
         n = c .n;
         root = read order 0;
@@ -181,7 +181,7 @@ module _ {ends incident begins first order number last places below tips over : 
               let u = subst (λ (x : ℕ). k < read begins (x + 1)) (sym r) b in
               built-edge h (subst (λ (x : ℕ). read over x ≡ 0) p (elim (behind-or (read number v) k q s u) [ inl w ↦ w | inr w ↦ f (read number v) k w ]))
 
-      abbrev pub opening : Opening incident begins order over at slot
+      abbrev pub opening : Opening most incident begins order over at slot
       opening = record {
         n = c .n;
         ends = ends;
@@ -232,7 +232,7 @@ module _ {ends incident begins first order number last places below tips over : 
         pub over-room : read incident slot' < length over
         over-room = omega (arith, joins-edge (c .n) ends (read incident slot') (read order at') (slot-joins .0) (slot-joins .1), c .holds .over-long)
 
-        pub slot-small : read incident slot' < limits .edges
+        pub slot-small : read incident slot' < most .edges
         slot-small = omega (arith, joins-edge (c .n) ends (read incident slot') (read order at') (slot-joins .0) (slot-joins .1), c .ground .rooted .admitted .edges)
 
         pub opened-chosen : Chosen g t built (read over (read incident slot') - 1)

@@ -4,7 +4,7 @@ use mathlib.Core.List.{List}
 use Prim.Native.Nat.{ℕ, _+_, _≤_, _<_}
 use native.Mathlib.Omega.{arith}
 use lib.ListN.{length}
-use Rattle.connectivity.specs.Plan.{plan, graph, limits}
+use Rattle.connectivity.specs.Plan.{plan, graph, Limits}
 use Rattle.connectivity.specs.Walk.{Leg}
 use Rattle.tree.specs.Tree.{Child, Climb, there, on}
 use Rattle.tree.proofs.Above.{climb-once, climb-new, climb-end}
@@ -14,7 +14,7 @@ use Rattle.numbers.specs.Standing.{Rooted, treeOf}
 use Rattle.numbers.proofs.Marking.{far-same}
 use Rattle.record.specs.Ways.{Way, Path, there as path-there, up, Rises, nextUp}
 
-module _ {n root : ℕ} {ends first : List ℕ} {rank : ℕ → ℕ} (r : Rooted n ends root first rank) where
+module _ {most : Limits} {n root : ℕ} {ends first : List ℕ} {rank : ℕ → ℕ} (r : Rooted most n ends root first rank) where
   -- the parent, as the code has it
   pub parent-is : {v : ℕ} → Child (graph (plan n ends)) (treeOf n ends root first rank) v → (treeOf n ends root first rank) .parent v ≡ nextUp ends first v
   parent-is {v} c = far-same n ends _ v
@@ -39,14 +39,14 @@ module _ {n root : ℕ} {ends first : List ℕ} {rank : ℕ → ℕ} (r : Rooted
   climb-ranked (there s) = omega arith
   climb-ranked (on {v = v} c m k) = omega (arith, r .tree .falls v c, climb-ranks k, r .few v (c .vertex))
 
-  pub climb-short : {S : ℕ → Type 0} {v w : ℕ} {legs : List Leg} → Climb (graph (plan n ends)) (treeOf n ends root first rank) S v legs w → v < n → length legs ≤ limits .vertices
+  pub climb-short : {S : ℕ → Type 0} {v w : ℕ} {legs : List Leg} → Climb (graph (plan n ends)) (treeOf n ends root first rank) S v legs w → v < n → length legs ≤ most .vertices
   climb-short k h = omega (arith, climb-ranked k, r .admitted .vertices)
 
   pub climb-to-below : {S : ℕ → Type 0} {v w : ℕ} {legs : List Leg} → Climb (graph (plan n ends)) (treeOf n ends root first rank) S v legs w → v < n → w < n
   climb-to-below (there s) h = h
   climb-to-below (on {v = v} c m k) h = climb-to-below k (joins-below n ends _ v _ (r .tree .joins v c))
 
-  abbrev pub climb-way : {S : ℕ → Type 0} {v w : ℕ} {legs : List Leg} → Climb (graph (plan n ends)) (treeOf n ends root first rank) S v legs w → v < n → Way ends first v w
+  abbrev pub climb-way : {S : ℕ → Type 0} {v w : ℕ} {legs : List Leg} → Climb (graph (plan n ends)) (treeOf n ends root first rank) S v legs w → v < n → Way most ends first v w
   climb-way {legs = legs} k h = record {
     n = n;
     admitted = r .admitted;

@@ -6,7 +6,7 @@ use Prim.Native.Nat.{ℕ, _/_, _≤_}
 use native.Mathlib.Omega.{arith}
 use lib.ListN.{length, length-append}
 use Rattle.connectivity.specs.Lists.{Distinct}
-use Rattle.connectivity.specs.Plan.{plan, graph, limits}
+use Rattle.connectivity.specs.Plan.{plan, graph, Limits}
 use Rattle.connectivity.specs.Graph.{Graph, Edge, edges}
 use Rattle.connectivity.specs.Walk.{Leg, Walk, last, then, edgesOf, allEdges}
 use Rattle.connectivity.specs.Mader.{Steps, theta, mader}
@@ -31,7 +31,7 @@ pub steps-most : {g : Graph} {walks : List (List Leg)} → Steps g walks → len
 steps-most (theta {walks = walks} t) = walks-most walks (λ legs i. elim (t .between legs i) [ inl k ↦ walk-some k | inr k ↦ walk-some k ])
 steps-most (mader {walks = walks} {legs = legs} p k) = omega (arith, steps-most p, walk-some (k .walk), legs-edges legs, length-append (edgesOf legs) (allEdges walks))
 
-module _ {n : ℕ} {ends : List ℕ} (a : Admitted limits (plan n ends)) {walks : List (List Leg)} (p : Steps (graph (plan n ends)) walks) (d : Distinct (allEdges walks)) where
+module _ {most : Limits} {n : ℕ} {ends : List ℕ} (a : Admitted most (plan n ends)) {walks : List (List Leg)} (p : Steps (graph (plan n ends)) walks) (d : Distinct (allEdges walks)) where
   abbrev g : Graph
   g = graph (plan n ends)
 

@@ -6,7 +6,7 @@ use Prim.Native.Nat.{ℕ, _+_, _/_, _≤_, _<_}
 use native.Mathlib.Omega.{arith}
 use native.Mathlib.Decide.{ℕ-discrete, decLt}
 use lib.ListN.{length}
-use Rattle.connectivity.specs.Plan.{plan, graph}
+use Rattle.connectivity.specs.Plan.{plan, graph, Limits}
 use Rattle.connectivity.specs.Graph.{Graph, Joins}
 use Rattle.connectivity.proofs.Admission.{admitted-vertex}
 use Rattle.tree.specs.Tree.{Pointers, Child, Passing}
@@ -30,7 +30,7 @@ pub record Passed (ends incident first number : List ℕ) (end r from k : ℕ) :
 pub passed-start : (ends incident first number : List ℕ) (end r from : ℕ) → Passed ends incident first number end r from from
 passed-start ends incident first number end r from = record { least = omega arith; none = λ j a b. absurd (omega (arith, a, b)) }
 
-module _ {ends incident first number : List ℕ} {end r from k : ℕ} (c : Doors ends incident first number end r from)
+module _ {most : Limits} {ends incident first number : List ℕ} {end r from k : ℕ} (c : Doors most ends incident first number end r from)
     (p : Passed ends incident first number end r from k) where
   pub passed-below : k < read (c .begins) (r + 1)
   passed-below = elim (decLt k (read (c .begins) (r + 1))) [
@@ -50,7 +50,7 @@ module _ {ends incident first number : List ℕ} {end r from k : ℕ} (c : Doors
   pub edge-fits : read incident k < length ends / 2
   edge-fits = joins-edge (c .n) ends _ r (leads .0) (leads .1)
 
-  pub door-fits : DoorFits (read incident k) (farEnd ends (read incident k) r) (length first) (length number)
+  pub door-fits : DoorFits most (read incident k) (farEnd ends (read incident k) r) (length first) (length number)
   door-fits =
       let b : farEnd ends (read incident k) r < c .n = subst (λ (u : ℕ). u < c .n) (sym (far-end (c .n) ends _ r _ (leads .1))) (joins-below (c .n) ends _ r _ (leads .1)) in
       record {
@@ -74,7 +74,7 @@ passed-step {ends} {incident} {first} {number} {end} {r} {from} {k} p n = record
 
 -- The first child of the root, and the edges that lead past its first edge.
 
-module _ {n root : ℕ} {ends incident begins first order number last : List ℕ} {over : ℕ → ℕ} (s : Ground n root ends incident begins first number last over)
+module _ {most : Limits} {n root : ℕ} {ends incident begins first order number last : List ℕ} {over : ℕ → ℕ} (s : Ground most n root ends incident begins first number last over)
     (l : Listed n root order number) where
   abbrev g : Graph
   g = graph (plan n ends)
@@ -168,7 +168,7 @@ module _ {n root : ℕ} {ends incident begins first order number last : List ℕ
 
   abbrev doors : {from : ℕ} → read begins root ≤ from
       → (((k : ℕ) → from ≤ k → k < read begins (root + 1) → DoorAt ends incident first number (read last eldest) root k → ⊥) → ⊥)
-      → Doors ends incident first number (read last eldest) root from
+      → Doors most ends incident first number (read last eldest) root from
   doors h some = record {
     n = n;
     begins = begins;
@@ -182,7 +182,7 @@ module _ {n root : ℕ} {ends incident begins first order number last : List ℕ
   }
 
   -- there is one
-  abbrev pub some-door : Doors ends incident first number (read last eldest) root (read begins root)
+  abbrev pub some-door : Doors most ends incident first number (read last eldest) root (read begins root)
   some-door = doors (omega arith) (λ f. one-passing (s .rooted .tree) (s .three) eldest-child (λ e y w q. let (k, a, b, p, d) = passing-door q in f k a b d))
 
   module _ {i : ℕ} (o : NextDoor ends incident begins first number (read last eldest) root (read begins root) i) where
@@ -198,7 +198,7 @@ module _ {n root : ℕ} {ends incident begins first order number last : List ℕ
         same k h m = omega (arith, h, m)
 
     -- there is another behind it
-    abbrev pub other-door : Doors ends incident first number (read last eldest) root (i + 1)
+    abbrev pub other-door : Doors most ends incident first number (read last eldest) root (i + 1)
     other-door = doors (omega (arith, o .least))
         (λ f. two-passing (s .rooted .tree) (s .three) eldest-child (λ d e y w v z q r. only-door f q ∙ sym (only-door f r)))
 

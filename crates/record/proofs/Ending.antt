@@ -4,7 +4,7 @@ use mathlib.Core.List.{List}
 use Prim.Native.Nat.{ℕ, _≤_}
 use native.Mathlib.Omega.{arith}
 use lib.ListN.{length}
-use Rattle.connectivity.specs.Plan.{plan, graph}
+use Rattle.connectivity.specs.Plan.{plan, graph, Limits}
 use Rattle.connectivity.specs.Graph.{Graph}
 use Rattle.tree.specs.Tree.{Pointers, Tree}
 use Rattle.tree.specs.Filed.{Belows}
@@ -15,11 +15,11 @@ use Rattle.numbers.specs.Standing.{treeOf}
 use Rattle.record.specs.Linking.{topOf, bottomOf, Filing, Splitting, Parted, Ending, BothParted}
 
 -- a vertex has become a branch
-pub filing-parted : {n root : ℕ} {ends first : List ℕ} {rank : ℕ → ℕ} {below places tips : List ℕ} (places' tips' : List ℕ) {v next next' : ℕ}
-    → Filing n root ends first rank below places tips next → 1 ≤ read places v
+pub filing-parted : {most : Limits} {n root : ℕ} {ends first : List ℕ} {rank : ℕ → ℕ} {below places tips : List ℕ} (places' tips' : List ℕ) {v next next' : ℕ}
+    → Filing most n root ends first rank below places tips next → 1 ≤ read places v
     → Parted (graph (plan n ends)) (treeOf n ends root first rank) v next (read places) (read places') (topOf tips') (bottomOf tips') next'
     → length places' ≡ length places → length tips' ≡ length tips
-    → Filing n root ends first rank below places' tips' next'
+    → Filing most n root ends first rank below places' tips' next'
 filing-parted places' tips' f h p a b = record {
   rooted = f .rooted;
   shelved = marked-shelved (f .rooted .tree) (f .shelved) h (p .marked);
@@ -56,11 +56,11 @@ module _ {g : Graph} {t : Pointers} {v w next next' : ℕ} {place place' top' bo
   pub both-belows : {below : ℕ → ℕ} → Belows g t (λ y. 1 ≤ place y) place below → Belows g t (λ y. 1 ≤ place' y) place' below
   both-belows h = marked-belows tree middle-shelved (middle-on hw) (b .marked-two) (marked-belows tree f hv (b .marked-one) h)
 
-pub filing-both : {n root : ℕ} {ends first : List ℕ} {rank : ℕ → ℕ} {below places tips : List ℕ} (places' tips' : List ℕ) {v w next next' : ℕ}
-    → Filing n root ends first rank below places tips next → 1 ≤ read places v → 1 ≤ read places w
+pub filing-both : {most : Limits} {n root : ℕ} {ends first : List ℕ} {rank : ℕ → ℕ} {below places tips : List ℕ} (places' tips' : List ℕ) {v w next next' : ℕ}
+    → Filing most n root ends first rank below places tips next → 1 ≤ read places v → 1 ≤ read places w
     → BothParted (graph (plan n ends)) (treeOf n ends root first rank) v w next (read places) (read places') (topOf tips') (bottomOf tips') next'
     → length places' ≡ length places → length tips' ≡ length tips
-    → Filing n root ends first rank below places' tips' next'
+    → Filing most n root ends first rank below places' tips' next'
 filing-both places' tips' f hv hw b p q = record {
   rooted = f .rooted;
   shelved = both-shelved (f .rooted .tree) (f .shelved) hv hw b;
@@ -74,7 +74,7 @@ filing-both places' tips' f hv hw b p q = record {
 }
 
 -- from one to the other
-module _ {ends first below : List ℕ} {v w next : ℕ} {places tips : List ℕ} (c : Ending ends first below v w next places tips) where
+module _ {most : Limits} {ends first below : List ℕ} {v w next : ℕ} {places tips : List ℕ} (c : Ending most ends first below v w next places tips) where
   abbrev g : Graph
   g = graph (plan (c .splitting .n) ends)
 
@@ -83,13 +83,13 @@ module _ {ends first below : List ℕ} {v w next : ℕ} {places tips : List ℕ}
 
   module _ (places₁ tips₁ : List ℕ) {next₁ : ℕ} (one : Parted g t v next (read places) (read places₁) (topOf tips₁) (bottomOf tips₁) next₁)
       (same : (length places₁ ≡ length places) × (length tips₁ ≡ length tips)) where
-    pub filing-one : Filing (c .splitting .n) (c .splitting .root) ends first (c .splitting .rank) below places₁ tips₁ next₁
+    pub filing-one : Filing most (c .splitting .n) (c .splitting .root) ends first (c .splitting .rank) below places₁ tips₁ next₁
     filing-one = filing-parted places₁ tips₁ (c .splitting .filing) (c .splitting .built) one (same .0) (same .1)
 
     pub still-built : 1 ≤ read places₁ w
     still-built = marked-on (c .splitting .filing .rooted .tree) (c .splitting .filing .shelved) (c .splitting .built) (one .marked) (c .built)
 
-    abbrev pub splitting-two : Splitting ends first below w next₁ places₁ tips₁
+    abbrev pub splitting-two : Splitting most ends first below w next₁ places₁ tips₁
     splitting-two = record {
       n = c .splitting .n;
       root = c .splitting .root;

@@ -6,7 +6,7 @@ use Prim.Native.Nat.{ℕ, _-_, _/_, _≤_, _<_}
 use native.Mathlib.Omega.{arith}
 use native.Mathlib.Decide.{ℕ-discrete}
 use lib.ListN.{length}
-use Rattle.connectivity.specs.Plan.{plan, graph, limits}
+use Rattle.connectivity.specs.Plan.{plan, graph, Limits}
 use Rattle.connectivity.specs.Graph.{Graph, Joins}
 use Rattle.connectivity.specs.Reach.{ThreeEdgeConnected}
 use Rattle.connectivity.specs.Admission.{Admitted}
@@ -25,13 +25,14 @@ use Rattle.tree.specs.Tree as t
 use Rattle.tree.specs.Tree.{Pointers, Child, Tree}
 use Rattle.numbers.specs.Standing.{Rooted, Ordering, Numbered, Listed, Together, DepthFirst, treeOf}
 
-module _ {n : ℕ} {ends incident begins dead first₀ order₀ cursor₀ first order cursor : List ℕ} {count : ℕ} (tabled : Tabled limits (plan n ends) incident begins)
+module _ {most : Limits} (room : most .edges < rootMark) {n : ℕ} {ends incident begins dead first₀ order₀ cursor₀ first order cursor : List ℕ} {count : ℕ}
+    (tabled : Tabled most (plan n ends) incident begins)
     (three : ThreeEdgeConnected (graph (plan n ends))) (live : (e : ℕ) → Live dead e) (clear : (v : ℕ) → v < n → read first₀ v ≡ 0)
     (f : Found (Crossing (plan n ends) incident begins dead) n 0 0 first₀ order₀ cursor₀ first order cursor count) where
   abbrev g : Graph
   g = graph (plan n ends)
 
-  abbrev a : Admitted limits (plan n ends)
+  abbrev a : Admitted most (plan n ends)
   a = tabled .admitted
 
   abbrev root : ℕ
@@ -48,7 +49,7 @@ module _ {n : ℕ} {ends incident begins dead first₀ order₀ cursor₀ first 
   root-mark = ap (read first) root-is ∙ f .tree .top-mark
 
   few : length ends / 2 < rootMark
-  few = omega (arith, a .edges)
+  few = omega (arith, a .edges, room)
 
   -- All vertices are entered.
 
@@ -136,7 +137,7 @@ module _ {n : ℕ} {ends incident begins dead first₀ order₀ cursor₀ first 
       ];
     }
 
-    rooted : n ≤ length first → Rooted n ends root first (read number)
+    rooted : n ≤ length first → Rooted most n ends root first (read number)
     rooted x = record {
       admitted = a;
       tree = is-tree;
@@ -161,7 +162,7 @@ module _ {n : ℕ} {ends incident begins dead first₀ order₀ cursor₀ first 
         (subst (d.Above up (read order (p .0))) (sym (r .2)) (subst (λ (z : ℕ). d.Above up z w) (sym (p .2)) (from-above b))))))
 
     -- the mark of the root names no edge
-    pub depth-first : n ≤ length first → n ≤ length order → n ≤ length number → DepthFirst n ends first order number
+    pub depth-first : n ≤ length first → n ≤ length order → n ≤ length number → DepthFirst most n ends first order number
     depth-first x y z = record {
       rooted = rooted x;
       three = three;

@@ -7,18 +7,19 @@ use native.Mathlib.Omega.{arith}
 use lib.Dec.{ltb}
 use lib.ListN.{length}
 use borrow.Author.Tests.{lt-ltb, le-ltb}
+use Rattle.connectivity.specs.Plan.{Limits}
 use Rattle.graph.specs.Marks.{read}
 use Rattle.record.specs.Ways.{nextUp, Rises, Toward}
 use Rattle.record.proofs.Paths.{Onward, onward-at, onward-below, onward-rises, onward-step, ahead, ahead-less}
 
-abbrev pub HeadingAll : List ℕ → List ℕ → List ℕ → ℕ → ℕ → Type 0
-HeadingAll ends first marks v at = (c : Toward ends first marks v) → Onward (c .way) at
+abbrev pub HeadingAll : Limits → List ℕ → List ℕ → List ℕ → ℕ → ℕ → Type 0
+HeadingAll most ends first marks v at = (c : Toward most ends first marks v) → Onward (c .way) at
 
 -- how many legs are left to it
-abbrev pub toward : List ℕ → List ℕ → List ℕ → ℕ → ℕ
-toward ends first marks at = ahead ends first (λ u. ltb 0 (read marks u)) at
+abbrev pub toward : Limits → List ℕ → List ℕ → List ℕ → ℕ → ℕ
+toward most ends first marks at = ahead most ends first (λ u. ltb 0 (read marks u)) at
 
-module _ {ends first marks : List ℕ} {v at : ℕ} (c : Toward ends first marks v) (o : Onward (c .way) at) where
+module _ {most : Limits} {ends first marks : List ℕ} {v at : ℕ} (c : Toward most ends first marks v) (o : Onward (c .way) at) where
   pub heading-below : at < length marks
   heading-below = omega (arith, onward-below o, c .room)
 
@@ -35,6 +36,6 @@ module _ {ends first marks : List ℕ} {v at : ℕ} (c : Toward ends first marks
     pub heading-step : Onward (c .way) (nextUp ends first at)
     heading-step = onward-step o not-there
 
-    pub heading-less : toward ends first marks (nextUp ends first at) < toward ends first marks at
+    pub heading-less : toward most ends first marks (nextUp ends first at) < toward most ends first marks at
     heading-less = ahead-less o (λ u. ltb 0 (read marks u)) (λ u i. le-ltb 0 (read marks u) (omega (arith, c .plain u i)))
         (lt-ltb 0 (read marks (c .to)) (omega (arith, c .met))) not-there

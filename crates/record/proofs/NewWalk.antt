@@ -6,7 +6,7 @@ use Prim.Native.Nat.{ℕ, _+_, _*_, _≤_, _<_}
 use native.Mathlib.Omega.{arith}
 use lib.ListN.{length, set, length-set}
 use lib.Seq.{getD-set-same, getD-set-other}
-use Rattle.connectivity.specs.Plan.{plan, graph, limits}
+use Rattle.connectivity.specs.Plan.{plan, graph, Limits}
 use Rattle.connectivity.specs.Graph.{Graph}
 use Rattle.connectivity.specs.Walk.{Leg, froms, edgesOf}
 use Rattle.connectivity.proofs.Lists.{in-dec}
@@ -27,7 +27,7 @@ in-some : {x : ℕ} (legs : List Leg) → In x (froms legs) → 1 ≤ length leg
 in-some [] i = absurd (not-in i)
 in-some (l ∷ legs) i = omega arith
 
-module _ {ends first places below tips over : List ℕ} {e v stop next : ℕ} (c : Building ends first e v stop next places below tips over) where
+module _ {most : Limits} {ends first places below tips over : List ℕ} {e v stop next : ℕ} (c : Building most ends first e v stop next places below tips over) where
   abbrev pub g : Graph
   g = graph (plan (c .n) ends)
 
@@ -66,14 +66,14 @@ module _ {ends first places below tips over : List ℕ} {e v stop next : ℕ} (c
       away : {d : ℕ} → In d (edgesOf (c .legs)) → ⊥
       away {d} i = not-in (subst (λ (l : List Leg). In d (edgesOf l)) none i)
 
-  abbrev pub raising : Raising ends first v stop (length below) (length (set over e 0))
+  abbrev pub raising : Raising most ends first v stop (length below) (length (set over e 0))
   raising = record {
     way = climb-way (c .filing .rooted) (c .climb) (c .from);
     room = c .filing .roomy .below-long;
     edges = omega (arith, c .over-long, length-set over e 0);
   }
 
-  module _ (d : v ≡ stop → ⊥) (below' over' : List ℕ) (top : ℕ) (up : RaisedUp ends first v stop below (set over e 0) below' over' top) where
+  module _ (d : v ≡ stop → ⊥) (below' over' : List ℕ) (top : ℕ) (up : RaisedUp most ends first v stop below (set over e 0) below' over' top) where
     raised : Raised ends first (c .legs) stop (read below) (read (set over e 0)) (read below') (read over') top
     raised = up .2 raising
 
@@ -90,14 +90,14 @@ module _ {ends first places below tips over : List ℕ} {e v stop next : ℕ} (c
     top-up = parent-is (c .filing .rooted) (climb-child (c .filing .rooted .tree) (c .climb) top-on) ∙ raised .top-up some
 
     -- the top fits
-    pub top-below : top < limits .vertices
+    pub top-below : top < most .vertices
     top-below =
         omega (arith, vertex-below (c .n) ends top (climb-child (c .filing .rooted .tree) (c .climb) top-on .vertex), c .filing .rooted .admitted .vertices)
 
     low : (legs : List Leg) × Climb g t (λ z. z ≡ top) v legs top
     low = low-climb (c .filing .rooted .tree) (c .climb) top-on top-up
 
-    pub marking : Marking ends first v top (length places)
+    pub marking : Marking most ends first v top (length places)
     marking = record { way = climb-way (c .filing .rooted) (low .1) (c .from); room = c .filing .roomy .places-long }
 
     walked-noted : Noted t (read below) (read below') (c .legs)
@@ -109,7 +109,7 @@ module _ {ends first places below tips over : List ℕ} {e v stop next : ℕ} (c
         is-up : {y : ℕ} → In y (froms (c .legs)) → t .parent y ≡ nextUp ends first y
         is-up i = parent-is (c .filing .rooted) (climb-child (c .filing .rooted .tree) (c .climb) i)
 
-    module _ (places' : List ℕ) (marks : MarkedUp ends first v top next places places') where
+    module _ (places' : List ℕ) (marks : MarkedUp most ends first v top next places places') where
       walked-grown : Grown (read places) (read places') (c .legs) next
       unfolding marking low
       walked-grown = let m = marks .1 marking in let tree = c .filing .rooted .tree in grown-by

@@ -8,7 +8,7 @@ use native.Mathlib.Decide.{ℕ-discrete, decLe}
 use lib.ListN.{length, set, length-set}
 use lib.Seq.{getD-set-same, getD-set-other}
 use Rattle.connectivity.specs.Lists.{no-member}
-use Rattle.connectivity.specs.Plan.{plan, graph, limits}
+use Rattle.connectivity.specs.Plan.{plan, graph, Limits}
 use Rattle.connectivity.specs.Graph.{Graph}
 use Rattle.connectivity.specs.Walk.{Leg, froms, edgesOf}
 use Rattle.connectivity.proofs.Lists.{in-dec}
@@ -65,7 +65,7 @@ pub record Stands (n root : ℕ) (ends first : List ℕ) (rank whole : ℕ → �
   pub roomy : Roomy n below places tips
   pub over-long : length ends / 2 ≤ length over
 
-module _ {n root : ℕ} {ends first : List ℕ} {rank : ℕ → ℕ} {x f w d u : ℕ} (c : Climbs n root ends first rank x f w d u) where
+module _ {most : Limits} {n root : ℕ} {ends first : List ℕ} {rank : ℕ → ℕ} {x f w d u : ℕ} (c : Climbs most n root ends first rank x f w d u) where
   abbrev g : Graph
   g = graph (plan n ends)
 
@@ -75,7 +75,7 @@ module _ {n root : ℕ} {ends first : List ℕ} {rank : ℕ → ℕ} {x f w d u 
   module _ {B : ℕ → Type 0} {whole : ℕ → ℕ} {built places below tips over : List ℕ} {next v y e : ℕ} {legs : List Leg}
       (s : Stands n root ends first rank whole x B built places below tips over next) (kb : (z : ℕ) → Ends t x z → B z)
       (k : Climb g t B v legs y) (ky : Ends t x y) (hv : v < n) (he : e < length ends / 2) where
-    abbrev pub building : Building ends first e v y next places below tips over
+    abbrev pub building : Building most ends first e v y next places below tips over
     building = record {
       n = n;
       root = root;
@@ -98,7 +98,7 @@ module _ {n root : ℕ} {ends first : List ℕ} {rank : ℕ → ℕ} {x f w d u 
 
     -- one walk more
     stands-grown : (places' below' tips' over' : List ℕ) (next' : ℕ)
-        → WalkedBy ends first e v y next places below tips over places' below' tips' over' next'
+        → WalkedBy most ends first e v y next places below tips over places' below' tips' over' next'
         → (Grown (read places) (read places') legs next → Noted t (read below) (read below') legs → Belows g t (λ z. B z ⊎ In z (froms legs)) (read places') (read below'))
         → Stands n root ends first rank whole x (λ z. B z ⊎ In z (froms legs)) (e ∷ (edgesOf legs ++ built)) places' below' tips' over' next'
     stands-grown places' below' tips' over' next' b h = let m = b .4 building .0 in record {
@@ -115,15 +115,15 @@ module _ {n root : ℕ} {ends first : List ℕ} {rank : ℕ → ℕ} {x f w d u 
     }
 
     stands-next : UpClosed g t B → (places' below' tips' over' : List ℕ) (next' : ℕ)
-        → WalkedBy ends first e v y next places below tips over places' below' tips' over' next'
+        → WalkedBy most ends first e v y next places below tips over places' below' tips' over' next'
         → Stands n root ends first rank whole x (λ z. B z ⊎ In z (froms legs)) (e ∷ (edgesOf legs ++ built)) places' below' tips' over' next'
     stands-next up places' below' tips' over' next' b = stands-grown places' below' tips' over' next' b
         (λ grown noted. belows-grown (c .rooted .tree) (s .filed) kb k ky grown up (s .belows) noted)
 
 -- All three.
 
-module _ {ends first : List ℕ} {root x e p f w d u : ℕ} (places below tips over : List ℕ) (c : Raw ends first root x e p f w d u places below tips over) where
-  abbrev b : Climbs (c .n) root ends first (c .rank) x f w d u
+module _ {most : Limits} {ends first : List ℕ} {root x e p f w d u : ℕ} (places below tips over : List ℕ) (c : Raw most ends first root x e p f w d u places below tips over) where
+  abbrev b : Climbs most (c .n) root ends first (c .rank) x f w d u
   b = c .climbs
 
   abbrev gr : Graph
@@ -144,7 +144,7 @@ module _ {ends first : List ℕ} {root x e p f w d u : ℕ} (places below tips o
   pub p-fits : p < length below
   p-fits = omega (arith, p-below, c .roomy .below-long)
 
-  pub x-small : x < limits .vertices
+  pub x-small : x < most .vertices
   x-small = omega (arith, x-below b, b .rooted .admitted .vertices)
 
   -- the root and x are branches, and x is noted below its parent
@@ -261,7 +261,7 @@ module _ {ends first : List ℕ} {root x e p f w d u : ℕ} (places below tips o
 
   module _ {k next edge v stop : ℕ} {places-1 below-1 tips-1 over-1 : List ℕ} (s : Stage k places-1 below-1 tips-1 over-1 next) (h : k < 3)
       (a : WayAt k root x e p f w d u edge v stop) where
-    pub stage-building : Building ends first edge v stop next places-1 below-1 tips-1 over-1
+    pub stage-building : Building most ends first edge v stop next places-1 below-1 tips-1 over-1
     stage-building = elim s [
       | none q m _ ↦ let (i, j, l) = a .one q in rw (i, j, l) (building b m (λ z h. h) climb-1 (inl refl) p-below edge-1)
       | one q m ↦ let (i, j, l) = a .two q in rw (i, j, l) (building b m (λ z h. inl h) climb-2 (inr refl) (w-below b) (f-below b))
@@ -270,7 +270,7 @@ module _ {ends first : List ℕ} {root x e p f w d u : ℕ} (places below tips o
     ]
 
     pub stage-next : (places-2 below-2 tips-2 over-2 : List ℕ) (next-2 : ℕ)
-        → WalkedBy ends first edge v stop next places-1 below-1 tips-1 over-1 places-2 below-2 tips-2 over-2 next-2
+        → WalkedBy most ends first edge v stop next places-1 below-1 tips-1 over-1 places-2 below-2 tips-2 over-2 next-2
         → Stage (k + 1) places-2 below-2 tips-2 over-2 next-2
     stage-next places-2 below-2 tips-2 over-2 next-2 o = elim s [
       | none q m g ↦

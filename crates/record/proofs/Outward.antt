@@ -5,7 +5,7 @@ use mathlib.Core.List.{List, List·Memᴰ as In}
 use Prim.Native.Nat.{ℕ, zero, suc, _+_, _-_, _≤_, _<_}
 use native.Mathlib.Omega.{arith}
 use lib.ListN.{length}
-use Rattle.connectivity.specs.Plan.{plan, graph}
+use Rattle.connectivity.specs.Plan.{plan, graph, Limits}
 use Rattle.connectivity.specs.Graph.{Graph, Vertex, Joins}
 use Rattle.connectivity.specs.Walk.{allEdges}
 use Rattle.connectivity.proofs.Reach.{joins-sym, joins-vertex}
@@ -50,8 +50,8 @@ module _ {g : Graph} {t : Pointers} {last : ℕ → ℕ} {next from to : ℕ} (t
 
 -- The tables.
 
-module _ {ends incident begins first number last places below over : List ℕ} {top bottom : ℕ}
-    (c : Leaving ends incident begins first number last places below over top bottom) where
+module _ {most : Limits} {ends incident begins first number last places below over : List ℕ} {top bottom : ℕ}
+    (c : Leaving most ends incident begins first number last places below over top bottom) where
   abbrev g : Graph
   g = graph (plan (c .n) ends)
 

@@ -6,7 +6,7 @@ use Prim.Native.Nat.{ℕ, suc, _+_, _-_, _*_, _≤_, _<_}
 use native.Mathlib.Omega.{arith}
 use lib.ListN.{length, set, length-set}
 use lib.Seq.{getD-set-same, getD-set-other}
-use Rattle.connectivity.specs.Plan.{plan, graph, limits}
+use Rattle.connectivity.specs.Plan.{plan, graph, Limits}
 use Rattle.connectivity.specs.Graph.{Graph, Vertex}
 use Rattle.connectivity.specs.Walk.{Leg}
 use Rattle.tree.specs.Tree.{Pointers, Child, Above, Climb}
@@ -52,13 +52,13 @@ parted-by : {g : Graph} {t : Pointers} {v next : ℕ} {place after top' bottom' 
     → Parted g t v next place after top' bottom' next'
 parted-by b = record { marked = b .0; links = b .1; gone = b .2 }
 
-marking-as : {ends first : List ℕ} {a b x y size : ℕ} → a ≡ x → b ≡ y → Marking ends first a b size → Marking ends first x y size
-marking-as {ends} {first} {a} {y = y} {size} p q m =
-    subst (λ (u : ℕ). Marking ends first u y size) p (subst (λ (w : ℕ). Marking ends first a w size) q m)
+marking-as : {most : Limits} {ends first : List ℕ} {a b x y size : ℕ} → a ≡ x → b ≡ y → Marking most ends first a b size → Marking most ends first x y size
+marking-as {most} {ends} {first} {a} {y = y} {size} p q m =
+    subst (λ (u : ℕ). Marking most ends first u y size) p (subst (λ (w : ℕ). Marking most ends first a w size) q m)
 
-marked-as : {ends first : List ℕ} (before after : List ℕ) {a b x y m : ℕ} → a ≡ x → b ≡ y → MarkedUp ends first x y m before after → MarkedUp ends first a b m before after
-marked-as {ends} {first} before after {a} {y = y} {m = m} p q k =
-    subst (λ (w : ℕ). MarkedUp ends first a w m before after) (sym q) (subst (λ (u : ℕ). MarkedUp ends first u y m before after) (sym p) k)
+marked-as : {most : Limits} {ends first : List ℕ} (before after : List ℕ) {a b x y m : ℕ} → a ≡ x → b ≡ y → MarkedUp most ends first x y m before after → MarkedUp most ends first a b m before after
+marked-as {most} {ends} {first} before after {a} {y = y} {m = m} p q k =
+    subst (λ (w : ℕ). MarkedUp most ends first a w m before after) (sym q) (subst (λ (u : ℕ). MarkedUp most ends first u y m before after) (sym p) k)
 
 -- What `cut` answers, of the vertex above that it has found.
 
@@ -71,7 +71,7 @@ cut-between {v} {top} {bottom} {down} up r t b h l e k m o = subst (λ (x : ℕ)
 
 -- What `split` reads.
 
-module _ {ends first below places tips : List ℕ} {v next : ℕ} (c : Splitting ends first below v next places tips) where
+module _ {most : Limits} {ends first below places tips : List ℕ} {v next : ℕ} (c : Splitting most ends first below v next places tips) where
   abbrev here : Graph
   here = graph (plan (c .n) ends)
 
@@ -84,17 +84,17 @@ module _ {ends first below places tips : List ℕ} {v next : ℕ} (c : Splitting
   at-v : Vertex here v
   at-v = below-vertex (c .n) ends v (c .vertex)
 
-  most : next ≤ c .n + 2
-  most = omega (arith, links-most (c .filing .links), bound-is (c .n) ends)
+  next-most : next ≤ c .n + 2
+  next-most = omega (arith, links-most (c .filing .links), bound-is (c .n) ends)
 
   pub own-room : 2 * own + 2 ≤ length tips
-  own-room = omega (arith, most, c .filing .links .below v, c .filing .roomy .tips-long)
+  own-room = omega (arith, next-most, c .filing .links .below v, c .filing .roomy .tips-long)
 
-  pub own-small : own < limits .vertices + 2
-  own-small = omega (arith, most, c .filing .links .below v, c .filing .rooted .admitted .vertices)
+  pub own-small : own < most .vertices + 2
+  own-small = omega (arith, next-most, c .filing .links .below v, c .filing .rooted .admitted .vertices)
 
-  pub next-small : next ≤ limits .vertices + 2
-  next-small = omega (arith, most, c .filing .rooted .admitted .vertices)
+  pub next-small : next ≤ most .vertices + 2
+  next-small = omega (arith, next-most, c .filing .rooted .admitted .vertices)
 
   old : own ≡ next → ⊥
   old p = omega (arith, p, c .filing .links .below v)
@@ -138,11 +138,11 @@ module _ {ends first below places tips : List ℕ} {v next : ℕ} (c : Splitting
     low-is = omega (arith, tips-of .at-low)
 
     -- the ways from v up to the top, and from the bottom up to v
-    upper-whole : Way ends first v (topOf tips own - 1)
-    upper-whole = subst (Way ends first v) high-is (climb-way (c .filing .rooted) (way-up (tips-of .tips .highest v refl) .1) (c .vertex))
+    upper-whole : Way most ends first v (topOf tips own - 1)
+    upper-whole = subst (Way most ends first v) high-is (climb-way (c .filing .rooted) (way-up (tips-of .tips .highest v refl) .1) (c .vertex))
 
-    lower-whole : Way ends first (bottomOf tips own - 1) v
-    lower-whole = subst (λ (w : ℕ). Way ends first w v) low-is (climb-way (c .filing .rooted) (way-up (tips-of .tips .lowest v refl) .1) (tip-below .1))
+    lower-whole : Way most ends first (bottomOf tips own - 1) v
+    lower-whole = subst (λ (w : ℕ). Way most ends first w v) low-is (climb-way (c .filing .rooted) (way-up (tips-of .tips .lowest v refl) .1) (tip-below .1))
 
     -- v is not the top
     module _ (m : v + 1 ≡ topOf tips own → ⊥) where
@@ -158,7 +158,7 @@ module _ {ends first below places tips : List ℕ} {v next : ℕ} (c : Splitting
       up-below : stem .parent v < c .n
       up-below = vertex-below (c .n) ends _ (parent-vertex (c .filing .rooted .tree) child)
 
-    pub split-cutting : Cutting ends first below v (topOf tips own) (bottomOf tips own)
+    pub split-cutting : Cutting most ends first below v (topOf tips own) (bottomOf tips own)
     split-cutting = record {
       small = omega (arith, c .vertex, c .filing .rooted .admitted .vertices);
       below-long = omega (arith, c .vertex, c .filing .roomy .below-long);
@@ -209,14 +209,14 @@ module _ {ends first below places tips : List ℕ} {v next : ℕ} (c : Splitting
       abbrev upper : (legs : List Leg) × Climb here stem (λ y. y ≡ tips-of .high) (stem .parent v) legs (tips-of .high)
       upper = way-up (strictly-above (tips-of .tips .highest v refl) (λ p. under m (sym p)))
 
-      abbrev upper-marking : Marking ends first (stem .parent v) (tips-of .high) (length (set places v 1))
+      abbrev upper-marking : Marking most ends first (stem .parent v) (tips-of .high) (length (set places v 1))
       upper-marking = record { way = climb-way (c .filing .rooted) (upper .1) (up-below m); room = places-long }
 
       -- and from the bottom to below v
       abbrev lower : (legs : List Leg) × Climb here stem (λ y. y ≡ down .0) (tips-of .low) legs (down .0)
       lower = way-up (tips-of .tips .lowest (down .0) (down .4))
 
-      abbrev lower-marking : Marking ends first (tips-of .low) (down .0) (length (set places v 1))
+      abbrev lower-marking : Marking most ends first (tips-of .low) (down .0) (length (set places v 1))
       lower-marking = record { way = climb-way (c .filing .rooted) (lower .1) (tip-below .1); room = places-long }
 
       down-is : down .0 ≡ read below v - 1
@@ -225,10 +225,10 @@ module _ {ends first below places tips : List ℕ} {v next : ℕ} (c : Splitting
       above-is : stem .parent v ≡ nextUp ends first v + 1 - 1
       above-is = omega (arith, up-is m)
 
-      upper-way : Marking ends first (nextUp ends first v + 1 - 1) (topOf tips own - 1) (length (set places v 1))
+      upper-way : Marking most ends first (nextUp ends first v + 1 - 1) (topOf tips own - 1) (length (set places v 1))
       upper-way = marking-as above-is high-is upper-marking
 
-      lower-way : Marking ends first (bottomOf tips own - 1) (read below v - 1) (length (set places v 1))
+      lower-way : Marking most ends first (bottomOf tips own - 1) (read below v - 1) (length (set places v 1))
       lower-way = marking-as low-is down-is lower-marking
 
       abbrev x : ℕ
@@ -260,7 +260,7 @@ module _ {ends first below places tips : List ℕ} {v next : ℕ} (c : Splitting
       new-bottom a b h l = bottom-same (withTips tips own a b) next h l (new-room a b)
 
       module _ (places' : List ℕ) where
-        after-upper : MarkedUp ends first (u - 1) (y - 1) next (set places v 1) places'
+        after-upper : MarkedUp most ends first (u - 1) (y - 1) next (set places v 1) places'
             → Parted here stem v next (read places) (read places') (topOf (withTips (withTips tips own x z) next y u))
             (bottomOf (withTips (withTips tips own x z) next y u)) (next + 1)
         after-upper k = parted-by (part-upper lying
@@ -271,7 +271,7 @@ module _ {ends first below places tips : List ℕ} {v next : ℕ} (c : Splitting
             (new-top x z y u ∙ tips-of .at-high)
             (new-bottom x z y u ∙ omega (arith, up-is m)))
 
-        after-lower : MarkedUp ends first (z - 1) (x - 1) next (set places v 1) places'
+        after-lower : MarkedUp most ends first (z - 1) (x - 1) next (set places v 1) places'
             → Parted here stem v next (read places) (read places') (topOf (withTips (withTips tips own y u) next x z))
             (bottomOf (withTips (withTips tips own y u) next x z)) (next + 1)
         after-lower k = parted-by (part-lower lying
@@ -282,14 +282,14 @@ module _ {ends first below places tips : List ℕ} {v next : ℕ} (c : Splitting
             (new-top y u x z ∙ down .3)
             (new-bottom y u x z ∙ tips-of .at-low))
 
-    pub split-new : {t b h l : ℕ} → Cuts t b h l → (h ≡ 0 → ⊥) → (next < c .n + 2) × (1 ≤ l) × Marking ends first (l - 1) (h - 1) (length (set places v 1))
+    pub split-new : {t b h l : ℕ} → Cuts t b h l → (h ≡ 0 → ⊥) → (next < c .n + 2) × (1 ≤ l) × Marking most ends first (l - 1) (h - 1) (length (set places v 1))
     split-new (whole p q) z = absurd (z refl)
     split-new (off-top p o) z = absurd (z refl)
     split-new (off-bottom m q) z = absurd (z refl)
     split-new (off-upper m o) z = (room m o, omega arith, upper-way m o)
     split-new (off-lower m o) z = (room m o, omega (arith, tips-of .at-low), lower-way m o)
 
-    split-after : (places' : List ℕ) {t b h l : ℕ} → Cuts t b h l → (h ≡ 0 → ⊥) → MarkedUp ends first (l - 1) (h - 1) next (set places v 1) places'
+    split-after : (places' : List ℕ) {t b h l : ℕ} → Cuts t b h l → (h ≡ 0 → ⊥) → MarkedUp most ends first (l - 1) (h - 1) next (set places v 1) places'
         → Parted here stem v next (read places) (read places') (topOf (withTips (withTips tips own t b) next h l))
         (bottomOf (withTips (withTips tips own t b) next h l)) (next + 1)
     split-after places' (whole p q) z k = absurd (z refl)
@@ -300,17 +300,17 @@ module _ {ends first below places tips : List ℕ} {v next : ℕ} (c : Splitting
 
 -- What `split` promises.
 
-module _ {ends first below places tips : List ℕ} {v next : ℕ} where
-  pub split-already : read places v ≡ 1 → PartedBy ends first below v next places tips places tips next
+module _ {most : Limits} {ends first below places tips : List ℕ} {v next : ℕ} where
+  pub split-already : read places v ≡ 1 → PartedBy most ends first below v next places tips places tips next
   split-already p = (refl, refl, λ c. (record { marked = already p (λ y. refl); links = c .filing .links; gone = λ m h i none. none }, omega arith))
 
   module _ (t b h l : ℕ) (n : read places v ≡ 1 → ⊥)
       (d : CutAt v (topOf tips (read places v)) (bottomOf tips (read places v)) (nextUp ends first v + 1) (read below v) t b h l) where
-    pub split-old : h ≡ 0 → PartedBy ends first below v next places tips (set places v 1) (withTips tips (read places v) t b) next
+    pub split-old : h ≡ 0 → PartedBy most ends first below v next places tips (set places v 1) (withTips tips (read places v) t b) next
     split-old z = (length-set places v 1, tips-length tips (read places v) t b, λ c. (split-kept c n d z, omega arith))
 
-    pub split-more : (places' : List ℕ) → (h ≡ 0 → ⊥) → MarkedUp ends first (l - 1) (h - 1) next (set places v 1) places'
-        → PartedBy ends first below v next places tips places' (withTips (withTips tips (read places v) t b) next h l) (next + 1)
+    pub split-more : (places' : List ℕ) → (h ≡ 0 → ⊥) → MarkedUp most ends first (l - 1) (h - 1) next (set places v 1) places'
+        → PartedBy most ends first below v next places tips places' (withTips (withTips tips (read places v) t b) next h l) (next + 1)
     split-more places' z k = (
       k .0 ∙ length-set places v 1,
       tips-length (withTips tips (read places v) t b) next h l ∙ tips-length tips (read places v) t b,

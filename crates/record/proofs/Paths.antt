@@ -8,7 +8,7 @@ use native.Mathlib.Omega.{arith}
 use lib.Dec.{eqb}
 use lib.ListN.{length, length-append}
 use borrow.Author.Tests.{eq-eqb, ne-eqb}
-use Rattle.connectivity.specs.Plan.{plan, graph, limits}
+use Rattle.connectivity.specs.Plan.{plan, graph, Limits}
 use Rattle.connectivity.specs.Graph.{Graph}
 use Rattle.connectivity.specs.Walk.{Leg, froms}
 use Rattle.connectivity.specs.Lists.{Distinct}
@@ -88,24 +88,24 @@ steps-path n ends marks done (suc k) (up {v = v} {p = p} {legs = legs} h j q) f 
     ∙ ap suc (ap (steps done (nextUp ends marks) k) (far-end n ends _ v p j) ∙ steps-path n ends marks done k q (λ u i. f u (later i)) t (omega (arith, l)))
 
 -- how many legs are left to a vertex that passes a test
-abbrev pub ahead : List ℕ → List ℕ → (ℕ → Bool) → ℕ → ℕ
-ahead ends first test at = steps test (nextUp ends first) (limits .vertices) at
+abbrev pub ahead : Limits → List ℕ → List ℕ → (ℕ → Bool) → ℕ → ℕ
+ahead most ends first test at = steps test (nextUp ends first) (most .vertices) at
 
 -- and to `stop`
-abbrev pub left : List ℕ → List ℕ → ℕ → ℕ → ℕ
-left ends first stop at = ahead ends first (λ u. eqb u stop) at
+abbrev pub left : Limits → List ℕ → List ℕ → ℕ → ℕ → ℕ
+left most ends first stop at = ahead most ends first (λ u. eqb u stop) at
 
 -- The legs up to `at` are done, those from there on are left.
-pub record Onward {ends first : List ℕ} {v stop : ℕ} (w : Way ends first v stop) (at : ℕ) : Type 0 where
+pub record Onward {most : Limits} {ends first : List ℕ} {v stop : ℕ} (w : Way most ends first v stop) (at : ℕ) : Type 0 where
   pub done : List Leg
   pub rest : List Leg
   pub whole : w .legs ≡ done ++ rest
   pub path : Path (graph (plan (w .n) ends)) (read first) at rest stop
 
-abbrev pub onward-start : {ends first : List ℕ} {v stop : ℕ} (w : Way ends first v stop) → Onward w v
+abbrev pub onward-start : {most : Limits} {ends first : List ℕ} {v stop : ℕ} (w : Way most ends first v stop) → Onward w v
 onward-start w = record { done = []; rest = w .legs; whole = refl; path = w .path }
 
-module _ {ends first : List ℕ} {v stop at : ℕ} {w : Way ends first v stop} (o : Onward w at) where
+module _ {most : Limits} {ends first : List ℕ} {v stop at : ℕ} {w : Way most ends first v stop} (o : Onward w at) where
   on-whole : froms (w .legs) ≡ froms (o .done) ++ froms (o .rest)
   on-whole = ap froms (o .whole) ∙ froms-append (o .done) (o .rest)
 
@@ -164,15 +164,15 @@ module _ {ends first : List ℕ} {v stop at : ℕ} {w : Way ends first v stop} (
     }
 
   -- how many legs are left, if a test tells the end
-  ahead-is : (test : ℕ → Bool) → ((u : ℕ) → In u (froms (w .legs)) → test u ≡ false) → test stop ≡ true → ahead ends first test at ≡ length (o .rest)
-  ahead-is test f t = steps-path (w .n) ends first test (limits .vertices) (o .path) (λ u i. f u (rest-on i)) t (omega (arith, w .short, onward-sum))
+  ahead-is : (test : ℕ → Bool) → ((u : ℕ) → In u (froms (w .legs)) → test u ≡ false) → test stop ≡ true → ahead most ends first test at ≡ length (o .rest)
+  ahead-is test f t = steps-path (w .n) ends first test (most .vertices) (o .path) (λ u i. f u (rest-on i)) t (omega (arith, w .short, onward-sum))
 
-pub ahead-less : {ends first : List ℕ} {v stop at : ℕ} {w : Way ends first v stop} (o : Onward w at) (test : ℕ → Bool)
+pub ahead-less : {most : Limits} {ends first : List ℕ} {v stop at : ℕ} {w : Way most ends first v stop} (o : Onward w at) (test : ℕ → Bool)
     → ((u : ℕ) → In u (froms (w .legs)) → test u ≡ false) → test stop ≡ true → (at ≡ stop → ⊥)
-    → ahead ends first test (nextUp ends first at) < ahead ends first test at
+    → ahead most ends first test (nextUp ends first at) < ahead most ends first test at
 ahead-less o test f t d = omega (arith, ahead-is o test f t, ahead-is (onward-step o d) test f t, ap length (onward-next o d .same))
 
-pub left-less : {ends first : List ℕ} {v stop at : ℕ} {w : Way ends first v stop} (o : Onward w at) → (at ≡ stop → ⊥)
-    → left ends first stop (nextUp ends first at) < left ends first stop at
+pub left-less : {most : Limits} {ends first : List ℕ} {v stop at : ℕ} {w : Way most ends first v stop} (o : Onward w at) → (at ≡ stop → ⊥)
+    → left most ends first stop (nextUp ends first at) < left most ends first stop at
 left-less {stop = stop} {w = w} o d =
     ahead-less o (λ u. eqb u stop) (λ u i. ne-eqb u stop (λ p. w .apart (Memᴰ·cast (sym p) i))) (eq-eqb stop stop refl) d

@@ -4,7 +4,7 @@ use mathlib.Core.List.{List, _∷_, _++_, Memᴰ·append-right as in-right}
 use Prim.Native.Nat.{ℕ, _+_, _-_, _*_, _/_, _≤_, _<_}
 use native.Mathlib.Omega.{arith}
 use lib.ListN.{length, take, drop, length-append}
-use Rattle.connectivity.specs.Plan.{plan, graph, limits}
+use Rattle.connectivity.specs.Plan.{plan, graph, Limits}
 use Rattle.connectivity.specs.Walk.{Leg, edgesOf, allEdges}
 use Rattle.connectivity.specs.Mader.{rows, stepRows}
 use Rattle.connectivity.proofs.Legs.{legs-edges}
@@ -23,8 +23,8 @@ use Rattle.record.proofs.Stepping.{stepped-by}
 use Rattle.record.proofs.Counting.{steps-most, done-most, done-all}
 
 -- what is written so far
-module _ {n root : ℕ} {ends first : List ℕ} {rank whole : ℕ → ℕ} {walks : List (List Leg)} {before now places below tips over : List ℕ} {row step next : ℕ}
-    (rooted : Rooted n ends root first rank) (r : Recording n root ends first rank whole walks before now places below tips over row step next) where
+module _ {most : Limits} {n root : ℕ} {ends first : List ℕ} {rank whole : ℕ → ℕ} {walks : List (List Leg)} {before now places below tips over : List ℕ} {row step next : ℕ}
+    (rooted : Rooted most n ends root first rank) (r : Recording n root ends first rank whole walks before now places below tips over row step next) where
   pub rows-long : length (rows walks) ≡ 3 * row
   rows-long = omega (arith, rows-length walks, r .row-is)
 
@@ -38,12 +38,12 @@ module _ {n root : ℕ} {ends first : List ℕ} {rank whole : ℕ → ℕ} {walk
   step-most = omega (arith, r .row-is, r .step-is, steps-most (r .holds .state .along .steps))
 
 -- one step more
-module _ {ends first number : List ℕ} {f row step next : ℕ} {places below tips over now : List ℕ}
-    (c : Adding ends first number f row step next places below tips over now) where
+module _ {most : Limits} {ends first number : List ℕ} {f row step next : ℕ} {places below tips over now : List ℕ}
+    (c : Adding most ends first number f row step next places below tips over now) where
   pub row-room : 3 * row ≤ length now
   row-room = omega (arith, row-most (c .rooted) (c .recording), now-long (c .rooted) (c .recording), c .recording .fits)
 
-  abbrev pub stepping : Stepping ends first number f next places below tips over (length (take (length now - 3 * row) (drop (3 * row) now)))
+  abbrev pub stepping : Stepping most ends first number f next places below tips over (length (take (length now - 3 * row) (drop (3 * row) now)))
   stepping = record {
     n = c .n;
     root = c .root;
@@ -86,16 +86,16 @@ module _ {ends first number : List ℕ} {f row step next : ℕ} {places below ti
     }
 
 -- a step, part after part
-module _ {ends first number : List ℕ} {f row step next : ℕ} {places below tips over now : List ℕ} (count : ℕ) (places₂ tips₂ places₃ below₃ tips₃ over₃ part : List ℕ) {s w x next₂ next₃ : ℕ}
-    (p : s ≡ upperEnd ends number f) (q : w ≡ farEnd ends f s) (m : MetFirst ends first places w x)
-    (r : OverUp ends first f s w x step (take (length now - 3 * row) (drop (3 * row) now)) part count)
-    (e : BothBy ends first below s x next places tips places₂ tips₂ next₂)
-    (k : WalkedBy ends first f w x next₂ places₂ below tips₂ over places₃ below₃ tips₃ over₃ next₃)
-    (c : Adding ends first number f row step next places below tips over now) where
+module _ {most : Limits} {ends first number : List ℕ} {f row step next : ℕ} {places below tips over now : List ℕ} (count : ℕ) (places₂ tips₂ places₃ below₃ tips₃ over₃ part : List ℕ) {s w x next₂ next₃ : ℕ}
+    (p : s ≡ upperEnd ends number f) (q : w ≡ farEnd ends f s) (m : MetFirst most ends first places w x)
+    (r : OverUp most ends first f s w x step (take (length now - 3 * row) (drop (3 * row) now)) part count)
+    (e : BothBy most ends first below s x next places tips places₂ tips₂ next₂)
+    (k : WalkedBy most ends first f w x next₂ places₂ below tips₂ over places₃ below₃ tips₃ over₃ next₃)
+    (c : Adding most ends first number f row step next places below tips over now) where
   taken : Stepped (c .n) (c .root) ends first (read number) (c .whole) (c .walks) step next (take (length now - 3 * row) (drop (3 * row) now)) part places places₃ below₃ tips₃ over₃ count next₃
   taken = stepped-by step count (take (length now - 3 * row) (drop (3 * row) now)) places₂ tips₂ places₃ below₃ tips₃ over₃ part p q m r e k (stepping c)
 
-  pub path-fits : (row + count ≤ limits .edges) × (step + 1 ≤ limits .edges)
+  pub path-fits : (row + count ≤ most .edges) × (step + 1 ≤ most .edges)
   path-fits = (
     omega (arith, row-then c part places₃ below₃ tips₃ over₃ taken, c .rooted .admitted .edges),
     omega (arith, step-then c part places₃ below₃ tips₃ over₃ taken, c .rooted .admitted .edges),
@@ -107,8 +107,8 @@ module _ {ends first number : List ℕ} {f row step next : ℕ} {places below ti
 
 -- Step after step.
 
-module _ {n : ℕ} {ends incident begins first order number last : List ℕ} {whole : ℕ → ℕ} {before now places below tips over : List ℕ} {row step next empty at slot : ℕ}
-    (r : Going n ends incident begins first order number last whole before now places below tips over row step next empty at slot) where
+module _ {most : Limits} {n : ℕ} {ends incident begins first order number last : List ℕ} {whole : ℕ → ℕ} {before now places below tips over : List ℕ} {row step next empty at slot : ℕ}
+    (r : Going most n ends incident begins first order number last whole before now places below tips over row step next empty at slot) where
   pub going-most : row ≤ length ends / 2
   going-most = row-most (r .ground .rooted) (r .recording)
 
@@ -117,7 +117,7 @@ module _ {n : ℕ} {ends incident begins first order number last : List ℕ} {wh
 
   -- an edge is left
   module _ (left : row < length ends / 2) where
-    abbrev pub nexting : Nexting ends incident begins first order number last places below tips over next empty at slot
+    abbrev pub nexting : Nexting most ends incident begins first order number last places below tips over next empty at slot
     nexting = record {
       n = n;
       whole = whole;
@@ -130,7 +130,7 @@ module _ {n : ℕ} {ends incident begins first order number last : List ℕ} {wh
     }
 
     module _ {f : ℕ} (h : Chosen (graph (plan n ends)) (treeOf n ends (read order 0) first (read number)) (allEdges (r .walks)) f) where
-      abbrev pub adding : Adding ends first number f row step next places below tips over now
+      abbrev pub adding : Adding most ends first number f row step next places below tips over now
       adding = record {
         n = n;
         root = read order 0;
@@ -147,7 +147,7 @@ module _ {n : ℕ} {ends incident begins first order number last : List ℕ} {wh
     pub going-then : {places' : List ℕ} (below' tips' over' now' : List ℕ) {empty' at' slot' row' step' next' : ℕ}
         → Behind n (read incident) (read begins) (read order) (read places) (read over) next empty' at' slot'
         → Added n (read order 0) ends first (read number) whole (r .walks) before now' places places' below' tips' over' row next row' step' next'
-        → Going n ends incident begins first order number last whole before now' places' below' tips' over' row' step' next' empty' at' slot'
+        → Going most n ends incident begins first order number last whole before now' places' below' tips' over' row' step' next' empty' at' slot'
     going-then {places'} below' tips' over' now' b a = record {
       ground = r .ground;
       listing = r .listing;
@@ -182,8 +182,8 @@ module _ {n : ℕ} {ends incident begins first order number last : List ℕ} {wh
   }
 
 -- the cursors at first
-module _ {ends incident begins first order number last places below tips over now : List ℕ} {row step next : ℕ}
-    (c : Finishing ends incident begins first order number last places below tips over now row step next) where
+module _ {most : Limits} {ends incident begins first order number last places below tips over now : List ℕ} {row step next : ℕ}
+    (c : Finishing most ends incident begins first order number last places below tips over now row step next) where
   some-vertex : 0 < c .n
   some-vertex = omega (arith, c .ground .rooted .admitted .two)
 
@@ -197,7 +197,7 @@ module _ {ends incident begins first order number last places below tips over no
   begins-room = omega (arith, top-below, c .ground .grouped .room)
 
   pub going-first : {empty at slot : ℕ} → empty ≡ 2 → at ≡ 0 → slot ≡ read begins (read order 0)
-      → Going (c .n) ends incident begins first order number last (c .whole) (c .before) now places below tips over row step next empty at slot
+      → Going most (c .n) ends incident begins first order number last (c .whole) (c .before) now places below tips over row step next empty at slot
   going-first {empty} {at} {slot} p q u = record {
     ground = c .ground;
     listing = c .listing;

@@ -7,6 +7,7 @@ use native.Mathlib.Omega.{arith}
 use native.Mathlib.Decide.{ℕ-discrete}
 use lib.ListN.{length, set, take, drop, length-append, length-set}
 use lib.Seq.{getD-set-same, getD-set-other}
+use Rattle.connectivity.specs.Plan.{Limits}
 use Rattle.connectivity.specs.Walk.{Leg, froms, edgesOf}
 use Rattle.connectivity.specs.Mader.{stepRows}
 use Rattle.connectivity.proofs.Legs.{leg, edges-snoc}
@@ -19,19 +20,19 @@ use Rattle.record.proofs.Paths.{Onward, onward-start, onward-sum, onwar
 
 -- Rows.
 
-pub record Rising {ends first : List ℕ} {v stop : ℕ} (w : Way ends first v stop) (step : ℕ) (before now : List ℕ) (at count : ℕ) : Type 0 where
+pub record Rising {most : Limits} {ends first : List ℕ} {v stop : ℕ} (w : Way most ends first v stop) (step : ℕ) (before now : List ℕ) (at count : ℕ) : Type 0 where
   pub on : Onward w at
   pub counted : count ≡ length (on .done)
   pub written : Written (stepRows step (on .done)) before now
 
-abbrev pub RisingAll : List ℕ → List ℕ → ℕ → ℕ → ℕ → List ℕ → List ℕ → ℕ → ℕ → Type 0
-RisingAll ends first v stop step before now at count =
-    (c : Climbing ends first v stop (length before)) → Rising (c .way) step before now at count
+abbrev pub RisingAll : Limits → List ℕ → List ℕ → ℕ → ℕ → ℕ → List ℕ → List ℕ → ℕ → ℕ → Type 0
+RisingAll most ends first v stop step before now at count =
+    (c : Climbing most ends first v stop (length before)) → Rising (c .way) step before now at count
 
-pub rising-start : (ends first before : List ℕ) (v stop step : ℕ) → RisingAll ends first v stop step before before v 0
+pub rising-start : {most : Limits} (ends first before : List ℕ) (v stop step : ℕ) → RisingAll most ends first v stop step before before v 0
 rising-start ends first before v stop step = λ c. record { on = onward-start (c .way); counted = refl; written = written-none before }
 
-module _ {ends first before now : List ℕ} {v stop step at count : ℕ} {w : Way ends first v stop} (r : Rising w step before now at count) where
+module _ {most : Limits} {ends first before now : List ℕ} {v stop step at count : ℕ} {w : Way most ends first v stop} (r : Rising w step before now at count) where
   pub rising-length : 3 * length (w .legs) ≤ length before → length now ≡ length before
   rising-length f = written-length (stepRows step (r .on .done)) before now (r .written) (omega (arith, step-length step (r .on .done), onward-sum (r .on), f))
 
@@ -58,7 +59,7 @@ module _ {ends first before now : List ℕ} {v stop step at count : ℕ} {w : Wa
 
 -- Over e from x, and up.
 
-module _ {ends first : List ℕ} {v stop : ℕ} (before : List ℕ) (e x step : ℕ) (c : OneMore ends first v stop (length before)) where
+module _ {most : Limits} {ends first : List ℕ} {v stop : ℕ} (before : List ℕ) (e x step : ℕ) (c : OneMore most ends first v stop (length before)) where
   abbrev opened : List ℕ
   opened = withRow before 0 step e x
 
@@ -68,10 +69,10 @@ module _ {ends first : List ℕ} {v stop : ℕ} (before : List ℕ) (e x step : 
   pub open-long : length opened ≡ length before
   open-long = written-length (step ∷ (e ∷ (x ∷ []))) before opened open-row (omega (arith, c .fits))
 
-  abbrev pub over-climb : Climbing ends first v stop (length (take (length opened - 3) (drop 3 opened)))
+  abbrev pub over-climb : Climbing most ends first v stop (length (take (length opened - 3) (drop 3 opened)))
   over-climb = record { way = c .way; fits = omega (arith, part-long opened 3, open-long, c .fits) }
 
-  pub over-up : (part : List ℕ) (count : ℕ) → Climbed ends first v stop step (take (length opened - 3) (drop 3 opened)) part count
+  pub over-up : (part : List ℕ) (count : ℕ) → Climbed most ends first v stop step (take (length opened - 3) (drop 3 opened)) part count
       → Written (stepRows step (leg e x ∷ c .way .legs)) before (take 3 opened ++ (part ++ drop (length opened - 3) (drop 3 opened)))
       × (count + 1 ≡ length (c .way .legs) + 1)
   over-up part count u =
@@ -99,17 +100,17 @@ sets-more {l} {before} {now} {m} k h s = record {
   away = λ u n. getD-set-other now k u m 0 (λ p. n (in-right l (here p))) ∙ s .away u (λ i. n (in-left (k ∷ []) i));
 }
 
-pub record Marks {ends first : List ℕ} {v stop : ℕ} (w : Way ends first v stop) (m : ℕ) (before now : List ℕ) (at : ℕ) : Type 0 where
+pub record Marks {most : Limits} {ends first : List ℕ} {v stop : ℕ} (w : Way most ends first v stop) (m : ℕ) (before now : List ℕ) (at : ℕ) : Type 0 where
   pub on : Onward w at
   pub sets : Sets (froms (on .done)) m before now
 
-abbrev pub MarksAll : List ℕ → List ℕ → ℕ → ℕ → ℕ → List ℕ → List ℕ → ℕ → Type 0
-MarksAll ends first v stop m before now at = (c : Marking ends first v stop (length before)) → Marks (c .way) m before now at
+abbrev pub MarksAll : Limits → List ℕ → List ℕ → ℕ → ℕ → ℕ → List ℕ → List ℕ → ℕ → Type 0
+MarksAll most ends first v stop m before now at = (c : Marking most ends first v stop (length before)) → Marks (c .way) m before now at
 
-pub marks-start : (ends first before : List ℕ) (v stop m : ℕ) → MarksAll ends first v stop m before before v
+pub marks-start : {most : Limits} (ends first before : List ℕ) (v stop m : ℕ) → MarksAll most ends first v stop m before before v
 marks-start ends first before v stop m = λ c. record { on = onward-start (c .way); sets = sets-none m before }
 
-module _ {ends first before now : List ℕ} {v stop m at : ℕ} {w : Way ends first v stop} (r : Marks w m before now at) (room : w .n ≤ length before) where
+module _ {most : Limits} {ends first before now : List ℕ} {v stop m at : ℕ} {w : Way most ends first v stop} (r : Marks w m before now at) (room : w .n ≤ length before) where
   pub marks-room : {u : ℕ} → u < w .n → u < length now
   marks-room h = omega (arith, h, room, r .sets .long)
 
@@ -135,7 +136,7 @@ module _ {ends first before now : List ℕ} {v stop m at : ℕ} {w : Way ends fi
 
 -- Edges, and who is below whom.
 
-pub record Lifts {ends first : List ℕ} {v stop : ℕ} (w : Way ends first v stop) (below over below' over' : List ℕ) (top at : ℕ) : Type 0 where
+pub record Lifts {most : Limits} {ends first : List ℕ} {v stop : ℕ} (w : Way most ends first v stop) (below over below' over' : List ℕ) (top at : ℕ) : Type 0 where
   pub on : Onward w at
   pub sets : Sets (edgesOf (on .done)) 0 over over'
   pub long : length below' ≡ length below
@@ -145,11 +146,11 @@ pub record Lifts {ends first : List ℕ} {v stop : ℕ} (w : Way ends first v st
   pub top-on : 1 ≤ length (on .done) → In top (froms (on .done))
   pub top-up : 1 ≤ length (on .done) → nextUp ends first top ≡ at
 
-abbrev pub LiftsAll : List ℕ → List ℕ → ℕ → ℕ → List ℕ → List ℕ → List ℕ → List ℕ → ℕ → ℕ → Type 0
-LiftsAll ends first v stop below over below' over' top at =
-    (c : Raising ends first v stop (length below) (length over)) → Lifts (c .way) below over below' over' top at
+abbrev pub LiftsAll : Limits → List ℕ → List ℕ → ℕ → ℕ → List ℕ → List ℕ → List ℕ → List ℕ → ℕ → ℕ → Type 0
+LiftsAll most ends first v stop below over below' over' top at =
+    (c : Raising most ends first v stop (length below) (length over)) → Lifts (c .way) below over below' over' top at
 
-pub lifts-start : (ends first below over : List ℕ) (v stop : ℕ) → LiftsAll ends first v stop below over below over v v
+pub lifts-start : {most : Limits} (ends first below over : List ℕ) (v stop : ℕ) → LiftsAll most ends first v stop below over below over v v
 lifts-start ends first below over v stop = λ c. record {
   on = onward-start (c .way);
   sets = sets-none 0 over;
@@ -161,7 +162,7 @@ lifts-start ends first below over v stop = λ c. record {
   top-up = λ h. absurd (omega (arith, h));
 }
 
-module _ {ends first below over below' over' : List ℕ} {v stop top at : ℕ} {w : Way ends first v stop} (r : Lifts w below over below' over' top at) where
+module _ {most : Limits} {ends first below over below' over' : List ℕ} {v stop top at : ℕ} {w : Way most ends first v stop} (r : Lifts w below over below' over' top at) where
   pub lifts-end : at ≡ stop → Raised ends first (w .legs) stop (read below) (read over) (read below') (read over') top
   lifts-end p =
       subst (λ (l : List Leg). Raised ends first l stop (read below) (read over) (read below') (read over') top) (sym (onward-end (r .on) p))

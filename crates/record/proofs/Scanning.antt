@@ -5,11 +5,12 @@ use Prim.Native.Nat.{ℕ, _+_, _≤_, _<_}
 use native.Mathlib.Omega.{arith}
 use native.Mathlib.Decide.{ℕ-discrete, decLt}
 use lib.ListN.{length}
+use Rattle.connectivity.specs.Plan.{Limits}
 use Rattle.graph.specs.Marks.{read}
 use Rattle.graph.proofs.Joined.{joins-edge}
 use Rattle.record.specs.Cursors.{NextSlot, Slots, Ahead, Opening, Opened, Scanned}
 
-module _ {incident begins order over : List ℕ} {at slot : ℕ} (c : Opening incident begins order over at slot) where
+module _ {most : Limits} {incident begins order over : List ℕ} {at slot : ℕ} (c : Opening most incident begins order over at slot) where
   abbrev State : ℕ → ℕ → Type 0
   State i from = Scanned (read incident) (read begins) (read order) (read over) at slot (c .n) i from
 

@@ -6,7 +6,7 @@ use Prim.Native.Nat.{ℕ, _+_, _*_, _≤_, _<_}
 use native.Mathlib.Omega.{arith}
 use native.Mathlib.Decide.{ℕ-discrete, decLe}
 use lib.ListN.{length, length-append}
-use Rattle.connectivity.specs.Plan.{plan, graph}
+use Rattle.connectivity.specs.Plan.{plan, graph, Limits}
 use Rattle.connectivity.specs.Graph.{Graph, Vertex}
 use Rattle.connectivity.specs.Walk.{Leg, edgesOf, allEdges, froms, Built, Branch}
 use Rattle.connectivity.specs.Mader.{MaderPath, stepRows}
@@ -35,8 +35,8 @@ use Rattle.record.proofs.Ending.{filing-both, both-on, both-off, both-b
 use Rattle.record.proofs.Counting.{done-most}
 
 -- what the places say of a state
-module _ {n root : ℕ} {ends first : List ℕ} {rank whole : ℕ → ℕ} {walks : List (List Leg)} {places below tips over : List ℕ} {next : ℕ}
-    (rooted : Rooted n ends root first rank) (h : Holds n root ends first rank whole walks places below tips over next) where
+module _ {most : Limits} {n root : ℕ} {ends first : List ℕ} {rank whole : ℕ → ℕ} {walks : List (List Leg)} {places below tips over : List ℕ} {next : ℕ}
+    (rooted : Rooted most n ends root first rank) (h : Holds n root ends first rank whole walks places below tips over next) where
   branch-built : (v : ℕ) → Branch (graph (plan n ends)) (allEdges walks) v → Built (graph (plan n ends)) (allEdges walks) v
   branch-built v b = omega (arith, b)
 
@@ -46,7 +46,7 @@ module _ {n root : ℕ} {ends first : List ℕ} {rank whole : ℕ → ℕ} {walk
   pub built-holds : (v : ℕ) → 1 ≤ read places v → Built (graph (plan n ends)) (allEdges walks) v
   built-holds v b = h .state .filed .built v b
 
-  pub holds-filing : Filing n root ends first rank below places tips next
+  pub holds-filing : Filing most n root ends first rank below places tips next
   holds-filing = record {
     rooted = rooted;
     shelved = filed-own (h .state .filed) branch-built;
@@ -55,8 +55,8 @@ module _ {n root : ℕ} {ends first : List ℕ} {rank whole : ℕ → ℕ} {walk
     roomy = h .roomy;
   }
 
-module _ {ends first number : List ℕ} {f next : ℕ} {places below tips over : List ℕ} {room : ℕ}
-    (c : Stepping ends first number f next places below tips over room) where
+module _ {most : Limits} {ends first number : List ℕ} {f next : ℕ} {places below tips over : List ℕ} {room : ℕ}
+    (c : Stepping most ends first number f next places below tips over room) where
   abbrev pub g : Graph
   g = graph (plan (c .n) ends)
 
@@ -98,7 +98,7 @@ module _ {ends first number : List ℕ} {f next : ℕ} {places below tips over :
   below-n v b = vertex-below (c .n) ends v (built-is-vertex (c .rooted .tree) (c .holds .state .along .held) b)
 
   -- to the first built vertex
-  abbrev pub toward : Toward ends first places (c .chosen .lower)
+  abbrev pub toward : Toward most ends first places (c .chosen .lower)
   toward = record {
     to = end;
     way = climb-way (c .rooted) (climb .2) lower-below;
@@ -123,17 +123,17 @@ module _ {ends first number : List ℕ} {f next : ℕ} {places below tips over :
     c .fits,
   )
 
-  abbrev pub one-more : OneMore ends first (c .chosen .lower) end room
+  abbrev pub one-more : OneMore most ends first (c .chosen .lower) end room
   one-more = record { way = climb-way (c .rooted) (climb .2) lower-below; fits = some-room }
 
   -- both ends become branches
-  pub filing : Filing (c .n) (c .root) ends first (read number) below places tips next
+  pub filing : Filing most (c .n) (c .root) ends first (read number) below places tips next
   filing = holds-filing (c .rooted) (c .holds)
 
   pub upper-built : 1 ≤ read places (c .chosen .upper)
   upper-built = holds-built (c .rooted) (c .holds) (c .chosen .upper) (path .begins)
 
-  abbrev pub splitting-upper : Splitting ends first below (c .chosen .upper) next places tips
+  abbrev pub splitting-upper : Splitting most ends first below (c .chosen .upper) next places tips
   splitting-upper = record {
     n = c .n;
     root = c .root;
@@ -143,7 +143,7 @@ module _ {ends first number : List ℕ} {f next : ℕ} {places below tips over :
     built = upper-built;
   }
 
-  abbrev pub ending : Ending ends first below (c .chosen .upper) end next places tips
+  abbrev pub ending : Ending most ends first below (c .chosen .upper) end next places tips
   ending = record { splitting = splitting-upper; vertex = below-n end (path .ends); built = holds-built (c .rooted) (c .holds) end (path .ends) }
 
   -- both are branches
@@ -156,7 +156,7 @@ module _ {ends first number : List ℕ} {f next : ℕ} {places below tips over :
     marked-end : Marked g t (λ v. Branch g built v ⊎ (v ≡ c .chosen .upper)) (both .middle) (read places₂) end
     marked-end = marked-map (λ p. filed-marked (c .rooted .tree) (c .holds .state .filed) marked-upper .branch end p) (both .marked-two)
 
-    pub filing-two : Filing (c .n) (c .root) ends first (read number) below places₂ tips₂ next₂
+    pub filing-two : Filing most (c .n) (c .root) ends first (read number) below places₂ tips₂ next₂
     filing-two = filing-both places₂ tips₂ filing upper-built (ending .built) both (same₂ .0) (same₂ .1)
 
     pub on-two : (v : ℕ) → Built g built v → 1 ≤ read places₂ v
@@ -165,7 +165,7 @@ module _ {ends first number : List ℕ} {f next : ℕ} {places below tips over :
     pub off-two : (v : ℕ) → 1 ≤ read places₂ v → Built g built v
     off-two v b = built-holds (c .rooted) (c .holds) v (both-off (c .rooted .tree) (filing .shelved) upper-built (ending .built) both b)
 
-    abbrev pub building : Building ends first f (c .chosen .lower) end next₂ places₂ below tips₂ over
+    abbrev pub building : Building most ends first f (c .chosen .lower) end next₂ places₂ below tips₂ over
     building = record {
       n = c .n;
       root = c .root;
@@ -232,31 +232,31 @@ module _ {ends first number : List ℕ} {f next : ℕ} {places below tips over :
       }
 
 -- what each part of a step asks, at the vertices that the parts before have found
-module _ {ends first number : List ℕ} {f next s w : ℕ} {places below tips over : List ℕ} {room : ℕ}
-    (d : Stepping ends first number f next places below tips over room) (p : s ≡ upperEnd ends number f) (q : w ≡ farEnd ends f s) where
+module _ {most : Limits} {ends first number : List ℕ} {f next s w : ℕ} {places below tips over : List ℕ} {room : ℕ}
+    (d : Stepping most ends first number f next places below tips over room) (p : s ≡ upperEnd ends number f) (q : w ≡ farEnd ends f s) where
   is-upper : s ≡ d .chosen .upper
   is-upper = p ∙ upper-at d
 
   is-lower : w ≡ d .chosen .lower
   is-lower = (rw is-upper at q) ∙ lower-at d
 
-  pub toward-at : Toward ends first places w
-  toward-at = subst (λ (y : ℕ). Toward ends first places y) (sym is-lower) (toward d)
+  pub toward-at : Toward most ends first places w
+  toward-at = subst (λ (y : ℕ). Toward most ends first places y) (sym is-lower) (toward d)
 
-  module _ {x : ℕ} (m : MetFirst ends first places w x) where
+  module _ {x : ℕ} (m : MetFirst most ends first places w x) where
     is-end : x ≡ end d
     is-end = (rw is-lower at m) (toward d)
 
-    pub one-more-at : OneMore ends first w x room
-    one-more-at = subst (λ (y : ℕ). OneMore ends first y x room) (sym is-lower)
-        (subst (λ (y : ℕ). OneMore ends first (d .chosen .lower) y room) (sym is-end) (one-more d))
+    pub one-more-at : OneMore most ends first w x room
+    one-more-at = subst (λ (y : ℕ). OneMore most ends first y x room) (sym is-lower)
+        (subst (λ (y : ℕ). OneMore most ends first (d .chosen .lower) y room) (sym is-end) (one-more d))
 
-    pub ending-at : Ending ends first below s x next places tips
-    ending-at = subst (λ (y : ℕ). Ending ends first below y x next places tips) (sym is-upper)
-        (subst (λ (y : ℕ). Ending ends first below (d .chosen .upper) y next places tips) (sym is-end) (ending d))
+    pub ending-at : Ending most ends first below s x next places tips
+    ending-at = subst (λ (y : ℕ). Ending most ends first below y x next places tips) (sym is-upper)
+        (subst (λ (y : ℕ). Ending most ends first below (d .chosen .upper) y next places tips) (sym is-end) (ending d))
 
-    module _ (places₂ tips₂ : List ℕ) {next₂ : ℕ} (e : BothBy ends first below s x next places tips places₂ tips₂ next₂) where
-      both-by : BothBy ends first below (d .chosen .upper) (end d) next places tips places₂ tips₂ next₂
+    module _ (places₂ tips₂ : List ℕ) {next₂ : ℕ} (e : BothBy most ends first below s x next places tips places₂ tips₂ next₂) where
+      both-by : BothBy most ends first below (d .chosen .upper) (end d) next places tips places₂ tips₂ next₂
       both-by = rw is-upper at (rw is-end at e)
 
       both : BothParted (g d) (t d) (d .chosen .upper) (end d) next (read places) (read places₂) (topOf tips₂) (bottomOf tips₂) next₂
@@ -265,23 +265,23 @@ module _ {ends first number : List ℕ} {f next s w : ℕ} {places below tips ov
       same₂ : (length places₂ ≡ length places) × (length tips₂ ≡ length tips)
       same₂ = (e .0, e .1)
 
-      pub building-at : Building ends first f w x next₂ places₂ below tips₂ over
-      building-at = subst (λ (y : ℕ). Building ends first f y x next₂ places₂ below tips₂ over) (sym is-lower)
-          (subst (λ (y : ℕ). Building ends first f (d .chosen .lower) y next₂ places₂ below tips₂ over) (sym is-end)
+      pub building-at : Building most ends first f w x next₂ places₂ below tips₂ over
+      building-at = subst (λ (y : ℕ). Building most ends first f y x next₂ places₂ below tips₂ over) (sym is-lower)
+          (subst (λ (y : ℕ). Building most ends first f (d .chosen .lower) y next₂ places₂ below tips₂ over) (sym is-end)
           (building d places₂ tips₂ both same₂))
 
 -- the parts of a step, one after the other
-module _ {ends first number : List ℕ} {f next : ℕ} (step count : ℕ) {places below tips over : List ℕ} (rows : List ℕ)
+module _ {most : Limits} {ends first number : List ℕ} {f next : ℕ} (step count : ℕ) {places below tips over : List ℕ} (rows : List ℕ)
     (places₂ tips₂ places₃ below₃ tips₃ over₃ rows₃ : List ℕ) {s w x next₂ next₃ : ℕ}
-    (p : s ≡ upperEnd ends number f) (q : w ≡ farEnd ends f s) (m : MetFirst ends first places w x)
-    (r : OverUp ends first f s w x step rows rows₃ count)
-    (e : BothBy ends first below s x next places tips places₂ tips₂ next₂)
-    (k : WalkedBy ends first f w x next₂ places₂ below tips₂ over places₃ below₃ tips₃ over₃ next₃)
-    (d : Stepping ends first number f next places below tips over (length rows)) where
-  walked-by : WalkedBy ends first f (d .chosen .lower) (end d) next₂ places₂ below tips₂ over places₃ below₃ tips₃ over₃ next₃
+    (p : s ≡ upperEnd ends number f) (q : w ≡ farEnd ends f s) (m : MetFirst most ends first places w x)
+    (r : OverUp most ends first f s w x step rows rows₃ count)
+    (e : BothBy most ends first below s x next places tips places₂ tips₂ next₂)
+    (k : WalkedBy most ends first f w x next₂ places₂ below tips₂ over places₃ below₃ tips₃ over₃ next₃)
+    (d : Stepping most ends first number f next places below tips over (length rows)) where
+  walked-by : WalkedBy most ends first f (d .chosen .lower) (end d) next₂ places₂ below tips₂ over places₃ below₃ tips₃ over₃ next₃
   walked-by = rw (is-lower d p q) at (rw (is-end d p q m) at k)
 
-  written-by : OverUp ends first f (d .chosen .upper) (d .chosen .lower) (end d) step rows rows₃ count
+  written-by : OverUp most ends first f (d .chosen .upper) (d .chosen .lower) (end d) step rows rows₃ count
   written-by = rw (is-upper d p q) at (rw (is-lower d p q) at (rw (is-end d p q m) at r))
 
   walked : Walked (g d) (t d) f (legs d) next₂ (read places₂) (read below) (read over) (read places₃) (read below₃) (topOf tips₃) (bottomOf tips₃) (read over₃) next₃ × (next₂ ≤ next₃)

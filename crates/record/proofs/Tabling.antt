@@ -42,8 +42,8 @@ cut-own {n} {ends} l a = answered-own (plan n ends) _ _ _ _ l a (λ m. record {
 })
 
 -- the search for the lowest cut has left the tables by vertex, and its first search
-pub searched : {n room : ℕ} {ends incident begins first order : List ℕ} {l : Lightest} → CutAnswer n ends incident begins first order l → l ≡ light.NoCut → Sturdy n ends room
-    → Searched n ends incident (set begins n (length ends)) first order
+pub searched : {n room : ℕ} {ends incident begins first order : List ℕ} {l : Lightest} → CutAnswer n ends incident begins first order l → l ≡ light.NoCut → Sturdy limits n ends room
+    → Searched limits n ends incident (set begins n (length ends)) first order
 searched {n} {room} {ends} {incident} {begins} {first} {order} {l} a q u =
     let y = uncut-passed q in
     let t = served-tabled (plan n ends) _ _ _ _ l a y in
@@ -72,7 +72,7 @@ abbrev pub BelowAnswer : ℕ → List ℕ → List ℕ → List ℕ → List ℕ
 BelowAnswer n ends first order number last over r = Looked limits (plan n ends) first order (replicate (limits .vertices) 0) (replicate (limits .vertices) 0) (replicate (limits .edges) 0)
     number last over r
 
-module _ {n : ℕ} {ends incident begins first order : List ℕ} {room : ℕ} (u : Sturdy n ends room) (s : Searched n ends incident begins first order)
+module _ {n : ℕ} {ends incident begins first order : List ℕ} {room : ℕ} (u : Sturdy limits n ends room) (s : Searched limits n ends incident begins first order)
     {number last over : List ℕ} {r : Answer} (a : BelowAnswer n ends first order number last over r) where
   pub vertices-room : n ≤ length (replicate {A = ℕ} (limits .vertices) 0)
   vertices-room = omega (arith, u .admitted .vertices, long (limits .vertices))
@@ -84,15 +84,15 @@ module _ {n : ℕ} {ends incident begins first order : List ℕ} {room : ℕ} (u
   pub filled : Filled (plan n ends) first order (replicate (limits .vertices) 0) (replicate (limits .vertices) 0) (replicate (limits .edges) 0) number last over
   filled = looked-filled a (u .admitted) (record { marks = s .first-long; places = s .order-long; numbers = vertices-room; lasts = vertices-room; edges = edges-room })
 
-  pub tree : DepthFirst n ends first order number
-  tree = depth-first (s .tabled) (s .three) (s .live) (s .clear) (s .found)
-      (numbered filled (ordering (s .tabled) (s .three) (s .live) (s .clear) (s .found)) vertices-room)
+  pub tree : DepthFirst limits n ends first order number
+  tree = depth-first (omega arith) (s .tabled) (s .three) (s .live) (s .clear) (s .found)
+      (numbered filled (ordering (omega arith) (s .tabled) (s .three) (s .live) (s .clear) (s .found)) vertices-room)
       (s .first-long) (s .order-long) (omega (arith, number-long filled, vertices-room))
 
   pub beneath : Beneath n (read order 0) ends first (read number) (read last) (read over)
   beneath = lowered tree vertices-room edges-room filled
 
-  abbrev pub ready : Ready ends incident begins first order number last over room
+  abbrev pub ready : Ready limits ends incident begins first order number last over room
   ready = record {
     n = n;
     ground = record {
@@ -108,8 +108,8 @@ module _ {n : ℕ} {ends incident begins first order : List ℕ} {room : ℕ} (u
     fits = u .fits;
   }
 
-module _ {ends incident begins first order number last over : List ℕ} {room : ℕ} (c : Ready ends incident begins first order number last over room) where
-  abbrev pub beginning : Beginning ends incident begins first order number last (replicate (limits .vertices) 0) (replicate (limits .vertices) 0) (replicate (2 * (limits .vertices + 2)) 0) over room
+module _ {ends incident begins first order number last over : List ℕ} {room : ℕ} (c : Ready limits ends incident begins first order number last over room) where
+  abbrev pub beginning : Beginning limits ends incident begins first order number last (replicate (limits .vertices) 0) (replicate (limits .vertices) 0) (replicate (2 * (limits .vertices + 2)) 0) over room
   beginning = record {
     n = c .n;
     ground = c .ground;
@@ -127,7 +127,7 @@ module _ {ends incident begins first order number last over : List ℕ} {room : 
 
   abbrev pub finishing : (before now places below tips over' : List ℕ) {row step next : ℕ}
       → Begun (c .n) (read order 0) ends first (read number) (read over) before now places below tips over' row step next
-      → Finishing ends incident begins first order number last places below tips over' now row step next
+      → Finishing limits ends incident begins first order number last places below tips over' now row step next
   finishing before now places below tips over' b = record {
     n = c .n;
     whole = read over;

@@ -4,7 +4,7 @@ use mathlib.Core.List.{List, [], _∷_, _++_, append-nil}
 use Prim.Native.Nat.{ℕ, _+_, _*_, _-_, _/_, _≤_, _<_}
 use native.Mathlib.Omega.{arith}
 use lib.ListN.{length, take, drop, length-append}
-use Rattle.connectivity.specs.Plan.{plan, graph, limits}
+use Rattle.connectivity.specs.Plan.{plan, graph, Limits}
 use Rattle.connectivity.specs.Graph.{Graph}
 use Rattle.connectivity.specs.Walk.{Leg, edgesOf, allEdges}
 use Rattle.connectivity.specs.Mader.{stepRows, rows}
@@ -25,7 +25,7 @@ use Rattle.record.proofs.Written.{written-length, part-long, written-pa
 
 -- The walks.
 
-module _ {n root : ℕ} {ends first : List ℕ} {rank : ℕ → ℕ} {x f w d u : ℕ} (c : Climbs n root ends first rank x f w d u) where
+module _ {most : Limits} {n root : ℕ} {ends first : List ℕ} {rank : ℕ → ℕ} {x f w d u : ℕ} (c : Climbs most n root ends first rank x f w d u) where
   abbrev g : Graph
   g = graph (plan n ends)
 
@@ -81,25 +81,25 @@ three-count root x f e d low high side =
 
 -- Their rows.
 
-module _ {ends first : List ℕ} {root x e p f w d u : ℕ} (before : List ℕ) (c : Rowed ends first root x e p f w d u (length before)) where
-  abbrev b : Climbs (c .n) root ends first (c .rank) x f w d u
+module _ {most : Limits} {ends first : List ℕ} {root x e p f w d u : ℕ} (before : List ℕ) (c : Rowed most ends first root x e p f w d u (length before)) where
+  abbrev b : Climbs most (c .n) root ends first (c .rank) x f w d u
   b = c .climbs
 
   pub fits : 3 * (length (b .high) + length (b .low) + length (b .side) + 3) ≤ length before
   fits = omega (arith, three-few b, three-count root x f (treeOf (c .n) ends root first (c .rank) .first x) d (b .low) (b .high) (b .side), c .fits)
 
-  few : length (b .high) + length (b .low) + length (b .side) + 3 ≤ limits .edges
+  few : length (b .high) + length (b .low) + length (b .side) + 3 ≤ most .edges
   few = omega (arith, three-few b, three-count root x f (treeOf (c .n) ends root first (c .rank) .first x) d (b .low) (b .high) (b .side), b .rooted .admitted .edges)
 
-  abbrev pub high-way : Way ends first p root
+  abbrev pub high-way : Way most ends first p root
   high-way = climb-way (b .rooted)
       (subst (λ (y : ℕ). Climb (graph (plan (c .n) ends)) (treeOf (c .n) ends root first (c .rank)) (λ v. v ≡ root) y (b .high) root) (sym (c .parent)) (b .up))
       (subst (λ (y : ℕ). y < c .n) (sym (c .parent)) (parent-below b))
 
-  abbrev pub high-room : OneMore ends first p root (length before)
+  abbrev pub high-room : OneMore most ends first p root (length before)
   high-room = record { way = high-way; fits = omega (arith, fits) }
 
-  module _ (one : List ℕ) (i : ℕ) (h : OverUp ends first e x p root 0 before one i) where
+  module _ (one : List ℕ) (i : ℕ) (h : OverUp most ends first e x p root 0 before one i) where
     abbrev first-walk : List Leg
     first-walk = leg e x ∷ b .high
 
@@ -109,16 +109,16 @@ module _ {ends first : List ℕ} {root x e p f w d u : ℕ} (before : List ℕ) 
     pub one-long : length one ≡ length before
     one-long = written-length (stepRows 0 first-walk) before one (h high-room .0) (omega (arith, first-long, h high-room .1, fits))
 
-    pub one-fits : (3 * i ≤ length one) × (i ≤ limits .edges)
+    pub one-fits : (3 * i ≤ length one) × (i ≤ most .edges)
     one-fits = (omega (arith, one-long, h high-room .1, fits), omega (arith, h high-room .1, few))
 
     abbrev behind : List ℕ
     behind = take (length one - 3 * i) (drop (3 * i) one)
 
-    abbrev pub low-room : OneMore ends first w x (length behind)
+    abbrev pub low-room : OneMore most ends first w x (length behind)
     low-room = record { way = climb-way (b .rooted) (b .to-x) (w-below b); fits = omega (arith, fits, part-long one (3 * i), one-long, h high-room .1) }
 
-    module _ (part : List ℕ) (j : ℕ) (m : OverUp ends first f root w x 1 behind part j) where
+    module _ (part : List ℕ) (j : ℕ) (m : OverUp most ends first f root w x 1 behind part j) where
       abbrev two : List ℕ
       two = take (3 * i) one ++ (part ++ drop (length one - 3 * i) (drop (3 * i) one))
 
@@ -135,20 +135,20 @@ module _ {ends first : List ℕ} {root x e p f w d u : ℕ} (before : List ℕ) 
       pub two-long : length two ≡ length before
       two-long = written-length both before two two-written (omega (arith, both-long, h high-room .1, m low-room .1, fits))
 
-      pub two-fits : (3 * (i + j) ≤ length two) × (i + j ≤ limits .edges)
+      pub two-fits : (3 * (i + j) ≤ length two) × (i + j ≤ most .edges)
       two-fits = (omega (arith, two-long, h high-room .1, m low-room .1, fits), omega (arith, h high-room .1, m low-room .1, few))
 
       abbrev rest : List ℕ
       rest = take (length two - 3 * (i + j)) (drop (3 * (i + j)) two)
 
-      abbrev pub side-room : OneMore ends first u x (length rest)
+      abbrev pub side-room : OneMore most ends first u x (length rest)
       side-room = record {
         way = climb-way (b .rooted) (b .meets) (u-below b);
         fits = omega (arith, fits, part-long two (3 * (i + j)), two-long, h high-room .1, m low-room .1);
       }
 
-      module _ (last : List ℕ) (k : ℕ) (s : OverUp ends first d root u x 2 rest last k) where
-        pub three-fits : i + j + k ≤ limits .edges
+      module _ (last : List ℕ) (k : ℕ) (s : OverUp most ends first d root u x 2 rest last k) where
+        pub three-fits : i + j + k ≤ most .edges
         three-fits = omega (arith, h high-room .1, m low-room .1, s side-room .1, few)
 
         pub three-written : Written (rows (threeWalks root x f e d (b .low) (b .high) (b .side))) before

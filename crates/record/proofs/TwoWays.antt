@@ -6,7 +6,7 @@ use Prim.Native.Nat.{ℕ, _≤_, _<_}
 use native.Mathlib.Omega.{arith}
 use native.Mathlib.Decide.{ℕ-discrete, decLe}
 use lib.ListN.{length}
-use Rattle.connectivity.specs.Plan.{plan, graph}
+use Rattle.connectivity.specs.Plan.{plan, graph, Limits}
 use Rattle.connectivity.specs.Graph.{Graph}
 use Rattle.connectivity.specs.Walk.{Leg, froms}
 use Rattle.connectivity.proofs.Lists.{in-dec}
@@ -19,7 +19,7 @@ use Rattle.numbers.specs.Standing.{Rooted, treeOf}
 use Rattle.record.specs.Opening.{Meets, Meeting}
 use Rattle.record.proofs.Climbing.{climb-way}
 
-module _ {n root : ℕ} {ends first : List ℕ} {rank : ℕ → ℕ} (r : Rooted n ends root first rank) where
+module _ {most : Limits} {n root : ℕ} {ends first : List ℕ} {rank : ℕ → ℕ} (r : Rooted most n ends root first rank) where
   abbrev g : Graph
   g = graph (plan n ends)
 
@@ -30,7 +30,7 @@ module _ {n root : ℕ} {ends first : List ℕ} {rank : ℕ → ℕ} (r : Rooted
   pub root-climb : {v : ℕ} → v < n → (legs : List Leg) × Climb g t (λ y. y ≡ root) v legs root
   root-climb {v} h = way-up (root-above (r .tree) (admitted-vertex (r .admitted) v h))
 
-module _ {ends first marks : List ℕ} {w u r : ℕ} (c : Meets ends first w u r marks) where
+module _ {most : Limits} {ends first marks : List ℕ} {w u r : ℕ} (c : Meets most ends first w u r marks) where
   abbrev gr : Graph
   gr = graph (plan (c .n) ends)
 
@@ -40,7 +40,7 @@ module _ {ends first marks : List ℕ} {w u r : ℕ} (c : Meets ends first w u r
   pub rise : (legs : List Leg) × Climb gr tr (λ y. y ≡ r) w legs r
   rise = root-climb (c .rooted) (c .one)
 
-  abbrev pub marking : (size : ℕ) → c .n ≤ size → Marking ends first w r size
+  abbrev pub marking : (size : ℕ) → c .n ≤ size → Marking most ends first w r size
   marking size h = record { way = climb-way (c .rooted) (rise .1) (c .one); room = h }
 
   module _ (found : List ℕ) (m : MarkedOn (rise .0) r 1 (read marks) (read found)) where
@@ -69,7 +69,7 @@ module _ {ends first marks : List ℕ} {w u r : ℕ} (c : Meets ends first w u r
     pub met-plain : (v : ℕ) → In v (froms (met .0)) → read found v ≡ 0
     met-plain v i = elim (decLe 1 (read found v)) [ yes h ↦ absurd (climb-new (met .2) i h) | no h ↦ omega (arith, h) ]
 
-    abbrev pub toward : c .n ≤ length found → Toward ends first found u
+    abbrev pub toward : c .n ≤ length found → Toward most ends first found u
     toward h = record {
       to = met .1;
       way = climb-way (c .rooted) (met .2) (c .other);

@@ -6,7 +6,7 @@ use Prim.Native.Nat.{ℕ, _≤_, _<_}
 use native.Mathlib.Omega.{arith}
 use borrow.Author.Tests.{eq-eqb, ne-eqb, lt-ltb, le-ltb}
 use lib.ListN.{length}
-use Rattle.connectivity.specs.Plan.{plan, graph}
+use Rattle.connectivity.specs.Plan.{plan, graph, Limits}
 use Rattle.connectivity.specs.Graph.{Edge, Joins}
 use Rattle.connectivity.proofs.Admission.{edge-size}
 use Rattle.tree.specs.Tree.{Back}
@@ -17,7 +17,7 @@ use Rattle.numbers.specs.Standing.{Rooted, treeOf}
 use Rattle.numbers.proofs.Marking.{joins-differ, back-child}
 use Rattle.record.specs.Ways.{Ended, upperEnd}
 
-module _ (n root : ℕ) (ends first number : List ℕ) (r : Rooted n ends root first (read number)) where
+module _ {most : Limits} (n root : ℕ) (ends first number : List ℕ) (r : Rooted most n ends root first (read number)) where
   pub ended : n ≤ length number → {e : ℕ} → Edge (graph (plan n ends)) e → Ended ends number e
   ended h k = record { below = edge-size (plan n ends) k; left = omega (arith, ends-below (plan n ends) k); right = omega (arith, ends-below (plan n ends) k) }
 

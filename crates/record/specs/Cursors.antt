@@ -3,7 +3,7 @@ use mathlib.Core.Path.{_≡_}
 use mathlib.Core.List.{List}
 use Prim.Native.Nat.{ℕ, _+_, _/_, _≤_, _<_}
 use lib.ListN.{length}
-use Rattle.connectivity.specs.Plan.{plan, limits}
+use Rattle.connectivity.specs.Plan.{plan, Limits}
 use Rattle.connectivity.specs.Admission.{Admitted}
 use Rattle.graph.specs.Marks.{read}
 use Rattle.record.specs.Standing.{Grouped}
@@ -37,10 +37,10 @@ pub record Ahead (order begins : ℕ → ℕ) (at slot n i k : ℕ) : Type 0 whe
   pub after : i ≡ at → slot ≤ k
 
 -- what `next_open` asks: some edge ahead is not built
-pub record Opening (incident begins order over : List ℕ) (at slot : ℕ) : Type 0 where
+pub record Opening (most : Limits) (incident begins order over : List ℕ) (at slot : ℕ) : Type 0 where
   pub n : ℕ
   pub ends : List ℕ
-  pub admitted : Admitted limits (plan n ends)
+  pub admitted : Admitted most (plan n ends)
   pub grouped : Grouped n ends incident begins
   pub valid : (k : ℕ) → k < n → read order k < n
   pub order-long : n ≤ length order
@@ -57,9 +57,9 @@ pub record Opened (incident begins order over : ℕ → ℕ) (at slot n at' slot
   pub passed : (i k : ℕ) → Ahead order begins at slot n i k → i < at' → over (incident k) ≡ 0
   pub before : (k : ℕ) → Ahead order begins at slot n at' k → k < slot' → over (incident k) ≡ 0
 
-abbrev pub OpenedAt : List ℕ → List ℕ → List ℕ → List ℕ → ℕ → ℕ → ℕ → ℕ → Type 0
-OpenedAt incident begins order over at slot at' slot' =
-    (c : Opening incident begins order over at slot) → Opened (read incident) (read begins) (read order) (read over) at slot (c .n) at' slot'
+abbrev pub OpenedAt : Limits → List ℕ → List ℕ → List ℕ → List ℕ → ℕ → ℕ → ℕ → ℕ → Type 0
+OpenedAt most incident begins order over at slot at' slot' =
+    (c : Opening most incident begins order over at slot) → Opened (read incident) (read begins) (read order) (read over) at slot (c .n) at' slot'
 
 -- on the way, at place `from` of the group of the vertex at place i: all that is ahead of the cursor and before this is built
 pub record Scanned (incident begins order over : ℕ → ℕ) (at slot n i from : ℕ) : Type 0 where
@@ -71,6 +71,6 @@ pub record Scanned (incident begins order over : ℕ → ℕ) (at slot n i from 
   pub passed : (j k : ℕ) → Ahead order begins at slot n j k → j < i → over (incident k) ≡ 0
   pub before : (k : ℕ) → Ahead order begins at slot n i k → k < from → over (incident k) ≡ 0
 
-abbrev pub ScannedTo : List ℕ → List ℕ → List ℕ → List ℕ → ℕ → ℕ → ℕ → ℕ → Type 0
-ScannedTo incident begins order over at slot i from =
-    (c : Opening incident begins order over at slot) → Scanned (read incident) (read begins) (read order) (read over) at slot (c .n) i from
+abbrev pub ScannedTo : Limits → List ℕ → List ℕ → List ℕ → List ℕ → ℕ → ℕ → ℕ → ℕ → Type 0
+ScannedTo most incident begins order over at slot i from =
+    (c : Opening most incident begins order over at slot) → Scanned (read incident) (read begins) (read order) (read over) at slot (c .n) i from

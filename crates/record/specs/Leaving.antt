@@ -4,7 +4,7 @@ use mathlib.Core.Logic.{_⊎_}
 use mathlib.Core.List.{List, List·Memᴰ as In}
 use Prim.Native.Nat.{ℕ, suc, _-_, _/_, _≤_}
 use lib.ListN.{length}
-use Rattle.connectivity.specs.Plan.{plan, graph}
+use Rattle.connectivity.specs.Plan.{plan, graph, Limits}
 use Rattle.connectivity.specs.Graph.{Graph, Joins}
 use Rattle.connectivity.specs.Walk.{Leg, allEdges}
 use Rattle.tree.specs.Tree.{Pointers, Above, Back}
@@ -20,11 +20,11 @@ pub record Uses (built : List ℕ) (whole over : ℕ → ℕ) : Type 0 where
   pub off : (e : ℕ) → (In e built → ⊥) → over e ≡ whole e
 
 -- what `leave_link` asks
-pub record Leaving (ends incident begins first number last places below over : List ℕ) (top bottom : ℕ) : Type 0 where
+pub record Leaving (most : Limits) (ends incident begins first number last places below over : List ℕ) (top bottom : ℕ) : Type 0 where
   pub n : ℕ
   pub root : ℕ
   pub whole : ℕ → ℕ
-  pub ground : Ground n root ends incident begins first number last whole
+  pub ground : Ground most n root ends incident begins first number last whole
   pub walks : List (List Leg)
   pub state : State (graph (plan n ends)) (treeOf n ends root first (read number)) walks (read places) (read below)
   pub uses : Uses (allEdges walks) whole (read over)
@@ -50,7 +50,7 @@ pub record Exit (g : Graph) (t : Pointers) (built : List ℕ) (over place below 
   pub back : Back g t f upper lower
   pub out : (place upper ≡ link → ⊥) ⊎ ((c : ℕ) × (below bottom ≡ suc c) × Above g t c lower)
 
-abbrev pub LeftBy : List ℕ → List ℕ → List ℕ → List ℕ → List ℕ → List ℕ → List ℕ → List ℕ → List ℕ → ℕ → ℕ → ℕ → Type 0
-LeftBy ends incident begins first number last places below over top bottom r =
-    (c : Leaving ends incident begins first number last places below over top bottom)
+abbrev pub LeftBy : Limits → List ℕ → List ℕ → List ℕ → List ℕ → List ℕ → List ℕ → List ℕ → List ℕ → List ℕ → ℕ → ℕ → ℕ → Type 0
+LeftBy most ends incident begins first number last places below over top bottom r =
+    (c : Leaving most ends incident begins first number last places below over top bottom)
     → Exit (graph (plan (c .n) ends)) (treeOf (c .n) ends (c .root) first (read number)) (allEdges (c .walks)) (λ e. c .whole e - 1) (read places) (read below) (c .link) bottom r

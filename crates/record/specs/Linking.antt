@@ -3,7 +3,7 @@ use mathlib.Core.Path.{_≡_}
 use mathlib.Core.List.{List, List·Memᴰ as In}
 use Prim.Native.Nat.{ℕ, _+_, _*_, _/_, _≤_, _<_}
 use lib.ListN.{length, set}
-use Rattle.connectivity.specs.Plan.{plan, graph}
+use Rattle.connectivity.specs.Plan.{plan, graph, Limits}
 use Rattle.connectivity.specs.Graph.{Graph}
 use Rattle.connectivity.specs.Walk.{Leg, edgesOf}
 use Rattle.tree.specs.Tree.{Pointers, Climb}
@@ -30,19 +30,19 @@ pub record Roomy (n : ℕ) (below places tips : List ℕ) : Type 0 where
   pub tips-long : 2 * (n + 2) ≤ length tips
 
 -- the places of some vertices of the tree, the children noted below, and the links
-pub record Filing (n root : ℕ) (ends first : List ℕ) (rank : ℕ → ℕ) (below places tips : List ℕ) (next : ℕ) : Type 0 where
-  pub rooted : Rooted n ends root first rank
+pub record Filing (most : Limits) (n root : ℕ) (ends first : List ℕ) (rank : ℕ → ℕ) (below places tips : List ℕ) (next : ℕ) : Type 0 where
+  pub rooted : Rooted most n ends root first rank
   pub shelved : Shelved (graph (plan n ends)) (treeOf n ends root first rank) (read places)
   pub belows : Belows (graph (plan n ends)) (treeOf n ends root first rank) (λ v. 1 ≤ read places v) (read places) (read below)
   pub links : Links (graph (plan n ends)) (treeOf n ends root first rank) (read places) (topOf tips) (bottomOf tips) next
   pub roomy : Roomy n below places tips
 
 -- what `split` asks: v is built
-pub record Splitting (ends first below : List ℕ) (v next : ℕ) (places tips : List ℕ) : Type 0 where
+pub record Splitting (most : Limits) (ends first below : List ℕ) (v next : ℕ) (places tips : List ℕ) : Type 0 where
   pub n : ℕ
   pub root : ℕ
   pub rank : ℕ → ℕ
-  pub filing : Filing n root ends first rank below places tips next
+  pub filing : Filing most n root ends first rank below places tips next
   pub vertex : v < n
   pub built : 1 ≤ read places v
 
@@ -53,10 +53,10 @@ pub record Parted (g : Graph) (t : Pointers) (v next : ℕ) (place : ℕ → ℕ
   -- a place that had no vertex stays without
   pub gone : (m : ℕ) → 2 ≤ m → m < next → ((y : ℕ) → place y ≡ m → ⊥) → (y : ℕ) → place' y ≡ m → ⊥
 
-abbrev pub PartedBy : List ℕ → List ℕ → List ℕ → ℕ → ℕ → List ℕ → List ℕ → List ℕ → List ℕ → ℕ → Type 0
-PartedBy ends first below v next places tips places' tips' r =
+abbrev pub PartedBy : Limits → List ℕ → List ℕ → List ℕ → ℕ → ℕ → List ℕ → List ℕ → List ℕ → List ℕ → ℕ → Type 0
+PartedBy most ends first below v next places tips places' tips' r =
     (length places' ≡ length places) × (length tips' ≡ length tips)
-    × ((c : Splitting ends first below v next places tips)
+    × ((c : Splitting most ends first below v next places tips)
     → Parted (graph (plan (c .n) ends)) (treeOf (c .n) ends (c .root) first (c .rank)) v next (read places) (read places') (topOf tips') (bottomOf tips') r × (next ≤ r))
 
 -- two vertices have become branches, one after the other
@@ -69,23 +69,23 @@ pub record BothParted (g : Graph) (t : Pointers) (v w next : ℕ) (place place' 
   pub gone : (m : ℕ) → 2 ≤ m → m < next → ((y : ℕ) → place y ≡ m → ⊥) → (y : ℕ) → place' y ≡ m → ⊥
 
 -- what `split_both` asks: both are built
-pub record Ending (ends first below : List ℕ) (v w next : ℕ) (places tips : List ℕ) : Type 0 where
-  pub splitting : Splitting ends first below v next places tips
+pub record Ending (most : Limits) (ends first below : List ℕ) (v w next : ℕ) (places tips : List ℕ) : Type 0 where
+  pub splitting : Splitting most ends first below v next places tips
   pub vertex : w < splitting .n
   pub built : 1 ≤ read places w
 
-abbrev pub BothBy : List ℕ → List ℕ → List ℕ → ℕ → ℕ → ℕ → List ℕ → List ℕ → List ℕ → List ℕ → ℕ → Type 0
-BothBy ends first below v w next places tips places' tips' r =
+abbrev pub BothBy : Limits → List ℕ → List ℕ → List ℕ → ℕ → ℕ → ℕ → List ℕ → List ℕ → List ℕ → List ℕ → ℕ → Type 0
+BothBy most ends first below v w next places tips places' tips' r =
     (length places' ≡ length places) × (length tips' ≡ length tips)
-    × ((c : Ending ends first below v w next places tips)
+    × ((c : Ending most ends first below v w next places tips)
     → BothParted (graph (plan (c .splitting .n) ends)) (treeOf (c .splitting .n) ends (c .splitting .root) first (c .splitting .rank)) v w next (read places) (read places') (topOf tips') (bottomOf tips') r)
 
 -- what `build_walk` asks: an edge, and a climb from v to the branch `stop`
-pub record Building (ends first : List ℕ) (e v stop next : ℕ) (places below tips over : List ℕ) : Type 0 where
+pub record Building (most : Limits) (ends first : List ℕ) (e v stop next : ℕ) (places below tips over : List ℕ) : Type 0 where
   pub n : ℕ
   pub root : ℕ
   pub rank : ℕ → ℕ
-  pub filing : Filing n root ends first rank below places tips next
+  pub filing : Filing most n root ends first rank below places tips next
   pub legs : List Leg
   pub climb : Climb (graph (plan n ends)) (treeOf n ends root first rank) (λ y. 1 ≤ read places y) v legs stop
   pub branch : read places stop ≡ 1
@@ -103,9 +103,9 @@ pub record Walked (g : Graph) (t : Pointers) (e : ℕ) (legs : List Leg) (next :
   pub over-on : (d : ℕ) → In d (edgesOf legs) → over' d ≡ 0
   pub over-off : (d : ℕ) → (d ≡ e → ⊥) → (In d (edgesOf legs) → ⊥) → over' d ≡ over d
 
-abbrev pub WalkedBy : List ℕ → List ℕ → ℕ → ℕ → ℕ → ℕ → List ℕ → List ℕ → List ℕ → List ℕ → List ℕ → List ℕ → List ℕ → List ℕ → ℕ → Type 0
-WalkedBy ends first e v stop next places below tips over places' below' tips' over' r =
+abbrev pub WalkedBy : Limits → List ℕ → List ℕ → ℕ → ℕ → ℕ → ℕ → List ℕ → List ℕ → List ℕ → List ℕ → List ℕ → List ℕ → List ℕ → List ℕ → ℕ → Type 0
+WalkedBy most ends first e v stop next places below tips over places' below' tips' over' r =
     (length places' ≡ length places) × (length below' ≡ length below) × (length tips' ≡ length tips) × (length over' ≡ length over)
-    × ((c : Building ends first e v stop next places below tips over)
+    × ((c : Building most ends first e v stop next places below tips over)
     → Walked (graph (plan (c .n) ends)) (treeOf (c .n) ends (c .root) first (c .rank)) e (c .legs) next
     (read places) (read below) (read over) (read places') (read below') (topOf tips') (bottomOf tips') (read over') r × (next ≤ r))

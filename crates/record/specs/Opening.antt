@@ -3,7 +3,7 @@ use mathlib.Core.Path.{_≡_}
 use mathlib.Core.List.{List, [], _∷_}
 use Prim.Native.Nat.{ℕ, _+_, _*_, _/_, _≤_, _<_}
 use lib.ListN.{length}
-use Rattle.connectivity.specs.Plan.{plan, graph, limits}
+use Rattle.connectivity.specs.Plan.{plan, graph, Limits}
 use Rattle.connectivity.specs.Graph.{Graph}
 use Rattle.connectivity.specs.Walk.{Leg, allEdges}
 use Rattle.connectivity.specs.Mader.{rows}
@@ -25,8 +25,8 @@ pub record Door (mark number : ℕ → ℕ) (end e w : ℕ) : Type 0 where
   pub off : mark w ≡ e + 1 → ⊥
   pub low : number w ≤ end
 
-pub record DoorFits (e w first number : ℕ) : Type 0 where
-  pub edge : e < limits .edges
+pub record DoorFits (most : Limits) (e w first number : ℕ) : Type 0 where
+  pub edge : e < most .edges
   pub marked : w < first
   pub numbered : w < number
 
@@ -35,10 +35,10 @@ abbrev pub DoorAt : List ℕ → List ℕ → List ℕ → List ℕ → ℕ → 
 DoorAt ends incident first number end r k = Door (read first) (read number) end (read incident k) (farEnd ends (read incident k) r)
 
 -- what `next_door` asks: the edges at each vertex, and that some place from `from` on is that of a door
-pub record Doors (ends incident first number : List ℕ) (end r from : ℕ) : Type 0 where
+pub record Doors (most : Limits) (ends incident first number : List ℕ) (end r from : ℕ) : Type 0 where
   pub n : ℕ
   pub begins : List ℕ
-  pub admitted : Admitted limits (plan n ends)
+  pub admitted : Admitted most (plan n ends)
   pub grouped : Grouped n ends incident begins
   pub vertex : r < n
   pub first-long : n ≤ length first
@@ -53,17 +53,17 @@ pub record NextDoor (ends incident begins first number : List ℕ) (end r from k
   pub door : DoorAt ends incident first number end r k
   pub before : (j : ℕ) → from ≤ j → j < k → DoorAt ends incident first number end r j → ⊥
 
-abbrev pub NextDoorBy : List ℕ → List ℕ → List ℕ → List ℕ → ℕ → ℕ → ℕ → ℕ → Type 0
-NextDoorBy ends incident first number end r from k =
-    (c : Doors ends incident first number end r from) → NextDoor ends incident (c .begins) first number end r from k
+abbrev pub NextDoorBy : Limits → List ℕ → List ℕ → List ℕ → List ℕ → ℕ → ℕ → ℕ → ℕ → Type 0
+NextDoorBy most ends incident first number end r from k =
+    (c : Doors most ends incident first number end r from) → NextDoor ends incident (c .begins) first number end r from k
 
 -- Where two ways up meet.
 
 -- what `meeting` asks: no mark is set
-pub record Meets (ends first : List ℕ) (w u r : ℕ) (marks : List ℕ) : Type 0 where
+pub record Meets (most : Limits) (ends first : List ℕ) (w u r : ℕ) (marks : List ℕ) : Type 0 where
   pub n : ℕ
   pub rank : ℕ → ℕ
-  pub rooted : Rooted n ends r first rank
+  pub rooted : Rooted most n ends r first rank
   pub one : w < n
   pub other : u < n
   pub room : n ≤ length marks
@@ -74,17 +74,17 @@ pub record Meeting (g : Graph) (t : Pointers) (w u x : ℕ) : Type 0 where
   pub legs : List Leg
   pub climb : Climb g t (λ v. Above g t v w) u legs x
 
-abbrev pub Met : List ℕ → List ℕ → ℕ → ℕ → ℕ → List ℕ → List ℕ → ℕ → Type 0
-Met ends first w u r marks marks' x =
+abbrev pub Met : Limits → List ℕ → List ℕ → ℕ → ℕ → ℕ → List ℕ → List ℕ → ℕ → Type 0
+Met most ends first w u r marks marks' x =
     (length marks' ≡ length marks)
-    × ((c : Meets ends first w u r marks) → ((v : ℕ) → read marks' v ≡ 0) × Meeting (graph (plan (c .n) ends)) (treeOf (c .n) ends r first (c .rank)) w u x)
+    × ((c : Meets most ends first w u r marks) → ((v : ℕ) → read marks' v ≡ 0) × Meeting (graph (plan (c .n) ends)) (treeOf (c .n) ends r first (c .rank)) w u x)
 
 -- The three walks.
 
 -- two edges f and d from the root past the first edge of c, and the ways up: from w to x, from the parent of x to the root, and from u to the first
 -- vertex above w, which is x
-pub record Climbs (n root : ℕ) (ends first : List ℕ) (rank : ℕ → ℕ) (x f w d u : ℕ) : Type 0 where
-  pub rooted : Rooted n ends root first rank
+pub record Climbs (most : Limits) (n root : ℕ) (ends first : List ℕ) (rank : ℕ → ℕ) (x f w d u : ℕ) : Type 0 where
+  pub rooted : Rooted most n ends root first rank
   pub c : ℕ
   pub child : Child (graph (plan n ends)) (treeOf n ends root first rank) c
   pub one : Passing (graph (plan n ends)) (treeOf n ends root first rank) c f root w
@@ -102,46 +102,46 @@ abbrev pub threeWalks : ℕ → ℕ → ℕ → ℕ → ℕ → List Leg → Lis
 threeWalks root x f e d low high side = (leg d root ∷ side) ∷ (leg f root ∷ low) ∷ (leg e x ∷ high) ∷ []
 
 -- what `find` asks: the tables of the tree, and no mark in `places`
-pub record Finding (ends incident begins first order number last : List ℕ) (root : ℕ) (places : List ℕ) : Type 0 where
+pub record Finding (most : Limits) (ends incident begins first order number last : List ℕ) (root : ℕ) (places : List ℕ) : Type 0 where
   pub n : ℕ
   pub over : ℕ → ℕ
-  pub ground : Ground n root ends incident begins first number last over
+  pub ground : Ground most n root ends incident begins first number last over
   pub listing : Listed n root order number
   pub places-blank : (v : ℕ) → read places v ≡ 0
   pub places-long : n ≤ length places
 
 -- e leads from x to its parent p
-pub record Forked (n root : ℕ) (ends first : List ℕ) (rank : ℕ → ℕ) (places : List ℕ) (x e p f w d u : ℕ) : Type 0 where
-  pub climbs : Climbs n root ends first rank x f w d u
+pub record Forked (most : Limits) (n root : ℕ) (ends first : List ℕ) (rank : ℕ → ℕ) (places : List ℕ) (x e p f w d u : ℕ) : Type 0 where
+  pub climbs : Climbs most n root ends first rank x f w d u
   pub edge : e ≡ treeOf n ends root first rank .first x
   pub parent : p ≡ treeOf n ends root first rank .parent x
   pub blank : (v : ℕ) → read places v ≡ 0
 
-abbrev pub ForkedBy : List ℕ → List ℕ → List ℕ → List ℕ → List ℕ → List ℕ → List ℕ → ℕ → List ℕ → List ℕ → ℕ → ℕ → ℕ → ℕ → ℕ → ℕ → ℕ → Type 0
-ForkedBy ends incident begins first order number last root places places' x e p f w d u =
+abbrev pub ForkedBy : Limits → List ℕ → List ℕ → List ℕ → List ℕ → List ℕ → List ℕ → List ℕ → ℕ → List ℕ → List ℕ → ℕ → ℕ → ℕ → ℕ → ℕ → ℕ → ℕ → Type 0
+ForkedBy most ends incident begins first order number last root places places' x e p f w d u =
     (length places' ≡ length places)
-    × ((c : Finding ends incident begins first order number last root places) → Forked (c .n) root ends first (read number) places' x e p f w d u)
+    × ((c : Finding most ends incident begins first order number last root places) → Forked most (c .n) root ends first (read number) places' x e p f w d u)
 
 -- what writing them asks
-pub record Rowed (ends first : List ℕ) (root x e p f w d u room : ℕ) : Type 0 where
+pub record Rowed (most : Limits) (ends first : List ℕ) (root x e p f w d u room : ℕ) : Type 0 where
   pub n : ℕ
   pub rank : ℕ → ℕ
-  pub climbs : Climbs n root ends first rank x f w d u
+  pub climbs : Climbs most n root ends first rank x f w d u
   pub edge : e ≡ treeOf n ends root first rank .first x
   pub parent : p ≡ treeOf n ends root first rank .parent x
   pub fits : 3 * (length ends / 2) ≤ room
 
-abbrev pub RowedBy : List ℕ → List ℕ → ℕ → ℕ → ℕ → ℕ → ℕ → ℕ → ℕ → ℕ → List ℕ → List ℕ → ℕ → Type 0
-RowedBy ends first root x e p f w d u before after count =
-    (c : Rowed ends first root x e p f w d u (length before))
+abbrev pub RowedBy : Limits → List ℕ → List ℕ → ℕ → ℕ → ℕ → ℕ → ℕ → ℕ → ℕ → ℕ → List ℕ → List ℕ → ℕ → Type 0
+RowedBy most ends first root x e p f w d u before after count =
+    (c : Rowed most ends first root x e p f w d u (length before))
     → Written (rows (threeWalks root x f e d (c .climbs .low) (c .climbs .high) (c .climbs .side))) before after
     × (count ≡ length (allEdges (threeWalks root x f e d (c .climbs .low) (c .climbs .high) (c .climbs .side))))
 
 -- what building them asks: nothing in the tables by vertex
-pub record Raw (ends first : List ℕ) (root x e p f w d u : ℕ) (places below tips over : List ℕ) : Type 0 where
+pub record Raw (most : Limits) (ends first : List ℕ) (root x e p f w d u : ℕ) (places below tips over : List ℕ) : Type 0 where
   pub n : ℕ
   pub rank : ℕ → ℕ
-  pub climbs : Climbs n root ends first rank x f w d u
+  pub climbs : Climbs most n root ends first rank x f w d u
   pub edge : e ≡ treeOf n ends root first rank .first x
   pub parent : p ≡ treeOf n ends root first rank .parent x
   pub places-blank : (v : ℕ) → read places v ≡ 0
@@ -149,9 +149,9 @@ pub record Raw (ends first : List ℕ) (root x e p f w d u : ℕ) (places below 
   pub roomy : Roomy n below places tips
   pub over-long : length ends / 2 ≤ length over
 
-abbrev pub RaisedBy : List ℕ → List ℕ → ℕ → ℕ → ℕ → ℕ → ℕ → ℕ → ℕ → ℕ → List ℕ → List ℕ → List ℕ → List ℕ → List ℕ → List ℕ → List ℕ → List ℕ → ℕ → Type 0
-RaisedBy ends first root x e p f w d u places below tips over places' below' tips' over' next =
-    (c : Raw ends first root x e p f w d u places below tips over)
+abbrev pub RaisedBy : Limits → List ℕ → List ℕ → ℕ → ℕ → ℕ → ℕ → ℕ → ℕ → ℕ → ℕ → List ℕ → List ℕ → List ℕ → List ℕ → List ℕ → List ℕ → List ℕ → List ℕ → ℕ → Type 0
+RaisedBy most ends first root x e p f w d u places below tips over places' below' tips' over' next =
+    (c : Raw most ends first root x e p f w d u places below tips over)
     → Holds (c .n) root ends first (c .rank) (read over) (threeWalks root x f e d (c .climbs .low) (c .climbs .high) (c .climbs .side)) places' below' tips' over' next
 
 -- the edge of the walk k, where it leads, and where the way up from there ends

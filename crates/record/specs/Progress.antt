@@ -3,7 +3,7 @@ use mathlib.Core.Path.{_≡_}
 use mathlib.Core.List.{List, _∷_}
 use Prim.Native.Nat.{ℕ, _*_, _/_, _≤_, _<_}
 use lib.ListN.{length}
-use Rattle.connectivity.specs.Plan.{plan, graph}
+use Rattle.connectivity.specs.Plan.{plan, graph, Limits}
 use Rattle.connectivity.specs.Walk.{Leg, allEdges}
 use Rattle.graph.specs.Marks.{read}
 use Rattle.numbers.specs.Standing.{Rooted, Listed, treeOf}
@@ -11,11 +11,11 @@ use Rattle.record.specs.Standing.{Ground}
 use Rattle.record.specs.Recording.{Recording, Chosen, Behind, Recorded}
 
 -- what `add_path` asks: the rows so far, and an edge over which a Mader-path begins
-pub record Adding (ends first number : List ℕ) (f row step next : ℕ) (places below tips over now : List ℕ) : Type 0 where
+pub record Adding (most : Limits) (ends first number : List ℕ) (f row step next : ℕ) (places below tips over now : List ℕ) : Type 0 where
   pub n : ℕ
   pub root : ℕ
   pub whole : ℕ → ℕ
-  pub rooted : Rooted n ends root first (read number)
+  pub rooted : Rooted most n ends root first (read number)
   pub walks : List (List Leg)
   pub before : List ℕ
   pub recording : Recording n root ends first (read number) whole walks before now places below tips over row step next
@@ -30,42 +30,42 @@ pub record Added (n root : ℕ) (ends first : List ℕ) (rank whole : ℕ → �
   pub more : next ≤ next'
   pub gone : (m : ℕ) → 2 ≤ m → m < next → ((y : ℕ) → read places y ≡ m → ⊥) → (y : ℕ) → read places' y ≡ m → ⊥
 
-abbrev pub AddedBy : List ℕ → List ℕ → List ℕ → ℕ → ℕ → ℕ → ℕ → List ℕ → List ℕ → List ℕ → List ℕ → List ℕ → List ℕ → List ℕ → List ℕ → List ℕ → List ℕ → ℕ → ℕ → ℕ → Type 0
-AddedBy ends first number f row step next places below tips over now places' below' tips' over' then row' step' next' =
-    (c : Adding ends first number f row step next places below tips over now)
+abbrev pub AddedBy : Limits → List ℕ → List ℕ → List ℕ → ℕ → ℕ → ℕ → ℕ → List ℕ → List ℕ → List ℕ → List ℕ → List ℕ → List ℕ → List ℕ → List ℕ → List ℕ → List ℕ → ℕ → ℕ → ℕ → Type 0
+AddedBy most ends first number f row step next places below tips over now places' below' tips' over' then row' step' next' =
+    (c : Adding most ends first number f row step next places below tips over now)
     → Added (c .n) (c .root) ends first (read number) (c .whole) (c .walks) (c .before) then places places' below' tips' over' row next row' step' next'
 
 -- the tables of the tree, and how far the record has come
-pub record Going (n : ℕ) (ends incident begins first order number last : List ℕ) (whole : ℕ → ℕ) (before now places below tips over : List ℕ) (row step next empty at slot : ℕ) : Type 0 where
-  pub ground : Ground n (read order 0) ends incident begins first number last whole
+pub record Going (most : Limits) (n : ℕ) (ends incident begins first order number last : List ℕ) (whole : ℕ → ℕ) (before now places below tips over : List ℕ) (row step next empty at slot : ℕ) : Type 0 where
+  pub ground : Ground most n (read order 0) ends incident begins first number last whole
   pub listing : Listed n (read order 0) order number
   pub walks : List (List Leg)
   pub recording : Recording n (read order 0) ends first (read number) whole walks before now places below tips over row step next
   pub behind : Behind n (read incident) (read begins) (read order) (read places) (read over) next empty at slot
 
 -- what `finish` asks: the first three walks
-pub record Finishing (ends incident begins first order number last places below tips over now : List ℕ) (row step next : ℕ) : Type 0 where
+pub record Finishing (most : Limits) (ends incident begins first order number last places below tips over now : List ℕ) (row step next : ℕ) : Type 0 where
   pub n : ℕ
   pub whole : ℕ → ℕ
   pub before : List ℕ
-  pub ground : Ground n (read order 0) ends incident begins first number last whole
+  pub ground : Ground most n (read order 0) ends incident begins first number last whole
   pub listing : Listed n (read order 0) order number
   pub walks : List (List Leg)
   pub recording : Recording n (read order 0) ends first (read number) whole walks before now places below tips over row step next
 
-abbrev pub FinishedBy : List ℕ → List ℕ → List ℕ → List ℕ → List ℕ → List ℕ → List ℕ → List ℕ → List ℕ → List ℕ → List ℕ → List ℕ → ℕ → ℕ → ℕ → List ℕ → Type 0
-FinishedBy ends incident begins first order number last places below tips over now row step next then =
-    (c : Finishing ends incident begins first order number last places below tips over now row step next)
+abbrev pub FinishedBy : Limits → List ℕ → List ℕ → List ℕ → List ℕ → List ℕ → List ℕ → List ℕ → List ℕ → List ℕ → List ℕ → List ℕ → List ℕ → ℕ → ℕ → ℕ → List ℕ → Type 0
+FinishedBy most ends incident begins first order number last places below tips over now row step next then =
+    (c : Finishing most ends incident begins first order number last places below tips over now row step next)
     → (length then ≡ length now) × Recorded (c .n) ends (c .before) then
 
 -- what `build_all` asks: the tables of the tree, and room for the rows
-pub record Ready (ends incident begins first order number last over : List ℕ) (room : ℕ) : Type 0 where
+pub record Ready (most : Limits) (ends incident begins first order number last over : List ℕ) (room : ℕ) : Type 0 where
   pub n : ℕ
-  pub ground : Ground n (read order 0) ends incident begins first number last (read over)
+  pub ground : Ground most n (read order 0) ends incident begins first number last (read over)
   pub listing : Listed n (read order 0) order number
   pub over-long : length ends / 2 ≤ length over
   pub fits : 3 * (length ends / 2) ≤ room
 
-abbrev pub AllBuilt : List ℕ → List ℕ → List ℕ → List ℕ → List ℕ → List ℕ → List ℕ → List ℕ → List ℕ → List ℕ → Type 0
-AllBuilt ends incident begins first order number last over before after =
-    (c : Ready ends incident begins first order number last over (length before)) → Recorded (c .n) ends before after
+abbrev pub AllBuilt : Limits → List ℕ → List ℕ → List ℕ → List ℕ → List ℕ → List ℕ → List ℕ → List ℕ → List ℕ → List ℕ → Type 0
+AllBuilt most ends incident begins first order number last over before after =
+    (c : Ready most ends incident begins first order number last over (length before)) → Recorded (c .n) ends before after

@@ -3,7 +3,7 @@ use mathlib.Core.Path.{_≡_}
 use mathlib.Core.List.{List, _∷_, List·Memᴰ as In}
 use Prim.Native.Nat.{ℕ, _+_, _-_, _*_, _/_, _≤_, _<_}
 use lib.ListN.{length}
-use Rattle.connectivity.specs.Plan.{plan, graph, limits}
+use Rattle.connectivity.specs.Plan.{plan, graph, Limits}
 use Rattle.connectivity.specs.Graph.{Graph}
 use Rattle.connectivity.specs.Reach.{ThreeEdgeConnected}
 use Rattle.connectivity.specs.Walk.{Leg, allEdges, Built}
@@ -21,8 +21,8 @@ use Rattle.record.specs.Linking.{Roomy, topOf, bottomOf}
 use Rattle.record.specs.Leaving.{Uses}
 
 -- a plan with no cut of at most two edges, and a list with room for its rows
-pub record Sturdy (n : ℕ) (ends : List ℕ) (room : ℕ) : Type 0 where
-  pub admitted : Admitted limits (plan n ends)
+pub record Sturdy (most : Limits) (n : ℕ) (ends : List ℕ) (room : ℕ) : Type 0 where
+  pub admitted : Admitted most (plan n ends)
   pub three : ThreeEdgeConnected (graph (plan n ends))
   pub fits : 3 * (length ends / 2) ≤ room
 
@@ -52,9 +52,9 @@ pub record Recording (n root : ℕ) (ends first : List ℕ) (rank whole : ℕ �
 -- The first three walks.
 
 -- what they ask: the tables of the tree, nothing in the others, and room for the rows
-pub record Beginning (ends incident begins first order number last : List ℕ) (places below tips over : List ℕ) (room : ℕ) : Type 0 where
+pub record Beginning (most : Limits) (ends incident begins first order number last : List ℕ) (places below tips over : List ℕ) (room : ℕ) : Type 0 where
   pub n : ℕ
-  pub ground : Ground n (read order 0) ends incident begins first number last (read over)
+  pub ground : Ground most n (read order 0) ends incident begins first number last (read over)
   pub listing : Listed n (read order 0) order number
   pub places-blank : (v : ℕ) → read places v ≡ 0
   pub below-blank : (v : ℕ) → read below v ≡ 0
@@ -67,9 +67,9 @@ pub record Begun (n root : ℕ) (ends first : List ℕ) (rank whole : ℕ → �
   pub walks : List (List Leg)
   pub recording : Recording n root ends first rank whole walks before after places below tips over row step next
 
-abbrev pub BegunBy : List ℕ → List ℕ → List ℕ → List ℕ → List ℕ → List ℕ → List ℕ → List ℕ → List ℕ → List ℕ → List ℕ → List ℕ → List ℕ → List ℕ → List ℕ → List ℕ → List ℕ → ℕ → ℕ → ℕ → Type 0
-BegunBy ends incident begins first order number last places below tips over rows places' below' tips' over' rows' row step next =
-    (c : Beginning ends incident begins first order number last places below tips over (length rows))
+abbrev pub BegunBy : Limits → List ℕ → List ℕ → List ℕ → List ℕ → List ℕ → List ℕ → List ℕ → List ℕ → List ℕ → List ℕ → List ℕ → List ℕ → List ℕ → List ℕ → List ℕ → List ℕ → List ℕ → ℕ → ℕ → ℕ → Type 0
+BegunBy most ends incident begins first order number last places below tips over rows places' below' tips' over' rows' row step next =
+    (c : Beginning most ends incident begins first order number last places below tips over (length rows))
     → Begun (c .n) (read order 0) ends first (read number) (read over) rows rows' places' below' tips' over' row step next
 
 -- One step more.
@@ -95,28 +95,28 @@ pub record Behind (n : ℕ) (incident begins order place over : ℕ → ℕ) (ne
   pub before : (k : ℕ) → begins (order at) ≤ k → k < slot → over (incident k) ≡ 0
 
 -- what `next_edge` asks: an edge is left
-pub record Nexting (ends incident begins first order number last places below tips over : List ℕ) (next empty at slot : ℕ) : Type 0 where
+pub record Nexting (most : Limits) (ends incident begins first order number last places below tips over : List ℕ) (next empty at slot : ℕ) : Type 0 where
   pub n : ℕ
   pub whole : ℕ → ℕ
-  pub ground : Ground n (read order 0) ends incident begins first number last whole
+  pub ground : Ground most n (read order 0) ends incident begins first number last whole
   pub listing : Listed n (read order 0) order number
   pub walks : List (List Leg)
   pub holds : Holds n (read order 0) ends first (read number) whole walks places below tips over next
   pub behind : Behind n (read incident) (read begins) (read order) (read places) (read over) next empty at slot
   pub left : length (allEdges walks) < length ends / 2
 
-abbrev pub NextBy : List ℕ → List ℕ → List ℕ → List ℕ → List ℕ → List ℕ → List ℕ → List ℕ → List ℕ → List ℕ → List ℕ → ℕ → ℕ → ℕ → ℕ → ℕ → ℕ → ℕ → ℕ → Type 0
-NextBy ends incident begins first order number last places below tips over next empty at slot empty' at' slot' f =
-    (c : Nexting ends incident begins first order number last places below tips over next empty at slot)
+abbrev pub NextBy : Limits → List ℕ → List ℕ → List ℕ → List ℕ → List ℕ → List ℕ → List ℕ → List ℕ → List ℕ → List ℕ → List ℕ → ℕ → ℕ → ℕ → ℕ → ℕ → ℕ → ℕ → ℕ → Type 0
+NextBy most ends incident begins first order number last places below tips over next empty at slot empty' at' slot' f =
+    (c : Nexting most ends incident begins first order number last places below tips over next empty at slot)
     → Behind (c .n) (read incident) (read begins) (read order) (read places) (read over) next empty' at' slot'
     × Chosen (graph (plan (c .n) ends)) (treeOf (c .n) ends (read order 0) first (read number)) (allEdges (c .walks)) f
 
 -- what one more asks: room for its rows
-pub record Stepping (ends first number : List ℕ) (f next : ℕ) (places below tips over : List ℕ) (room : ℕ) : Type 0 where
+pub record Stepping (most : Limits) (ends first number : List ℕ) (f next : ℕ) (places below tips over : List ℕ) (room : ℕ) : Type 0 where
   pub n : ℕ
   pub root : ℕ
   pub whole : ℕ → ℕ
-  pub rooted : Rooted n ends root first (read number)
+  pub rooted : Rooted most n ends root first (read number)
   pub walks : List (List Leg)
   pub holds : Holds n root ends first (read number) whole walks places below tips over next
   pub chosen : Chosen (graph (plan n ends)) (treeOf n ends root first (read number)) (allEdges walks) f

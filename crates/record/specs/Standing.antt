@@ -3,7 +3,7 @@ use mathlib.Core.Path.{_≡_}
 use mathlib.Core.List.{List}
 use Prim.Native.Nat.{ℕ, _+_, _-_, _≤_, _<_}
 use lib.ListN.{length}
-use Rattle.connectivity.specs.Plan.{plan, graph}
+use Rattle.connectivity.specs.Plan.{plan, graph, Limits}
 use Rattle.connectivity.specs.Graph.{Joins}
 use Rattle.connectivity.specs.Reach.{ThreeEdgeConnected}
 use Rattle.graph.specs.Marks.{read}
@@ -20,8 +20,8 @@ pub record Grouped (n : ℕ) (ends incident begins : List ℕ) : Type 0 where
   pub room : n < length begins
 
 -- all that stays as it is while a record is written
-pub record Ground (n root : ℕ) (ends incident begins first number last : List ℕ) (over : ℕ → ℕ) : Type 0 where
-  pub rooted : Rooted n ends root first (read number)
+pub record Ground (most : Limits) (n root : ℕ) (ends incident begins first number last : List ℕ) (over : ℕ → ℕ) : Type 0 where
+  pub rooted : Rooted most n ends root first (read number)
   pub three : ThreeEdgeConnected (graph (plan n ends))
   pub grouped : Grouped n ends incident begins
   pub beneath : Beneath n root ends first (read number) (read last) over

@@ -3,7 +3,7 @@ use mathlib.Core.Path.{_≡_}
 use mathlib.Core.List.{List}
 use Prim.Native.Nat.{ℕ, _≤_, _<_}
 use lib.ListN.{length}
-use Rattle.connectivity.specs.Plan.{plan, graph, limits}
+use Rattle.connectivity.specs.Plan.{plan, graph, Limits}
 use Rattle.connectivity.specs.Reach.{ThreeEdgeConnected}
 use Rattle.graph.specs.Marks.{read, Live}
 use Rattle.incidence.specs.Tables.{Tabled}
@@ -11,12 +11,12 @@ use Rattle.depth.specs.Depth.{Crossing, Found}
 use Rattle.record.specs.Standing.{Grouped}
 
 -- the tables by vertex, and a search from vertex 0 over them
-pub record Searched (n : ℕ) (ends incident begins first order : List ℕ) : Type 0 where
+pub record Searched (most : Limits) (n : ℕ) (ends incident begins first order : List ℕ) : Type 0 where
   pub three : ThreeEdgeConnected (graph (plan n ends))
   pub grouped : Grouped n ends incident begins
   -- the table before its end was set
   pub begins₀ : List ℕ
-  pub tabled : Tabled limits (plan n ends) incident begins₀
+  pub tabled : Tabled most (plan n ends) incident begins₀
   pub dead : List ℕ
   pub live : (e : ℕ) → Live dead e
   pub first₀ : List ℕ

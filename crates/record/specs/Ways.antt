@@ -6,7 +6,7 @@ use Prim.Native.Nat.{ℕ, suc, _+_, _-_, _*_, _/_, _≤_, _<_}
 use lib.Dec.{ltb}
 use lib.ListN.{length, getD, set, drop}
 use Rattle.connectivity.specs.Lists.{Distinct}
-use Rattle.connectivity.specs.Plan.{plan, graph, limits}
+use Rattle.connectivity.specs.Plan.{plan, graph, Limits}
 use Rattle.connectivity.specs.Graph.{Graph, Joins}
 use Rattle.connectivity.specs.Walk.{Leg, froms, edgesOf}
 use Rattle.connectivity.specs.Mader.{stepRows}
@@ -49,42 +49,42 @@ pub data Path (g : Graph) (mark : ℕ → ℕ) : ℕ → List Leg → ℕ → Ty
   up : {v p w : ℕ} {legs : List Leg} → 1 ≤ mark v → Joins g (mark v - 1) v p → Path g mark p legs w → Path g mark v (leg (mark v - 1) v ∷ legs) w
 
 -- a way up that passes each vertex once
-pub record Way (ends first : List ℕ) (v stop : ℕ) : Type 0 where
+pub record Way (most : Limits) (ends first : List ℕ) (v stop : ℕ) : Type 0 where
   pub n : ℕ
-  pub admitted : Admitted limits (plan n ends)
+  pub admitted : Admitted most (plan n ends)
   pub long : n ≤ length first
   pub to : stop < n
   pub legs : List Leg
   pub path : Path (graph (plan n ends)) (read first) v legs stop
   pub once : Distinct (froms legs)
   pub apart : In stop (froms legs) → ⊥
-  pub short : length legs ≤ limits .vertices
+  pub short : length legs ≤ most .vertices
 
 -- The rows of a way up.
 
 -- and room for its rows
-pub record Climbing (ends first : List ℕ) (v stop room : ℕ) : Type 0 where
-  pub way : Way ends first v stop
+pub record Climbing (most : Limits) (ends first : List ℕ) (v stop room : ℕ) : Type 0 where
+  pub way : Way most ends first v stop
   pub fits : 3 * length (way .legs) ≤ room
 
-abbrev pub Climbed : List ℕ → List ℕ → ℕ → ℕ → ℕ → List ℕ → List ℕ → ℕ → Type 0
-Climbed ends first v stop step before after r =
-    (c : Climbing ends first v stop (length before)) → Written (stepRows step (c .way .legs)) before after × (r ≡ length (c .way .legs))
+abbrev pub Climbed : Limits → List ℕ → List ℕ → ℕ → ℕ → ℕ → List ℕ → List ℕ → ℕ → Type 0
+Climbed most ends first v stop step before after r =
+    (c : Climbing most ends first v stop (length before)) → Written (stepRows step (c .way .legs)) before after × (r ≡ length (c .way .legs))
 
 -- over e from `from`, and up: room for one row more
-pub record OneMore (ends first : List ℕ) (v stop room : ℕ) : Type 0 where
-  pub way : Way ends first v stop
+pub record OneMore (most : Limits) (ends first : List ℕ) (v stop room : ℕ) : Type 0 where
+  pub way : Way most ends first v stop
   pub fits : 3 * length (way .legs) + 3 ≤ room
 
-abbrev pub OverUp : List ℕ → List ℕ → ℕ → ℕ → ℕ → ℕ → ℕ → List ℕ → List ℕ → ℕ → Type 0
-OverUp ends first e from v stop step before after r =
-    (c : OneMore ends first v stop (length before)) → Written (stepRows step (leg e from ∷ c .way .legs)) before after × (r ≡ length (c .way .legs) + 1)
+abbrev pub OverUp : Limits → List ℕ → List ℕ → ℕ → ℕ → ℕ → ℕ → ℕ → List ℕ → List ℕ → ℕ → Type 0
+OverUp most ends first e from v stop step before after r =
+    (c : OneMore most ends first v stop (length before)) → Written (stepRows step (leg e from ∷ c .way .legs)) before after × (r ≡ length (c .way .legs) + 1)
 
 -- Marks along a way up.
 
 -- and a mark for each vertex
-pub record Marking (ends first : List ℕ) (v stop size : ℕ) : Type 0 where
-  pub way : Way ends first v stop
+pub record Marking (most : Limits) (ends first : List ℕ) (v stop size : ℕ) : Type 0 where
+  pub way : Way most ends first v stop
   pub room : way .n ≤ size
 
 -- its vertices have the mark m, the marks of all others stay
@@ -93,26 +93,26 @@ pub record MarkedOn (legs : List Leg) (stop m : ℕ) (before after : ℕ → ℕ
   pub end : after stop ≡ m
   pub off : (u : ℕ) → (In u (froms legs) → ⊥) → (u ≡ stop → ⊥) → after u ≡ before u
 
-abbrev pub MarkedUp : List ℕ → List ℕ → ℕ → ℕ → ℕ → List ℕ → List ℕ → Type 0
-MarkedUp ends first v stop m before after =
-    (length after ≡ length before) × ((c : Marking ends first v stop (length before)) → MarkedOn (c .way .legs) stop m (read before) (read after))
+abbrev pub MarkedUp : Limits → List ℕ → List ℕ → ℕ → ℕ → ℕ → List ℕ → List ℕ → Type 0
+MarkedUp most ends first v stop m before after =
+    (length after ≡ length before) × ((c : Marking most ends first v stop (length before)) → MarkedOn (c .way .legs) stop m (read before) (read after))
 
 -- a way up to the first marked vertex on it
-pub record Toward (ends first marks : List ℕ) (v : ℕ) : Type 0 where
+pub record Toward (most : Limits) (ends first marks : List ℕ) (v : ℕ) : Type 0 where
   pub to : ℕ
-  pub way : Way ends first v to
+  pub way : Way most ends first v to
   pub room : way .n ≤ length marks
   pub plain : (u : ℕ) → In u (froms (way .legs)) → read marks u ≡ 0
   pub met : Marked (read marks) to
 
-abbrev pub MetFirst : List ℕ → List ℕ → List ℕ → ℕ → ℕ → Type 0
-MetFirst ends first marks v r = (c : Toward ends first marks v) → r ≡ c .to
+abbrev pub MetFirst : Limits → List ℕ → List ℕ → List ℕ → ℕ → ℕ → Type 0
+MetFirst most ends first marks v r = (c : Toward most ends first marks v) → r ≡ c .to
 
 -- The edges of a way up are built.
 
 -- a place for each vertex and for each edge
-pub record Raising (ends first : List ℕ) (v stop below over : ℕ) : Type 0 where
-  pub way : Way ends first v stop
+pub record Raising (most : Limits) (ends first : List ℕ) (v stop below over : ℕ) : Type 0 where
+  pub way : Way most ends first v stop
   pub room : way .n ≤ below
   pub edges : length ends / 2 ≤ over
 
@@ -125,7 +125,7 @@ pub record Raised (ends first : List ℕ) (legs : List Leg) (stop : ℕ) (below 
   pub top-on : 1 ≤ length legs → In top (froms legs)
   pub top-up : 1 ≤ length legs → nextUp ends first top ≡ stop
 
-abbrev pub RaisedUp : List ℕ → List ℕ → ℕ → ℕ → List ℕ → List ℕ → List ℕ → List ℕ → ℕ → Type 0
-RaisedUp ends first v stop below over below' over' r =
+abbrev pub RaisedUp : Limits → List ℕ → List ℕ → ℕ → ℕ → List ℕ → List ℕ → List ℕ → List ℕ → ℕ → Type 0
+RaisedUp most ends first v stop below over below' over' r =
     (length below' ≡ length below) × (length over' ≡ length over)
-    × ((c : Raising ends first v stop (length below) (length over)) → Raised ends first (c .way .legs) stop (read below) (read over) (read below') (read over') r)
+    × ((c : Raising most ends first v stop (length below) (length over)) → Raised ends first (c .way .legs) stop (read below) (read over) (read below') (read over') r)

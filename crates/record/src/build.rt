@@ -7,6 +7,7 @@ use graph::Graph;
 ghost use mathlib.Core.Path.{_≡_};
 ghost use Prim.Native.Nat.{_<_};
 ghost use lib.ListN.{length};
+ghost use Rattle.connectivity.specs.Plan.{limits};
 ghost use Rattle.graph.specs.Marks.{read};
 ghost use Rattle.record.specs.Recording.{Sturdy, Recorded};
 ghost use Rattle.record.specs.Progress.{Finishing, FinishedBy, Ready, AllBuilt};
@@ -22,7 +23,7 @@ pub(crate) fn build_record(
     order: &[u16],
     rows: &mut [u16],
 )
-    requires { ⌜ Sturdy vertices (now ends) (length (now rows)) × Searched vertices (now ends) (now incident) (now begins) (now first) (now order) ⌝ }
+    requires { ⌜ Sturdy limits vertices (now ends) (length (now rows)) × Searched limits vertices (now ends) (now incident) (now begins) (now first) (now order) ⌝ }
     ensures { λ _. ⌜ Recorded vertices (now (ends .entry)) (now (rows .entry)) (now (rows .exit)) ⌝ }
 {
     let mut number = [0u16; Graph::MAX_VERTICES];
@@ -62,8 +63,8 @@ fn build_all(
     over: &mut [u16],
     rows: &mut [u16],
 )
-    requires { ⌜ Ready (now ends) (now incident) (now begins) (now first) (now order) (now number) (now last) (now over) (length (now rows)) ⌝ }
-    ensures { λ _. ⌜ AllBuilt (now (ends .entry)) (now (incident .entry)) (now (begins .entry)) (now (first .entry)) (now (order .entry)) (now (number .entry)) (now (last .entry)) (now (over .entry)) (now (rows .entry)) (now (rows .exit)) ⌝ }
+    requires { ⌜ Ready limits (now ends) (now incident) (now begins) (now first) (now order) (now number) (now last) (now over) (length (now rows)) ⌝ }
+    ensures { λ _. ⌜ AllBuilt limits (now (ends .entry)) (now (incident .entry)) (now (begins .entry)) (now (first .entry)) (now (order .entry)) (now (number .entry)) (now (last .entry)) (now (over .entry)) (now (rows .entry)) (now (rows .exit)) ⌝ }
 {
     let mut places = [0u16; Graph::MAX_VERTICES];
     let mut below = [0u16; Graph::MAX_VERTICES];
@@ -115,8 +116,8 @@ fn finish(
     over: &mut [u16],
     rows: &mut [u16],
 )
-    requires { ⌜ Finishing (now ends) (now incident) (now begins) (now first) (now order) (now number) (now last) (now places) (now below) (now tips) (now over) (now rows) (begun .row) (begun .step) (begun .next) ⌝ }
-    ensures { λ _. ⌜ FinishedBy (now (ends .entry)) (now (incident .entry)) (now (begins .entry)) (now (first .entry)) (now (order .entry)) (now (number .entry)) (now (last .entry)) (now (places .entry)) (now (below .entry)) (now (tips .entry)) (now (over .entry)) (now (rows .entry)) (begun .row) (begun .step) (begun .next) (now (rows .exit)) ⌝ }
+    requires { ⌜ Finishing limits (now ends) (now incident) (now begins) (now first) (now order) (now number) (now last) (now places) (now below) (now tips) (now over) (now rows) (begun .row) (begun .step) (begun .next) ⌝ }
+    ensures { λ _. ⌜ FinishedBy limits (now (ends .entry)) (now (incident .entry)) (now (begins .entry)) (now (first .entry)) (now (order .entry)) (now (number .entry)) (now (last .entry)) (now (places .entry)) (now (below .entry)) (now (tips .entry)) (now (over .entry)) (now (rows .entry)) (begun .row) (begun .step) (begun .next) (now (rows .exit)) ⌝ }
 {
     let edges = (ends.len() / 2) as u16;
     let mut done = begun;

@@ -2,6 +2,7 @@
 use crate::walk;
 ghost use Prim.Native.Nat.{_+_, _≤_, _<_};
 ghost use lib.ListN.{length};
+ghost use Rattle.connectivity.specs.Plan.{limits};
 ghost use Rattle.graph.specs.Marks.{read};
 ghost use Rattle.graph.specs.Tells.{Tells};
 ghost use Rattle.record.specs.Leaving.{Leaving, LeftBy};
@@ -28,8 +29,8 @@ pub(crate) fn leave_link(
     top: u16,
     bottom: u16,
 ) -> u16
-    requires { ⌜ Leaving (now ends) (now incident) (now begins) (now first) (now number) (now last) (now places) (now below) (now over) top bottom ⌝ }
-    ensures { λ r. ⌜ LeftBy (now (ends .entry)) (now (incident .entry)) (now (begins .entry)) (now (first .entry)) (now (number .entry)) (now (last .entry)) (now (places .entry)) (now (below .entry)) (now (over .entry)) top bottom r ⌝ }
+    requires { ⌜ Leaving limits (now ends) (now incident) (now begins) (now first) (now number) (now last) (now places) (now below) (now over) top bottom ⌝ }
+    ensures { λ r. ⌜ LeftBy limits (now (ends .entry)) (now (incident .entry)) (now (begins .entry)) (now (first .entry)) (now (number .entry)) (now (last .entry)) (now (places .entry)) (now (below .entry)) (now (over .entry)) top bottom r ⌝ }
 {
     let under = range_below(number, last, below, bottom);
     let mut a = top;

@@ -28,8 +28,8 @@ pub(crate) fn split(
     places: &mut [u16],
     tips: &mut [u16],
 ) -> u16
-    requires { ⌜ Splitting (now ends) (now first) (now below) v next (now places) (now tips) ⌝ }
-    ensures { λ r. ⌜ PartedBy (now (ends .entry)) (now (first .entry)) (now (below .entry)) v next (now (places .entry)) (now (tips .entry)) (now (places .exit)) (now (tips .exit)) r ⌝ }
+    requires { ⌜ Splitting limits (now ends) (now first) (now below) v next (now places) (now tips) ⌝ }
+    ensures { λ r. ⌜ PartedBy limits (now (ends .entry)) (now (first .entry)) (now (below .entry)) v next (now (places .entry)) (now (tips .entry)) (now (places .exit)) (now (tips .exit)) r ⌝ }
 {
     let own = places[v as usize];
     if own == 1 {
@@ -58,7 +58,7 @@ fn set_tips(tips: &mut [u16], m: u16, top: u16, bottom: u16)
 
 // How a link with these tips is cut at `v`, which it loses. The shorter part becomes a link.
 fn cut(ends: &[u16], first: &[u16], below: &[u16], v: u16, top: u16, bottom: u16) -> Tips
-    requires { ⌜ Cutting (now ends) (now first) (now below) v top bottom ⌝ }
+    requires { ⌜ Cutting limits (now ends) (now first) (now below) v top bottom ⌝ }
     ensures { λ r. ⌜ CutAt v top bottom (nextUp (now (ends .entry)) (now (first .entry)) v + 1) (read (now (below .entry)) v) (r .top) (r .bottom) (r .high) (r .low) ⌝ }
 {
     let down = below[v as usize];
@@ -126,7 +126,7 @@ fn cut_inside(is_upper: bool, top: u16, bottom: u16, up: u16, down: u16) -> Tips
 
 // Whether the part of a link above `v` is not longer than the one below: the ways from `v` to the top and from the bottom to `v` go on side by side.
 fn is_upper_shorter(ends: &[u16], first: &[u16], v: u16, top: u16, bottom: u16) -> bool
-    requires { ⌜ Between (now ends) (now first) v top bottom ⌝ }
+    requires { ⌜ Between limits (now ends) (now first) v top bottom ⌝ }
 {
     let mut a = v;
     let mut b = bottom;
@@ -151,8 +151,8 @@ pub(crate) fn split_both(
     places: &mut [u16],
     tips: &mut [u16],
 ) -> u16
-    requires { ⌜ Ending (now ends) (now first) (now below) v w next (now places) (now tips) ⌝ }
-    ensures { λ r. ⌜ BothBy (now (ends .entry)) (now (first .entry)) (now (below .entry)) v w next (now (places .entry)) (now (tips .entry)) (now (places .exit)) (now (tips .exit)) r ⌝ }
+    requires { ⌜ Ending limits (now ends) (now first) (now below) v w next (now places) (now tips) ⌝ }
+    ensures { λ r. ⌜ BothBy limits (now (ends .entry)) (now (first .entry)) (now (below .entry)) v w next (now (places .entry)) (now (tips .entry)) (now (places .exit)) (now (tips .exit)) r ⌝ }
 {
     let one = split(ends, first, below, v, next, places, tips);
     split(ends, first, below, w, one, places, tips)
@@ -171,8 +171,8 @@ pub(crate) fn build_walk(
     tips: &mut [u16],
     over: &mut [u16],
 ) -> u16
-    requires { ⌜ Building (now ends) (now first) e v stop next (now places) (now below) (now tips) (now over) ⌝ }
-    ensures { λ r. ⌜ WalkedBy (now (ends .entry)) (now (first .entry)) e v stop next (now (places .entry)) (now (below .entry)) (now (tips .entry)) (now (over .entry)) (now (places .exit)) (now (below .exit)) (now (tips .exit)) (now (over .exit)) r ⌝ }
+    requires { ⌜ Building limits (now ends) (now first) e v stop next (now places) (now below) (now tips) (now over) ⌝ }
+    ensures { λ r. ⌜ WalkedBy limits (now (ends .entry)) (now (first .entry)) e v stop next (now (places .entry)) (now (below .entry)) (now (tips .entry)) (now (over .entry)) (now (places .exit)) (now (below .exit)) (now (tips .exit)) (now (over .exit)) r ⌝ }
 {
     over[e as usize] = 0;
     if v == stop {

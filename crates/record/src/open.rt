@@ -2,6 +2,7 @@
 
 ghost use Prim.Native.Nat.{_*_, _≤_};
 ghost use lib.ListN.{length};
+ghost use Rattle.connectivity.specs.Plan.{limits};
 ghost use Rattle.graph.specs.Marks.{read};
 ghost use Rattle.record.specs.Linking.{topOf};
 ghost use Rattle.record.specs.Cursors.{NextLink, NextSlot, Slots, Opening, OpenedAt};
@@ -37,8 +38,8 @@ pub(crate) fn next_open(
     at: u16,
     slot: u16,
 ) -> Open
-    requires { ⌜ Opening (now incident) (now begins) (now order) (now over) at slot ⌝ }
-    ensures { λ r. ⌜ OpenedAt (now (incident .entry)) (now (begins .entry)) (now (order .entry)) (now (over .entry)) at slot (r .at) (r .slot) ⌝ }
+    requires { ⌜ Opening limits (now incident) (now begins) (now order) (now over) at slot ⌝ }
+    ensures { λ r. ⌜ OpenedAt limits (now (incident .entry)) (now (begins .entry)) (now (order .entry)) (now (over .entry)) at slot (r .at) (r .slot) ⌝ }
 {
     let mut i = at;
     let mut from = slot;

@@ -3,6 +3,7 @@ use crate::exit;
 use crate::link;
 use crate::open;
 use crate::walk;
+ghost use Rattle.connectivity.specs.Plan.{limits};
 ghost use Rattle.record.specs.Recording.{Nexting, NextBy};
 ghost use Rattle.record.specs.Progress.{Adding, AddedBy};
 
@@ -38,8 +39,8 @@ pub(crate) fn next_edge(
     next: u16,
     stage: Stage,
 ) -> Stage
-    requires { ⌜ Nexting (now ends) (now incident) (now begins) (now first) (now order) (now number) (now last) (now places) (now below) (now tips) (now over) next (stage .empty) (stage .at) (stage .slot) ⌝ }
-    ensures { λ r. ⌜ NextBy (now (ends .entry)) (now (incident .entry)) (now (begins .entry)) (now (first .entry)) (now (order .entry)) (now (number .entry)) (now (last .entry)) (now (places .entry)) (now (below .entry)) (now (tips .entry)) (now (over .entry)) next (stage .empty) (stage .at) (stage .slot) (r .empty) (r .at) (r .slot) (r .edge) ⌝ }
+    requires { ⌜ Nexting limits (now ends) (now incident) (now begins) (now first) (now order) (now number) (now last) (now places) (now below) (now tips) (now over) next (stage .empty) (stage .at) (stage .slot) ⌝ }
+    ensures { λ r. ⌜ NextBy limits (now (ends .entry)) (now (incident .entry)) (now (begins .entry)) (now (first .entry)) (now (order .entry)) (now (number .entry)) (now (last .entry)) (now (places .entry)) (now (below .entry)) (now (tips .entry)) (now (over .entry)) next (stage .empty) (stage .at) (stage .slot) (r .empty) (r .at) (r .slot) (r .edge) ⌝ }
 {
     let m = open::next_link(tips, next, stage.empty);
     if m < next {
@@ -89,8 +90,8 @@ pub(crate) fn add_path(
     over: &mut [u16],
     rows: &mut [u16],
 ) -> Progress
-    requires { ⌜ Adding (now ends) (now first) (now number) f (done .row) (done .step) (done .next) (now places) (now below) (now tips) (now over) (now rows) ⌝ }
-    ensures { λ r. ⌜ AddedBy (now (ends .entry)) (now (first .entry)) (now (number .entry)) f (done .row) (done .step) (done .next) (now (places .entry)) (now (below .entry)) (now (tips .entry)) (now (over .entry)) (now (rows .entry)) (now (places .exit)) (now (below .exit)) (now (tips .exit)) (now (over .exit)) (now (rows .exit)) (r .row) (r .step) (r .next) ⌝ }
+    requires { ⌜ Adding limits (now ends) (now first) (now number) f (done .row) (done .step) (done .next) (now places) (now below) (now tips) (now over) (now rows) ⌝ }
+    ensures { λ r. ⌜ AddedBy limits (now (ends .entry)) (now (first .entry)) (now (number .entry)) f (done .row) (done .step) (done .next) (now (places .entry)) (now (below .entry)) (now (tips .entry)) (now (over .entry)) (now (rows .entry)) (now (places .exit)) (now (below .exit)) (now (tips .exit)) (now (over .exit)) (now (rows .exit)) (r .row) (r .step) (r .next) ⌝ }
 {
     let s = walk::upper(ends, number, f);
     let w = walk::other_end(ends, f, s);

@@ -4,6 +4,7 @@ use crate::link;
 use crate::step::Progress;
 use crate::walk;
 ghost use lib.ListN.{length};
+ghost use Rattle.connectivity.specs.Plan.{limits};
 ghost use Rattle.graph.specs.Marks.{read};
 ghost use Rattle.graph.specs.Tells.{Tells};
 ghost use Rattle.record.specs.Recording.{Beginning, BegunBy};
@@ -36,8 +37,8 @@ pub(crate) fn first_walks(
     over: &mut [u16],
     rows: &mut [u16],
 ) -> Progress
-    requires { ⌜ Beginning (now ends) (now incident) (now begins) (now first) (now order) (now number) (now last) (now places) (now below) (now tips) (now over) (length (now rows)) ⌝ }
-    ensures { λ r. ⌜ BegunBy (now (ends .entry)) (now (incident .entry)) (now (begins .entry)) (now (first .entry)) (now (order .entry)) (now (number .entry)) (now (last .entry)) (now (places .entry)) (now (below .entry)) (now (tips .entry)) (now (over .entry)) (now (rows .entry)) (now (places .exit)) (now (below .exit)) (now (tips .exit)) (now (over .exit)) (now (rows .exit)) (r .row) (r .step) (r .next) ⌝ }
+    requires { ⌜ Beginning limits (now ends) (now incident) (now begins) (now first) (now order) (now number) (now last) (now places) (now below) (now tips) (now over) (length (now rows)) ⌝ }
+    ensures { λ r. ⌜ BegunBy limits (now (ends .entry)) (now (incident .entry)) (now (begins .entry)) (now (first .entry)) (now (order .entry)) (now (number .entry)) (now (last .entry)) (now (places .entry)) (now (below .entry)) (now (tips .entry)) (now (over .entry)) (now (rows .entry)) (now (places .exit)) (now (below .exit)) (now (tips .exit)) (now (over .exit)) (now (rows .exit)) (r .row) (r .step) (r .next) ⌝ }
 {
     let r = order[0];
     let t = find(
@@ -72,8 +73,8 @@ fn find(
     r: u16,
     places: &mut [u16],
 ) -> Fork
-    requires { ⌜ Finding (now ends) (now incident) (now begins) (now first) (now order) (now number) (now last) r (now places) ⌝ }
-    ensures { λ q. ⌜ ForkedBy (now (ends .entry)) (now (incident .entry)) (now (begins .entry)) (now (first .entry)) (now (order .entry)) (now (number .entry)) (now (last .entry)) r (now (places .entry)) (now (places .exit)) (q .x) (q .e) (q .p) (q .f) (q .w) (q .d) (q .u) ⌝ }
+    requires { ⌜ Finding limits (now ends) (now incident) (now begins) (now first) (now order) (now number) (now last) r (now places) ⌝ }
+    ensures { λ q. ⌜ ForkedBy limits (now (ends .entry)) (now (incident .entry)) (now (begins .entry)) (now (first .entry)) (now (order .entry)) (now (number .entry)) (now (last .entry)) r (now (places .entry)) (now (places .exit)) (q .x) (q .e) (q .p) (q .f) (q .w) (q .d) (q .u) ⌝ }
 {
     let end = last[order[1] as usize];
     let j = next_door(ends, incident, first, number, end, r, begins[r as usize]);
@@ -106,8 +107,8 @@ fn next_door(
     r: u16,
     from: u16,
 ) -> u16
-    requires { ⌜ Doors (now ends) (now incident) (now first) (now number) end r from ⌝ }
-    ensures { λ k. ⌜ NextDoorBy (now (ends .entry)) (now (incident .entry)) (now (first .entry)) (now (number .entry)) end r from k ⌝ }
+    requires { ⌜ Doors limits (now ends) (now incident) (now first) (now number) end r from ⌝ }
+    ensures { λ k. ⌜ NextDoorBy limits (now (ends .entry)) (now (incident .entry)) (now (first .entry)) (now (number .entry)) end r from k ⌝ }
 {
     let mut k = from;
     loop {
@@ -120,7 +121,7 @@ fn next_door(
 }
 
 fn is_door(first: &[u16], number: &[u16], end: u16, e: u16, w: u16) -> bool
-    requires { ⌜ DoorFits e w (length (now first)) (length (now number)) ⌝ }
+    requires { ⌜ DoorFits limits e w (length (now first)) (length (now number)) ⌝ }
     ensures { λ b. ⌜ Tells b (Door (read (now (first .entry))) (read (now (number .entry))) end e w) ⌝ }
 {
     if first[w as usize] == e + 1 {
@@ -131,8 +132,8 @@ fn is_door(first: &[u16], number: &[u16], end: u16, e: u16, w: u16) -> bool
 
 // The first vertex on the way up from `u` that is also on the way up from `w`. No mark is set, before and after.
 fn meeting(ends: &[u16], first: &[u16], w: u16, u: u16, r: u16, marks: &mut [u16]) -> u16
-    requires { ⌜ Meets (now ends) (now first) w u r (now marks) ⌝ }
-    ensures { λ x. ⌜ Met (now (ends .entry)) (now (first .entry)) w u r (now (marks .entry)) (now (marks .exit)) x ⌝ }
+    requires { ⌜ Meets limits (now ends) (now first) w u r (now marks) ⌝ }
+    ensures { λ x. ⌜ Met limits (now (ends .entry)) (now (first .entry)) w u r (now (marks .entry)) (now (marks .exit)) x ⌝ }
 {
     walk::mark_up(ends, first, w, r, 1, marks);
     let x = walk::first_marked(ends, first, marks, u);
@@ -142,8 +143,8 @@ fn meeting(ends: &[u16], first: &[u16], w: u16, u: u16, r: u16, marks: &mut [u16
 
 // Writes the rows of the three walks, each behind those before it; how many there are.
 fn write_walks(ends: &[u16], first: &[u16], r: u16, t: Fork, rows: &mut [u16]) -> u16
-    requires { ⌜ Rowed (now ends) (now first) r (t .x) (t .e) (t .p) (t .f) (t .w) (t .d) (t .u) (length (now rows)) ⌝ }
-    ensures { λ q. ⌜ RowedBy (now (ends .entry)) (now (first .entry)) r (t .x) (t .e) (t .p) (t .f) (t .w) (t .d) (t .u) (now (rows .entry)) (now (rows .exit)) q ⌝ }
+    requires { ⌜ Rowed limits (now ends) (now first) r (t .x) (t .e) (t .p) (t .f) (t .w) (t .d) (t .u) (length (now rows)) ⌝ }
+    ensures { λ q. ⌜ RowedBy limits (now (ends .entry)) (now (first .entry)) r (t .x) (t .e) (t .p) (t .f) (t .w) (t .d) (t .u) (now (rows .entry)) (now (rows .exit)) q ⌝ }
 {
     let a = walk::write_walk(ends, first, t.e, t.x, t.p, r, 0, rows);
     let from = 3 * (a as usize);
@@ -171,8 +172,8 @@ fn build_walks(
     tips: &mut [u16],
     over: &mut [u16],
 ) -> u16
-    requires { ⌜ Raw (now ends) (now first) r (t .x) (t .e) (t .p) (t .f) (t .w) (t .d) (t .u) (now places) (now below) (now tips) (now over) ⌝ }
-    ensures { λ q. ⌜ RaisedBy (now (ends .entry)) (now (first .entry)) r (t .x) (t .e) (t .p) (t .f) (t .w) (t .d) (t .u) (now (places .entry)) (now (below .entry)) (now (tips .entry)) (now (over .entry)) (now (places .exit)) (now (below .exit)) (now (tips .exit)) (now (over .exit)) q ⌝ }
+    requires { ⌜ Raw limits (now ends) (now first) r (t .x) (t .e) (t .p) (t .f) (t .w) (t .d) (t .u) (now places) (now below) (now tips) (now over) ⌝ }
+    ensures { λ q. ⌜ RaisedBy limits (now (ends .entry)) (now (first .entry)) r (t .x) (t .e) (t .p) (t .f) (t .w) (t .d) (t .u) (now (places .entry)) (now (below .entry)) (now (tips .entry)) (now (over .entry)) (now (places .exit)) (now (below .exit)) (now (tips .exit)) (now (over .exit)) q ⌝ }
 {
     places[r as usize] = 1;
     places[t.x as usize] = 1;

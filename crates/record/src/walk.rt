@@ -2,6 +2,7 @@
 ghost use mathlib.Core.Path.{_≡_};
 ghost use Prim.Native.Nat.{_+_, _*_, _/_, _≤_, _<_};
 ghost use lib.ListN.{length};
+ghost use Rattle.connectivity.specs.Plan.{limits};
 ghost use Rattle.numbers.specs.Tables.{farEnd};
 ghost use Rattle.record.specs.Ways.{withRow, nextUp, upperEnd, Ended, Rises, Climbing, Climbed, OneMore, OverUp, Marking, MarkedUp, Toward, MetFirst, Raising, RaisedUp};
 
@@ -14,8 +15,8 @@ pub(crate) fn climb(
     step: u16,
     rows: &mut [u16],
 ) -> u16
-    requires { ⌜ Climbing (now ends) (now first) v stop (length (now rows)) ⌝ }
-    ensures { λ r. ⌜ Climbed (now (ends .entry)) (now (first .entry)) v stop step (now (rows .entry)) (now (rows .exit)) r ⌝ }
+    requires { ⌜ Climbing limits (now ends) (now first) v stop (length (now rows)) ⌝ }
+    ensures { λ r. ⌜ Climbed limits (now (ends .entry)) (now (first .entry)) v stop step (now (rows .entry)) (now (rows .exit)) r ⌝ }
 {
     let mut at = v;
     let mut count: u16 = 0;
@@ -76,8 +77,8 @@ pub(crate) fn above(ends: &[u16], first: &[u16], v: u16) -> u16
 
 // The first marked vertex from `v` up.
 pub(crate) fn first_marked(ends: &[u16], first: &[u16], marks: &[u16], v: u16) -> u16
-    requires { ⌜ Toward (now ends) (now first) (now marks) v ⌝ }
-    ensures { λ r. ⌜ MetFirst (now (ends .entry)) (now (first .entry)) (now (marks .entry)) v r ⌝ }
+    requires { ⌜ Toward limits (now ends) (now first) (now marks) v ⌝ }
+    ensures { λ r. ⌜ MetFirst limits (now (ends .entry)) (now (first .entry)) (now (marks .entry)) v r ⌝ }
 {
     let mut at = v;
     while marks[at as usize] == 0 {
@@ -88,8 +89,8 @@ pub(crate) fn first_marked(ends: &[u16], first: &[u16], marks: &[u16], v: u16) -
 
 // Sets the marks of the vertices from `v` up to `stop`.
 pub(crate) fn mark_up(ends: &[u16], first: &[u16], v: u16, stop: u16, mark: u16, marks: &mut [u16])
-    requires { ⌜ Marking (now ends) (now first) v stop (length (now marks)) ⌝ }
-    ensures { λ _. ⌜ MarkedUp (now (ends .entry)) (now (first .entry)) v stop mark (now (marks .entry)) (now (marks .exit)) ⌝ }
+    requires { ⌜ Marking limits (now ends) (now first) v stop (length (now marks)) ⌝ }
+    ensures { λ _. ⌜ MarkedUp limits (now (ends .entry)) (now (first .entry)) v stop mark (now (marks .entry)) (now (marks .exit)) ⌝ }
 {
     let mut at = v;
     while at != stop {
@@ -108,8 +109,8 @@ pub(crate) fn build_up(
     below: &mut [u16],
     over: &mut [u16],
 ) -> u16
-    requires { ⌜ Raising (now ends) (now first) v stop (length (now below)) (length (now over)) ⌝ }
-    ensures { λ r. ⌜ RaisedUp (now (ends .entry)) (now (first .entry)) v stop (now (below .entry)) (now (over .entry)) (now (below .exit)) (now (over .exit)) r ⌝ }
+    requires { ⌜ Raising limits (now ends) (now first) v stop (length (now below)) (length (now over)) ⌝ }
+    ensures { λ r. ⌜ RaisedUp limits (now (ends .entry)) (now (first .entry)) v stop (now (below .entry)) (now (over .entry)) (now (below .exit)) (now (over .exit)) r ⌝ }
 {
     let mut at = v;
     let mut top = v;
@@ -134,8 +135,8 @@ pub(crate) fn write_walk(
     step: u16,
     rows: &mut [u16],
 ) -> u16
-    requires { ⌜ OneMore (now ends) (now first) v stop (length (now rows)) ⌝ }
-    ensures { λ r. ⌜ OverUp (now (ends .entry)) (now (first .entry)) e from v stop step (now (rows .entry)) (now (rows .exit)) r ⌝ }
+    requires { ⌜ OneMore limits (now ends) (now first) v stop (length (now rows)) ⌝ }
+    ensures { λ r. ⌜ OverUp limits (now (ends .entry)) (now (first .entry)) e from v stop step (now (rows .entry)) (now (rows .exit)) r ⌝ }
 {
     write_row(rows, 0, step, e, from);
     climb(ends, first, v, stop, step, &mut rows[3..]) + 1

@@ -28,7 +28,7 @@ admitted c =
     let a = o .before .before .before .before .before .before .before .before .args in
     uncut-admitted (a .vertices) (a .ends .now) (a .rows .now) (enough (o .before .before .before .before .before)) (told o) (c .enum-told .given .1)
 
-strong : (c : tie.After-enum-told) → let a = c .before .before .before .before .before .before .before .before .before .before .before .before .before .before .args in Sturdy (a .vertices) (a .ends .now) (length (a .rows .now))
+strong : (c : tie.After-enum-told) → let a = c .before .before .before .before .before .before .before .before .before .before .before .before .before .before .args in Sturdy limits (a .vertices) (a .ends .now) (length (a .rows .now))
 strong c =
     let o = c .before .before .before .before .before .before in
     let a = o .before .before .before .before .before .before .before .before .args in

@@ -3,6 +3,7 @@ use mathlib.Core.Path.{_≡_, refl, sym, _∙_}
 use Prim.Native.Nat.{_-_}
 use native.Mathlib.Omega.{arith}
 use lib.ListN.{length}
+use Rattle.connectivity.specs.Plan.{limits}
 use Rattle.record.specs.Progress.{Finishing, Going}
 use Rattle.record.proofs.Progress.{now-long, order-room, begins-room, going-first, going-long, nexting, adding, going-then, recorded}
 use Rattle.record.proofs.build.finish.Statement.{statement}
@@ -11,8 +12,8 @@ use Rattle.record.proofs.build.finish.Tie as tie
 abbrev Inv-loop : tie.InvT-loop
 Inv-loop ends incident begins first order number last places₀ below₀ tips₀ over₀ rows₀ edges done₀ stage₀ places below tips over rows done stage =
     (length places ≡ length places₀) × (length below ≡ length below₀) × (length tips ≡ length tips₀) × (length over ≡ length over₀)
-    × ((c : Finishing ends incident begins first order number last places₀ below₀ tips₀ over₀ rows₀ (done₀ .row) (done₀ .step) (done₀ .next))
-    → Going (c .n) ends incident begins first order number last (c .whole) (c .before) rows places below tips over (done .row) (done .step) (done .next)
+    × ((c : Finishing limits ends incident begins first order number last places₀ below₀ tips₀ over₀ rows₀ (done₀ .row) (done₀ .step) (done₀ .next))
+    → Going limits (c .n) ends incident begins first order number last (c .whole) (c .before) rows places below tips over (done .row) (done .step) (done .next)
     (stage .empty) (stage .at) (stage .slot))
 
 abbrev μ-loop : tie.MeasureT-loop

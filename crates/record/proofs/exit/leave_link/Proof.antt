@@ -6,6 +6,7 @@ use native.Mathlib.Omega.{arith}
 use native.Mathlib.Decide.{decLe}
 use lib.ListN.{length}
 use borrow.Author.Needs.{needs}
+use Rattle.connectivity.specs.Plan.{limits}
 use Rattle.graph.specs.Marks.{read}
 use Rattle.record.specs.Leaving.{Leaving}
 use Rattle.record.proofs.Outward.{inside-below, ranging, sized, looking, stays-at, leaves-at, Still, Sought, sought-start, Descended, sought-down, Ascended, sought-up}
@@ -14,7 +15,7 @@ use Rattle.record.proofs.exit.leave_link.Tie as tie
 
 abbrev Inv-loop : tie.InvT-loop
 Inv-loop ends incident begins first number last places below over top bottom under a₀ b₀ a-work₀ b-work₀ a b a-work b-work =
-    (c : Leaving ends incident begins first number last places below over top bottom) → Sought c a b
+    (c : Leaving limits ends incident begins first number last places below over top bottom) → Sought c a b
 
 abbrev μ-loop : tie.MeasureT-loop
 μ-loop ends incident begins first number last places below over top bottom under a₀ b₀ a-work₀ b-work₀ a b a-work b-work =
@@ -27,7 +28,7 @@ entry o = o .before .before .before .before .before .before .before .before .bef
 -- what is required, which the invariant speaks of however it was shown
 abbrev Given : tie.Start Inv-loop μ-loop → Type 0
 Given s = let a = s .args in
-    Leaving (a .ends .now) (a .incident .now) (a .begins .now) (a .first .now) (a .number .now) (a .last .now) (a .places .now) (a .below .now)
+    Leaving limits (a .ends .now) (a .incident .now) (a .begins .now) (a .first .now) (a .number .now) (a .last .now) (a .places .now) (a .below .now)
     (a .over .now) (a .top) (a .bottom)
 
 sought : (o : tie.At-loop Inv-loop μ-loop) (d : Given (entry o)) → Sought d (o .loop .a) (o .loop .b)

@@ -1,15 +1,16 @@
 -- `is_upper_shorter` meets its contract. The loop's invariant: both are onward on their ways.
 use borrow.Author.Needs.{needs}
+use Rattle.connectivity.specs.Plan.{limits}
 use Rattle.record.specs.Parting.{Between}
 use Rattle.record.proofs.Paths.{left, left-less, Onward, onward-start, onward-rises, onward-step}
 use Rattle.record.proofs.link.is_upper_shorter.Statement.{statement}
 use Rattle.record.proofs.link.is_upper_shorter.Tie as tie
 
 abbrev Inv-loop : tie.InvT-loop
-Inv-loop ends first v top bottom a₀ b₀ a b = (d : Between ends first v top bottom) → Onward (d .upper) a × Onward (d .lower) b
+Inv-loop ends first v top bottom a₀ b₀ a b = (d : Between limits ends first v top bottom) → Onward (d .upper) a × Onward (d .lower) b
 
 abbrev μ-loop : tie.MeasureT-loop
-μ-loop ends first v top bottom a₀ b₀ a b = left ends first top a
+μ-loop ends first v top bottom a₀ b₀ a b = left limits ends first top a
 
 -- where both are
 upper : (t : tie.In-loop Inv-loop μ-loop) → Onward (t .before .before .before .before .pre .upper) (t .before .loop .a)

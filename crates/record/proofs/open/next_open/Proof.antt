@@ -9,7 +9,7 @@ use Rattle.record.proofs.open.next_open.Statement.{statement}
 use Rattle.record.proofs.open.next_open.Tie as tie
 
 abbrev Inv-loop : tie.InvT-loop
-Inv-loop incident begins order over at slot i₀ from₀ i from = ScannedTo incident begins order over at slot i from
+Inv-loop incident begins order over at slot i₀ from₀ i from = ScannedTo limits incident begins order over at slot i from
 
 abbrev μ-loop : tie.MeasureT-loop
 μ-loop incident begins order over at slot i₀ from₀ i from = length order - i

@@ -5,6 +5,7 @@ use Prim.Native.Nat.{ℕ, _+_, _-_}
 use native.Mathlib.Omega.{arith}
 use lib.ListN.{length, set, length-set}
 use borrow.Author.Needs.{needs}
+use Rattle.connectivity.specs.Plan.{limits}
 use Rattle.record.specs.Opening.{Raw}
 use Rattle.record.proofs.Opening.{root-fits, x-fits, p-fits, x-small, Stage, stage-start, stage-building, stage-next, stage-end}
 use Rattle.record.proofs.theta.build_walks.Statement.{statement}
@@ -14,7 +15,7 @@ abbrev Inv-loop : tie.InvT-loop
 Inv-loop ends first r t places₀ below₀ tips₀ over₀ k₀ next₀ places below tips over k next =
     (length places ≡ length places₀) × (length below ≡ length below₀) × (length tips ≡ length tips₀) × (length over ≡ length over₀)
     × ((blank-places blank-below : List ℕ) → places₀ ≡ set (set blank-places r 1) (t .x) 1 → below₀ ≡ set blank-below (t .p) (t .x + 1)
-    → (c : Raw ends first r (t .x) (t .e) (t .p) (t .f) (t .w) (t .d) (t .u) blank-places blank-below tips₀ over₀)
+    → (c : Raw limits ends first r (t .x) (t .e) (t .p) (t .f) (t .w) (t .d) (t .u) blank-places blank-below tips₀ over₀)
     → Stage blank-places blank-below tips₀ over₀ c k places below tips over next)
 
 abbrev μ-loop : tie.MeasureT-loop
@@ -26,7 +27,7 @@ entry o = o .before .before .before .before .before .before .before .before .bef
 
 abbrev Given : tie.Start Inv-loop μ-loop → Type 0
 Given s = let a = s .args in let t = a .t in
-    Raw (a .ends .now) (a .first .now) (a .r) (t .x) (t .e) (t .p) (t .f) (t .w) (t .d) (t .u) (a .places .now) (a .below .now) (a .tips .now) (a .over .now)
+    Raw limits (a .ends .now) (a .first .now) (a .r) (t .x) (t .e) (t .p) (t .f) (t .w) (t .d) (t .u) (a .places .now) (a .below .now) (a .tips .now) (a .over .now)
 
 stage : (o : tie.At-loop Inv-loop μ-loop) (q : Given (entry o)) → let a = entry o .args in
     Stage (a .places .now) (a .below .now) (a .tips .now) (a .over .now) q (o .loop .k) (o .loop .places) (o .loop .below) (o .loop .tips) (o .loop .over) (o .loop .next)

@@ -2,6 +2,7 @@
 use Prim.Native.Nat.{_+_}
 use native.Mathlib.Omega.{arith}
 use borrow.Author.Needs.{needs}
+use Rattle.connectivity.specs.Plan.{limits}
 use Rattle.graph.specs.Marks.{read}
 use Rattle.record.specs.Opening.{NextDoor, Finding}
 use Rattle.record.proofs.Doors.{eldest-below, root-below, some-door, other-door}
@@ -11,7 +12,7 @@ use Rattle.record.proofs.theta.find.Tie as tie
 
 abbrev Given : tie.Start → Type 0
 Given s = let a = s .args in
-    Finding (a .ends .now) (a .incident .now) (a .begins .now) (a .first .now) (a .order .now) (a .number .now) (a .last .now) (a .r) (a .places .now)
+    Finding limits (a .ends .now) (a .incident .now) (a .begins .now) (a .first .now) (a .order .now) (a .number .now) (a .last .now) (a .r) (a .places .now)
 
 -- the doors, from what is required, however it was shown
 one : (o : tie.After-next-door) (q : Given (o .before .before .before .before .before .before .before .before .before .before .before .before)) → let a = o .before .before .before .before .before .before .before .before .before .before .before .before .args in

@@ -2,6 +2,7 @@
 use Prim.Native.Nat.{_/_, _≤_, _<_}
 use native.Mathlib.Omega.{arith}
 use lib.ListN.{length}
+use Rattle.connectivity.specs.Plan.{limits}
 use Rattle.record.specs.Ways.{Rises, nextUp}
 use Rattle.record.proofs.Paths.{left, left-less, onward-next, onward-rises}
 use Rattle.record.proofs.Rising.{LiftsAll, lifts-start, lifts-step, lifts-end}
@@ -9,10 +10,10 @@ use Rattle.record.proofs.walk.build_up.Statement.{statement}
 use Rattle.record.proofs.walk.build_up.Tie as tie
 
 abbrev Inv-loop : tie.InvT-loop
-Inv-loop ends first v stop below₀ over₀ at₀ top₀ below over at top = LiftsAll ends first v stop below₀ over₀ below over top at
+Inv-loop ends first v stop below₀ over₀ at₀ top₀ below over at top = LiftsAll limits ends first v stop below₀ over₀ below over top at
 
 abbrev μ-loop : tie.MeasureT-loop
-μ-loop ends first v stop below₀ over₀ at₀ top₀ below over at top = left ends first stop at
+μ-loop ends first v stop below₀ over₀ at₀ top₀ below over at top = left limits ends first stop at
 
 rises : (t : tie.In-loop Inv-loop μ-loop) → let a = t .before .before .before .before .before .before .args in Rises (a .ends .now) (a .first .now) (t .before .loop .at)
 rises t =

@@ -1,5 +1,6 @@
 -- `climb` meets its contract. The loop's invariant: the legs that are done have their rows.
 use native.Mathlib.Omega.{arith}
+use Rattle.connectivity.specs.Plan.{limits}
 use Rattle.record.specs.Ways.{Rises}
 use Rattle.record.proofs.Paths.{left, left-less, onward-rises}
 use Rattle.record.proofs.Rising.{RisingAll, rising-start, rising-length, rising-end, rising-few, rising-step}
@@ -7,10 +8,10 @@ use Rattle.record.proofs.walk.climb.Statement.{statement}
 use Rattle.record.proofs.walk.climb.Tie as tie
 
 abbrev Inv-loop : tie.InvT-loop
-Inv-loop ends first v stop step rows₀ at₀ count₀ rows at count = RisingAll ends first v stop step rows₀ rows at count
+Inv-loop ends first v stop step rows₀ at₀ count₀ rows at count = RisingAll limits ends first v stop step rows₀ rows at count
 
 abbrev μ-loop : tie.MeasureT-loop
-μ-loop ends first v stop step rows₀ at₀ count₀ rows at count = left ends first stop at
+μ-loop ends first v stop step rows₀ at₀ count₀ rows at count = left limits ends first stop at
 
 rises : (t : tie.In-loop Inv-loop μ-loop) → let a = t .before .before .before .before .before .args in Rises (a .ends .now) (a .first .now) (t .before .loop .at)
 rises t = let pre = t .before .before .before .before .before .pre in onward-rises (t .before .loop .inv pre .on) (t .loop-test .taken)

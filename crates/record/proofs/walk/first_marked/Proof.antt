@@ -1,15 +1,16 @@
 -- `first_marked` meets its contract. The loop's invariant: the first marked vertex is still ahead.
 use native.Mathlib.Omega.{arith}
+use Rattle.connectivity.specs.Plan.{limits}
 use Rattle.record.proofs.Paths.{onward-start}
 use Rattle.record.proofs.Meeting.{HeadingAll, toward, heading-below, heading-rises, heading-step, heading-less, heading-end}
 use Rattle.record.proofs.walk.first_marked.Statement.{statement}
 use Rattle.record.proofs.walk.first_marked.Tie as tie
 
 abbrev Inv-loop : tie.InvT-loop
-Inv-loop ends first marks v at₀ at = HeadingAll ends first marks v at
+Inv-loop ends first marks v at₀ at = HeadingAll limits ends first marks v at
 
 abbrev μ-loop : tie.MeasureT-loop
-μ-loop ends first marks v at₀ at = toward ends first marks at
+μ-loop ends first marks v at₀ at = toward limits ends first marks at
 
 loop-holds : tie.Need-loop-holds Inv-loop μ-loop
 loop-holds c = λ d. onward-start (d .way)

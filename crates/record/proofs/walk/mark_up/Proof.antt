@@ -9,10 +9,10 @@ use Rattle.record.proofs.walk.mark_up.Statement.{statement}
 use Rattle.record.proofs.walk.mark_up.Tie as tie
 
 abbrev Inv-loop : tie.InvT-loop
-Inv-loop ends first v stop mark marks₀ at₀ marks at = MarksAll ends first v stop mark marks₀ marks at
+Inv-loop ends first v stop mark marks₀ at₀ marks at = MarksAll limits ends first v stop mark marks₀ marks at
 
 abbrev μ-loop : tie.MeasureT-loop
-μ-loop ends first v stop mark marks₀ at₀ marks at = left ends first stop at
+μ-loop ends first v stop mark marks₀ at₀ marks at = left limits ends first stop at
 
 room : (t : tie.In-loop Inv-loop μ-loop) → t .before .loop .at < length (t .before .loop .marks)
 room t =
