@@ -37,7 +37,7 @@ same uncut = refl
 -- The first search has seen fewer vertices than there are, or all.
 
 module _ {n : ℕ} {ends incident begins dead first₀ order₀ cursor₀ labels₀ marks other first order cursor : List ℕ} {count : ℕ}
-    (t : Tables (plan n ends) incident begins dead first₀ order₀ cursor₀) (s : Spaces (plan n ends) dead labels₀ marks other)
+    (t : Tables limits (plan n ends) incident begins dead first₀ order₀ cursor₀) (s : Spaces (plan n ends) dead labels₀ marks other)
     (f : Found (Crossing (plan n ends) incident begins dead) n 0 0 first₀ order₀ cursor₀ first order cursor count) where
   a : Admitted limits (plan n ends)
   a = t .tabled .admitted
@@ -54,7 +54,7 @@ module _ {n : ℕ} {ends incident begins dead first₀ order₀ cursor₀ labels
         (grown-step (t .tabled) (omega (arith, a .edges)) (s .live) (grown-start (graph (plan n ends)) n (read first₀) (read order₀) (t .fresh)) (fresh-0 a first₀ (t .fresh)) f)
         (omega (arith, a .two)) (omega (arith, h, f .room))
 
-    pub found-whole : {labels : List ℕ} → LabelledBy (plan n ends) first order labels₀ labels → Whole n ends labels × Ready (plan n ends) incident begins first dead marks other cursor
+    pub found-whole : {labels : List ℕ} → LabelledBy limits (plan n ends) first order labels₀ labels → Whole limits n ends labels × Ready limits (plan n ends) incident begins first dead marks other cursor
     found-whole l = (
       record {
         admitted = a;
@@ -102,7 +102,7 @@ module _ (n : ℕ) (ends : List ℕ) where
     vertices-room = omega (arith, t .admitted .vertices, length-replicate {A = ℕ} (limits .vertices) 0)
 
     pub filled-spaces : {first₀ order₀ first : List ℕ} → n ≤ length first₀ → n ≤ length order₀ → Cleared n first₀ first
-        → Tables p incident begins byEdge first order₀ byVertex × Spaces p byEdge byEdge byVertex byVertex
+        → Tables limits p incident begins byEdge first order₀ byVertex × Spaces p byEdge byEdge byVertex byVertex
     filled-spaces h h' c = (
       record {
         tabled = t;

@@ -9,7 +9,7 @@ use native.Mathlib.Omega.{arith}
 use lib.ListN.{length}
 use borrow.Author.Tests.{lt-ltb, le-ltb}
 use Rattle.connectivity.specs.Lists.{range}
-use Rattle.connectivity.specs.Plan.{plan, graph, limits}
+use Rattle.connectivity.specs.Plan.{plan, graph, Limits}
 use Rattle.connectivity.specs.Graph.{Graph, edges}
 use Rattle.connectivity.specs.Cut.{disconnects, singles, pairs, firstOf, lowestCut}
 use Rattle.connectivity.specs.Admission.{Admitted}
@@ -33,7 +33,7 @@ none-is f (b ∷ l) p c i = go (f b) refl p (in-cons i) (none-is f l)
     go false q r (inl e) h = rw e q
     go false q r (inr k) h = h r c k
 
-module _ {n : ℕ} {ends labels : List ℕ} (w : Whole n ends labels) where
+module _ {most : Limits} {n : ℕ} {ends labels : List ℕ} (w : Whole most n ends labels) where
   abbrev g : Graph
   g = graph (plan n ends)
 
@@ -61,7 +61,7 @@ module _ {n : ℕ} {ends labels : List ℕ} (w : Whole n ends labels) where
       single e h = none-is (disconnects g) (singles (range 0 (m - 0))) p (e ∷ []) (singles-in (range-is e 0 (m - 0) .1 (omega arith, omega (arith, h))))
 
 -- the sets in order
-module _ {n : ℕ} {ends : List ℕ} (a : Admitted limits (plan n ends)) (m : ℕ) (p : m ≡ length ends / 2) where
+module _ {most : Limits} {n : ℕ} {ends : List ℕ} (a : Admitted most (plan n ends)) (m : ℕ) (p : m ≡ length ends / 2) where
   abbrev listed : Graph
   listed = graph (plan n ends)
 

@@ -107,7 +107,7 @@ module _ (p : Plan) (incident₀ begins₀ first₀ order₀ : List ℕ) where
       unfolding lowestAfter
       served-is = back-served (lent limits p ample) found (told-number limits p ample lent-is z)
 
-      pub answers-served : (l : Lightest) {first order : List ℕ} → handed l ≡ found → SearchedFrom p incident begins first₀ order₀ first order
+      pub answers-served : (l : Lightest) {first order : List ℕ} → handed l ≡ found → SearchedFrom limits p incident begins first₀ order₀ first order
           → Answered limits p incident₀ begins₀ first₀ order₀ incident begins first order l
       answers-served l q s = record {
         answer = q ∙ served-is;

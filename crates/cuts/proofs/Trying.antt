@@ -8,7 +8,7 @@ use native.Mathlib.Decide.{ℕ-discrete}
 use lib.Dec.{T, ltb}
 use lib.ListN.{length, getD, set, length-set}
 use lib.Seq.{ext-getD, getD-set-same, getD-set-other}
-use Rattle.connectivity.specs.Plan.{Plan, graph, limits}
+use Rattle.connectivity.specs.Plan.{Plan, graph, Limits}
 use Rattle.connectivity.specs.Graph.{Graph}
 use Rattle.connectivity.specs.Cut.{disconnects}
 use Rattle.connectivity.specs.Admission.{Admitted}
@@ -73,8 +73,8 @@ one-twice g e = elim (T-dec (disconnects g (e ∷ []))) [
   | no n ↦ T-false (disconnects g (e ∷ (e ∷ []))) (λ t. n (more g {b = e ∷ []} (λ k i. elim (in-cons {b = e} {l = e ∷ []} i) [ inl q ↦ here q | inr j ↦ j ]) t)) ∙ sym (T-false (disconnects g (e ∷ [])) n)
 ]
 
-module _ {p : Plan} {incident begins first dead₀ marks₀ order₀ cursor₀ dead marks order cursor : List ℕ} where
-  pub ready-again : Ready p incident begins first dead₀ marks₀ order₀ cursor₀ → Restored dead₀ marks₀ order₀ cursor₀ dead marks order cursor → Ready p incident begins first dead marks order cursor
+module _ {most : Limits} {p : Plan} {incident begins first dead₀ marks₀ order₀ cursor₀ dead marks order cursor : List ℕ} where
+  pub ready-again : Ready most p incident begins first dead₀ marks₀ order₀ cursor₀ → Restored dead₀ marks₀ order₀ cursor₀ dead marks order cursor → Ready most p incident begins first dead marks order cursor
   ready-again r s = let t = r .tables in record {
     tables = record {
       tabled = t .tabled;
@@ -101,15 +101,15 @@ restored-more a b = record {
 }
 
 -- the root of a try is a vertex
-pub ends-below : {p : Plan} (n : ℕ) → Admitted limits p → p .vertices ≤ n → EndsBelow (p .ends) n
+pub ends-below : {most : Limits} {p : Plan} (n : ℕ) → Admitted most p → p .vertices ≤ n → EndsBelow (p .ends) n
 ends-below n a h e l = let f = a .fit e l in (omega (arith, f .left), omega (arith, f .right))
 
-module _ {p : Plan} {incident begins first dead₀ marks₀ order₀ cursor₀ : List ℕ} (r : Ready p incident begins first dead₀ marks₀ order₀ cursor₀) {e d : ℕ} (h : e < length (p .ends) / 2) (l : d < length (p .ends) / 2) where
+module _ {most : Limits} {p : Plan} {incident begins first dead₀ marks₀ order₀ cursor₀ : List ℕ} (r : Ready most p incident begins first dead₀ marks₀ order₀ cursor₀) {e d : ℕ} (h : e < length (p .ends) / 2) (l : d < length (p .ends) / 2) where
   room : (k : ℕ) → k < length (p .ends) / 2 → k < length dead₀
   room k b = omega (arith, r .tables .dead-room)
 
   -- marked
-  pub try-tables : {dead₁ : List ℕ} → dead₁ ≡ both dead₀ e d 1 → Tables p incident begins dead₁ marks₀ order₀ cursor₀
+  pub try-tables : {dead₁ : List ℕ} → dead₁ ≡ both dead₀ e d 1 → Tables most p incident begins dead₁ marks₀ order₀ cursor₀
   try-tables q = let t = r .tables in record {
     tabled = t .tabled;
     dead-room = omega (arith, t .dead-room, ap length q ∙ both-long dead₀ e d 1);

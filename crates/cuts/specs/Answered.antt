@@ -5,7 +5,7 @@ use mathlib.Core.List.{List}
 use Prim.Native.Nat.{ℕ}
 use lib.Dec.{leb}
 use lib.ListN.{length, replicate}
-use Rattle.connectivity.specs.Plan.{Plan, graph, Limits, limits}
+use Rattle.connectivity.specs.Plan.{Plan, graph, Limits}
 use Rattle.connectivity.specs.Admission.{passed}
 use Rattle.graph.specs.Admission.{lent}
 use Rattle.incidence.specs.Tables.{incidentTable, beginsTable, Front}
@@ -20,10 +20,10 @@ abbrev pub enough : Plan → List ℕ → List ℕ → List ℕ → List ℕ →
 enough p incident begins first order = leb (p .vertices) (length first) && (leb (p .vertices) (length order) && tables.enough p incident begins)
 
 -- what a search from vertex 0 over all edges leaves, where no vertex has a mark; what lies behind the vertices' places stays
-pub record SearchedFrom (p : Plan) (incident begins first₀ order₀ first order : List ℕ) : Type 0 where
+pub record SearchedFrom (most : Limits) (p : Plan) (incident begins first₀ order₀ first order : List ℕ) : Type 0 where
   pub cleared : List ℕ
   pub clear : Cleared (p .vertices) first₀ cleared
-  pub searched : Searched p incident begins (replicate (limits .edges) 0) cleared order₀ (replicate (limits .vertices) 0) first order
+  pub searched : Searched p incident begins (replicate (most .edges) 0) cleared order₀ (replicate (most .vertices) 0) first order
 
 -- the whole answer
 pub record Answered (most : Limits) (p : Plan) (incident₀ begins₀ first₀ order₀ incident begins first order : List ℕ) (r : Lightest) : Type 0 where
@@ -32,6 +32,6 @@ pub record Answered (most : Limits) (p : Plan) (incident₀ begins₀ first₀ o
   -- served: the tables by vertex, and the search over them
   pub incident-front : (handed r) .reply ≡ passed → Front (incidentTable (graph p)) incident₀ incident
   pub begins-front : (handed r) .reply ≡ passed → Front (beginsTable (graph p)) begins₀ begins
-  pub searched : (handed r) .reply ≡ passed → SearchedFrom p incident begins first₀ order₀ first order
+  pub searched : (handed r) .reply ≡ passed → SearchedFrom most p incident begins first₀ order₀ first order
   -- refused: all of it stays
   pub unchanged : ((handed r) .reply ≡ passed → ⊥) → (incident ≡ incident₀) × (begins ≡ begins₀) × (first ≡ first₀) × (order ≡ order₀)

@@ -7,7 +7,7 @@ use Prim.Native.Nat.{ℕ, _+_, _-_, _/_, _≤_, _<_}
 use lib.Dec.{ltb}
 use lib.ListN.{length, getD}
 use Rattle.connectivity.specs.Lists.{range}
-use Rattle.connectivity.specs.Plan.{plan, graph, limits}
+use Rattle.connectivity.specs.Plan.{plan, graph, Limits}
 use Rattle.connectivity.specs.Graph.{Graph}
 use Rattle.connectivity.specs.Cut.{disconnects, singles, pairsWith, pairs, firstOf}
 use Rattle.labels.specs.Label.{Balanced}
@@ -57,8 +57,8 @@ pub data Told : Lowest → Option (List ℕ) → Type 0 where
   uncut : Told (record { count = 3; first = 0; second = 0 }) none
 
 -- a connected plan with labels that cancel around every vertex
-pub record Whole (n : ℕ) (ends labels : List ℕ) : Type 0 where
-  pub admitted : Admitted limits (plan n ends)
+pub record Whole (most : Limits) (n : ℕ) (ends labels : List ℕ) : Type 0 where
+  pub admitted : Admitted most (plan n ends)
   pub room : length ends / 2 ≤ length labels
   pub connected : disconnects (graph (plan n ends)) [] ≡ false
   pub balanced : Balanced (graph (plan n ends)) (read labels)

@@ -3,15 +3,15 @@ use mathlib.Core.Path.{_≡_}
 use mathlib.Core.List.{List}
 use Prim.Native.Nat.{ℕ, _+_, _*_, _/_, _≤_, _<_}
 use lib.ListN.{length, getD, replicate}
-use Rattle.connectivity.specs.Plan.{Plan, limits}
+use Rattle.connectivity.specs.Plan.{Plan, Limits}
 use Rattle.graph.specs.declared.Answer.{Answer}
 use Rattle.incidence.specs.Tables.{Tabled}
 use Rattle.depth.specs.Depth.{Crossing, Found}
 use Rattle.labels.specs.Answered.{Labelled}
 
 -- the tables of a plan, room for a search, and no vertex marked
-pub record Tables (p : Plan) (incident begins dead marks order cursor : List ℕ) : Type 0 where
-  pub tabled : Tabled limits p incident begins
+pub record Tables (most : Limits) (p : Plan) (incident begins dead marks order cursor : List ℕ) : Type 0 where
+  pub tabled : Tabled most p incident begins
   pub dead-room : length (p .ends) / 2 ≤ length dead
   pub marks-room : p .vertices ≤ length marks
   pub order-room : p .vertices ≤ length order
@@ -19,8 +19,8 @@ pub record Tables (p : Plan) (incident begins dead marks order cursor : List ℕ
   pub fresh : (v : ℕ) → v < p .vertices → getD marks v 0 ≡ 0
 
 -- and no edge marked; and a place for the first edge of each vertex
-pub record Ready (p : Plan) (incident begins first dead marks order cursor : List ℕ) : Type 0 where
-  pub tables : Tables p incident begins dead marks order cursor
+pub record Ready (most : Limits) (p : Plan) (incident begins first dead marks order cursor : List ℕ) : Type 0 where
+  pub tables : Tables most p incident begins dead marks order cursor
   pub live : (e : ℕ) → e < length (p .ends) / 2 → getD dead e 0 ≡ 0
   pub first-room : p .vertices ≤ length first
 
@@ -39,10 +39,10 @@ pub record Searched (p : Plan) (incident begins dead first₀ order₀ cursor₀
   pub found : Found (Crossing p incident begins dead) (p .vertices) 0 0 first₀ order₀ cursor₀ first order cursor count
 
 -- the labels, made with sums that were 0
-pub record LabelledBy (p : Plan) (first order labels₀ labels : List ℕ) : Type 0 where
+pub record LabelledBy (most : Limits) (p : Plan) (first order labels₀ labels : List ℕ) : Type 0 where
   pub sums : List ℕ
   pub answer : Answer
-  pub labelled : Labelled limits p first order labels₀ (replicate (limits .vertices) 0) labels sums answer
+  pub labelled : Labelled most p first order labels₀ (replicate (most .vertices) 0) labels sums answer
 
 -- a try leaves the marks as they were
 pub record Restored (dead₀ marks₀ order₀ cursor₀ dead marks order cursor : List ℕ) : Type 0 where

@@ -73,7 +73,7 @@ fn lowest_filled(
     order: &mut [u16],
 ) -> Lightest
     requires { ⌜ Tabled limits (plan vertices (now ends)) (now incident) (now begins) × (vertices ≤ length (now first)) × (vertices ≤ length (now order)) ⌝ }
-    ensures { λ r. ⌜ (handed r ≡ verdictHanded (verdictOn (lowestCut (graph (plan vertices (now (ends .entry))))))) × SearchedFrom (plan vertices (now (ends .entry))) (now (incident .entry)) (now (begins .entry)) (now (first .entry)) (now (order .entry)) (now (first .exit)) (now (order .exit)) ⌝ }
+    ensures { λ r. ⌜ (handed r ≡ verdictHanded (verdictOn (lowestCut (graph (plan vertices (now (ends .entry))))))) × SearchedFrom limits (plan vertices (now (ends .entry))) (now (incident .entry)) (now (begins .entry)) (now (first .entry)) (now (order .entry)) (now (first .exit)) (now (order .exit)) ⌝ }
 {
     incidence::clear(vertices as usize, first);
     let mut dead = [0u8; Graph::MAX_EDGES];
@@ -111,7 +111,7 @@ fn lowest_over(
     marks: &mut [u16],
     other: &mut [u16],
 ) -> Lowest
-    requires { ⌜ Tables (plan vertices (now ends)) (now incident) (now begins) (now dead) (now first) (now order) (now cursor) × Spaces (plan vertices (now ends)) (now dead) (now labels) (now marks) (now other) ⌝ }
+    requires { ⌜ Tables limits (plan vertices (now ends)) (now incident) (now begins) (now dead) (now first) (now order) (now cursor) × Spaces (plan vertices (now ends)) (now dead) (now labels) (now marks) (now other) ⌝ }
     ensures { λ r. ⌜ Told r (lowestCut (graph (plan vertices (now (ends .entry))))) × Searched (plan vertices (now (ends .entry))) (now (incident .entry)) (now (begins .entry)) (now (dead .entry)) (now (first .entry)) (now (order .entry)) (now (cursor .entry)) (now (first .exit)) (now (order .exit)) ⌝ }
 {
     let count = tries::search(
@@ -145,7 +145,7 @@ fn lowest_over(
 
 // Labels over a spanning tree. The sums are only needed here: what comes later has their room on the stack.
 fn label(vertices: u16, ends: &[u16], first: &[u16], order: &[u16], labels: &mut [u64])
-    ensures { λ _. ⌜ LabelledBy (plan vertices (now (ends .entry))) (now (first .entry)) (now (order .entry)) (now (labels .entry)) (now (labels .exit)) ⌝ }
+    ensures { λ _. ⌜ LabelledBy limits (plan vertices (now (ends .entry))) (now (first .entry)) (now (order .entry)) (now (labels .entry)) (now (labels .exit)) ⌝ }
 {
     let mut sums = [0u64; Graph::MAX_VERTICES];
     labels::balance(vertices, ends, first, order, labels, &mut sums);

@@ -4,7 +4,7 @@ use crate::tries::is_cut;
 use graph::Graph;
 ghost use mathlib.Core.Path.{_≡_};
 ghost use Prim.Native.Nat.{_≤_, _<_};
-ghost use Rattle.connectivity.specs.Plan.{plan, graph};
+ghost use Rattle.connectivity.specs.Plan.{plan, graph, limits};
 ghost use Rattle.connectivity.specs.Cut.{lowestCut};
 ghost use Rattle.cuts.specs.Lowest.{Shown, ShownBoth, oneTold, twoTold, firstOne, firstWith, firstTwo, Told, Whole};
 ghost use Rattle.cuts.specs.Alike.{Chaining};
@@ -45,7 +45,7 @@ pub(crate) fn small_cut(
     order: &mut [u16],
     cursor: &mut [u16],
 ) -> Lowest
-    requires { ⌜ Whole vertices (now ends) (now labels) × Ready (plan vertices (now ends)) (now incident) (now begins) (now first) (now dead) (now marks) (now order) (now cursor) ⌝ }
+    requires { ⌜ Whole limits vertices (now ends) (now labels) × Ready limits (plan vertices (now ends)) (now incident) (now begins) (now first) (now dead) (now marks) (now order) (now cursor) ⌝ }
     ensures { λ r. ⌜ Told r (lowestCut (graph (plan vertices (now (ends .entry))))) ⌝ }
 {
     let edges = (ends.len() / 2) as u16;
@@ -94,7 +94,7 @@ fn lowest_one(
     order: &mut [u16],
     cursor: &mut [u16],
 ) -> u16
-    requires { ⌜ Shown vertices (now ends) (now labels) edges × Ready (plan vertices (now ends)) (now incident) (now begins) (now first) (now dead) (now marks) (now order) (now cursor) ⌝ }
+    requires { ⌜ Shown vertices (now ends) (now labels) edges × Ready limits (plan vertices (now ends)) (now incident) (now begins) (now first) (now dead) (now marks) (now order) (now cursor) ⌝ }
     ensures { λ r. ⌜ (r ≤ edges) × (firstOne (graph (plan vertices (now (ends .entry)))) edges ≡ oneTold edges r) × Restored (now (dead .entry)) (now (marks .entry)) (now (order .entry)) (now (cursor .entry)) (now (dead .exit)) (now (marks .exit)) (now (order .exit)) (now (cursor .exit)) ⌝ }
 {
     let mut e = alike::zero_from(labels, edges, 0);
@@ -133,7 +133,7 @@ fn lowest_pair(
     order: &mut [u16],
     cursor: &mut [u16],
 ) -> Lowest
-    requires { ⌜ ShownBoth vertices (now ends) (now labels) edges × Ready (plan vertices (now ends)) (now incident) (now begins) (now first) (now dead) (now marks) (now order) (now cursor) ⌝ }
+    requires { ⌜ ShownBoth vertices (now ends) (now labels) edges × Ready limits (plan vertices (now ends)) (now incident) (now begins) (now first) (now dead) (now marks) (now order) (now cursor) ⌝ }
     ensures { λ r. ⌜ Told r (firstTwo (graph (plan vertices (now (ends .entry)))) edges) ⌝ }
 {
     let mut next = [0u16; Graph::MAX_EDGES];
@@ -170,7 +170,7 @@ fn lowest_two(
     order: &mut [u16],
     cursor: &mut [u16],
 ) -> Lowest
-    requires { ⌜ ShownBoth vertices (now ends) (now labels) edges × Chaining edges (now labels) (now next) × Ready (plan vertices (now ends)) (now incident) (now begins) (now first) (now dead) (now marks) (now order) (now cursor) ⌝ }
+    requires { ⌜ ShownBoth vertices (now ends) (now labels) edges × Chaining edges (now labels) (now next) × Ready limits (plan vertices (now ends)) (now incident) (now begins) (now first) (now dead) (now marks) (now order) (now cursor) ⌝ }
     ensures { λ r. ⌜ Told r (firstTwo (graph (plan vertices (now (ends .entry)))) edges) ⌝ }
 {
     let mut e = alike::paired_from(labels, next, edges, 0);
@@ -214,7 +214,7 @@ fn lowest_with(
     order: &mut [u16],
     cursor: &mut [u16],
 ) -> u16
-    requires { ⌜ ShownBoth vertices (now ends) (now labels) edges × Chaining edges (now labels) (now next) × Ready (plan vertices (now ends)) (now incident) (now begins) (now first) (now dead) (now marks) (now order) (now cursor) × (e < edges) ⌝ }
+    requires { ⌜ ShownBoth vertices (now ends) (now labels) edges × Chaining edges (now labels) (now next) × Ready limits (plan vertices (now ends)) (now incident) (now begins) (now first) (now dead) (now marks) (now order) (now cursor) × (e < edges) ⌝ }
     ensures { λ r. ⌜ (firstWith (graph (plan vertices (now (ends .entry)))) edges e ≡ twoTold edges e r) × Restored (now (dead .entry)) (now (marks .entry)) (now (order .entry)) (now (cursor .entry)) (now (dead .exit)) (now (marks .exit)) (now (order .exit)) (now (cursor .exit)) ⌝ }
 {
     let mut d = alike::next_like(labels, next, edges, e);

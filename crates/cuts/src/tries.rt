@@ -5,7 +5,7 @@ ghost use mathlib.Core.List.{List, [], _∷_};
 ghost use Prim.Native.Nat.{ℕ, _/_, _<_};
 ghost use lib.Dec.{ltb};
 ghost use lib.ListN.{length, set};
-ghost use Rattle.connectivity.specs.Plan.{plan, graph};
+ghost use Rattle.connectivity.specs.Plan.{plan, graph, limits};
 ghost use Rattle.connectivity.specs.Cut.{disconnects};
 ghost use Rattle.graph.specs.Marks.{read};
 ghost use Rattle.depth.specs.Depth.{Crossing, Found, Cutting};
@@ -26,7 +26,7 @@ pub(crate) fn is_cut(
     order: &mut [u16],
     cursor: &mut [u16],
 ) -> bool
-    requires { ⌜ Ready (plan vertices (now ends)) (now incident) (now begins) (now first) (now dead) (now marks) (now order) (now cursor) × (e < length (now ends) / 2) × (d < length (now ends) / 2) ⌝ }
+    requires { ⌜ Ready limits (plan vertices (now ends)) (now incident) (now begins) (now first) (now dead) (now marks) (now order) (now cursor) × (e < length (now ends) / 2) × (d < length (now ends) / 2) ⌝ }
     ensures { λ r. ⌜ (r ≡ disconnects (graph (plan vertices (now (ends .entry)))) (e ∷ (d ∷ []))) × Restored (now (dead .entry)) (now (marks .entry)) (now (order .entry)) (now (cursor .entry)) (now (dead .exit)) (now (marks .exit)) (now (order .exit)) (now (cursor .exit)) ⌝ }
 {
     let root = lower_end(ends, first, e);
@@ -81,7 +81,7 @@ fn seen(
     order: &mut [u16],
     cursor: &mut [u16],
 ) -> u16
-    requires { ⌜ Tables (plan vertices (now ends)) (now incident) (now begins) (now dead) (now marks) (now order) (now cursor) × (root < vertices) ⌝ }
+    requires { ⌜ Tables limits (plan vertices (now ends)) (now incident) (now begins) (now dead) (now marks) (now order) (now cursor) × (root < vertices) ⌝ }
     ensures { λ r. ⌜ ((cut : List ℕ) → Cutting (plan vertices (now (ends .entry))) cut (read (now (dead .entry))) → ltb r vertices ≡ disconnects (graph (plan vertices (now (ends .entry)))) cut) × (now (marks .exit) ≡ now (marks .entry)) ⌝ }
 {
     let count = search(
@@ -111,7 +111,7 @@ pub(crate) fn search(
     order: &mut [u16],
     cursor: &mut [u16],
 ) -> u16
-    requires { ⌜ Tables (plan vertices (now ends)) (now incident) (now begins) (now dead) (now marks) (now order) (now cursor) × (root < vertices) ⌝ }
+    requires { ⌜ Tables limits (plan vertices (now ends)) (now incident) (now begins) (now dead) (now marks) (now order) (now cursor) × (root < vertices) ⌝ }
     ensures { λ r. ⌜ Found (Crossing (plan vertices (now (ends .entry))) (now (incident .entry)) (now (begins .entry)) (now (dead .entry))) vertices root 0 (now (marks .entry)) (now (order .entry)) (now (cursor .entry)) (now (marks .exit)) (now (order .exit)) (now (cursor .exit)) r ⌝ }
 {
     let found = depth::explore(
