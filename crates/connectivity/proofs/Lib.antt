@@ -31,3 +31,5 @@ pub mod First
 pub mod MaderPaths
 pub mod Find
 pub mod Complete
+pub mod Together
+pub mod Component

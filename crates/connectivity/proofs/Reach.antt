@@ -2,9 +2,10 @@
 -- reached from it.
 use mathlib.Core.Path.{_≡_, subst}
 use mathlib.Core.Logic.{_⊎_, inl, inr}
+use mathlib.Core.List.{List, List·Memᴰ as In}
 use Prim.Native.Nat.{ℕ}
 use Rattle.connectivity.specs.Graph.{Graph, Vertex, Joins}
-use Rattle.connectivity.specs.Reach.{Reach, here, over}
+use Rattle.connectivity.specs.Reach.{Reach, here, over, Without}
 
 pub joins-sym : {g : Graph} {e u v : ℕ} → Joins g e u v → Joins g e v u
 joins-sym {g} {e} {u} {v} j = record { edge = j .edge; ends = flip (j .ends) }
@@ -37,6 +38,10 @@ closed-reach S c (over {u} {v} e l j p) s = closed-reach S c p (c e u v l j s)
 pub reach-map : {g : Graph} {live more : ℕ → Type 0} → ((e : ℕ) → live e → more e) → {u v : ℕ} → Reach g live u v → Reach g more u v
 reach-map f here = here
 reach-map f (over e l j p) = over e (f e l) j (reach-map f p)
+
+-- and so does the loss of fewer
+pub reach-less : {g : Graph} {cut more : List ℕ} → ((e : ℕ) → In e cut → In e more) → {u v : ℕ} → Reach g (Without more) u v → Reach g (Without cut) u v
+reach-less f = reach-map (λ e n i. n (f e i))
 
 -- the same where an edge is asked about only if it is one of the graph's
 pub reach-edges : {g : Graph} {live more : ℕ → Type 0} → ((e u v : ℕ) → Joins g e u v → live e → more e)

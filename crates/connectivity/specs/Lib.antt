@@ -3,6 +3,7 @@ pub mod Graph
 pub mod Plan
 pub mod Reach
 pub mod Cut
+pub mod Component
 pub mod Walk
 pub mod Link
 pub mod Mader

@@ -34,6 +34,8 @@ grown-start g n mark at clear = record {
   tried = λ u l. absurd (omega arith);
   tree = λ k l. absurd (omega arith);
   border = λ k l. absurd (omega arith);
+  roots = λ k l. absurd (omega arith);
+  low = λ j k l h. absurd (omega arith);
   closed = λ e i u l. absurd (omega arith);
   top = λ l. absurd (omega arith);
 }
@@ -50,6 +52,8 @@ module _ {g : Graph} {n v count : ℕ} {mark at : ℕ → ℕ} (t : Grown g n v 
     tried = λ u l. elim (ℕ-discrete u v) [ yes q ↦ subst (Marked mark) (sym q) m | no h ↦ t .tried u (omega arith) ];
     tree = t .tree;
     border = t .border;
+    roots = λ k l q. omega (arith, t .roots k l q);
+    low = t .low;
     closed = t .closed;
     top = t .top;
   }
@@ -67,6 +71,7 @@ module _ {g : Graph} {n v count : ℕ} {mark at : ℕ → ℕ} (t : Grown g n v 
     marked = λ k h. t .marked k (omega arith);
     tree = λ k h. t .tree k (omega arith);
     border = λ k h m e i j a b c. t .border k (omega arith) m e i j a b (omega arith);
+    low = λ j k h b. t .low j k h (omega arith);
     top = t .top (omega arith);
   }
 
@@ -155,6 +160,32 @@ module _ {most : Limits} {p : Plan} {incident begins dead : List ℕ} {v seen : 
     ]
   ]
 
+  -- what is entered now had no mark, so it is not below v
+  not-below : (k : ℕ) → seen ≤ k → k < count → v ≤ at k
+  not-below k l b = elim (decLt (at k) v) [ yes h ↦ absurd (t .tried (at k) h (new-at k l b .fresh)) | no h ↦ omega arith ]
+
+  -- a root stood in the order before, or is v
+  old-root : (k : ℕ) → k < seen → mark (at k) ≡ rootMark → at k < v
+  old-root k l q = rw (same-at k l) (t .roots k l (sym (mark-at k l) ∙ q))
+
+  new-root : (k : ℕ) → seen ≤ k → k < count → mark (at k) ≡ rootMark → k ≡ seen
+  new-root k l b q = elim (ℕ-discrete k seen) [
+    | yes z ↦ z
+    | no z ↦ let s = f .tree .hangs k (omega arith) b in absurd (no-root (f .tree) few (s .from) (at k) (s .up) q)
+  ]
+
+  roots : (k : ℕ) → k < count → mark (at k) ≡ rootMark → at k < v + 1
+  roots k b q = elim (decLt k seen) [
+    | yes l ↦ omega (arith, old-root k l q)
+    | no l ↦ omega (arith, ap at (new-root k (omega arith) b q) ∙ f .tree .top)
+  ]
+
+  low : (j k : ℕ) → j < k → k < count → mark (at j) ≡ rootMark → at j < at k
+  low j k l b q = elim (decLt k seen) [
+    | yes c ↦ let d : j < seen = omega arith in rw (same-at j d, same-at k c) (t .low j k l c (sym (mark-at j d) ∙ q))
+    | no c ↦ let n : at j ≡ at k → ⊥ = once j k l b in omega (arith, roots j (omega arith) q, not-below k (omega arith) b, n)
+  ]
+
   closed : (e i u : ℕ) → i < count → Joins g e (at i) u → Marked mark u
   closed e i u l j = elim (ℕ-discrete (getD first₀ u 0) 0) [
     | no m ↦ old-mark u m
@@ -187,6 +218,8 @@ module _ {most : Limits} {p : Plan} {incident begins dead : List ℕ} {v seen : 
     tried = tried;
     tree = tree;
     border = border;
+    roots = roots;
+    low = low;
     closed = closed;
     top = λ l. top;
   }

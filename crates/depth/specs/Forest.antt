@@ -26,6 +26,8 @@ pub record Forest (g : Graph) (n : ℕ) (mark at : ℕ → ℕ) : Type 0 where
   pub tree : (k : ℕ) → k < n → Rooted g mark at k
   -- a root begins a new body
   pub border : (k : ℕ) → k < n → mark (at k) ≡ rootMark → Border g at n k
+  -- and is lower than what stands behind it
+  pub low : (j k : ℕ) → j < k → k < n → mark (at j) ≡ rootMark → at j < at k
   -- the first root is vertex 0
   pub top : at 0 ≡ 0
 
@@ -41,6 +43,8 @@ pub record Grown (g : Graph) (n v count : ℕ) (mark at : ℕ → ℕ) : Type 0 
   pub tried : (u : ℕ) → u < v → Marked mark u
   pub tree : (k : ℕ) → k < count → Rooted g mark at k
   pub border : (k : ℕ) → k < count → mark (at k) ≡ rootMark → Border g at count k
+  pub roots : (k : ℕ) → k < count → mark (at k) ≡ rootMark → at k < v
+  pub low : (j k : ℕ) → j < k → k < count → mark (at j) ≡ rootMark → at j < at k
   -- no edge leads to any other
   pub closed : (e i u : ℕ) → i < count → Joins g e (at i) u → Marked mark u
   pub top : 0 < count → at 0 ≡ 0

@@ -116,6 +116,8 @@ module _ {p : Plan} {first₀ order₀ cursor₀ first order cursor : List ℕ} 
           tried = all-marked h;
           tree = g .tree;
           border = g .border;
+          roots = λ k l q. g .valid k l;
+          low = g .low;
           closed = g .closed;
           top = g .top;
         };
