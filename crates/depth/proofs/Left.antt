@@ -44,7 +44,7 @@ module _ {most : Limits} {p : Plan} {incident begins dead cut : List ℕ} {root 
   abbrev n : ℕ
   n = p .vertices
 
-  root-below : root < n
+  pub root-below : root < n
   root-below = subst (λ (v : ℕ). v < n) (f .tree .top) (f .tree .valid 0 (omega arith) (f .tree .some) .below)
 
   fresh : Fresh n root 0 first₀
@@ -62,10 +62,11 @@ module _ {most : Limits} {p : Plan} {incident begins dead cut : List ℕ} {root 
   counted : count ≡ tally (read first) n
   counted = omega (arith, f .counted, tally-none (read first₀) n clear)
 
-  seen : (v : ℕ) → v < n → Marked (read first) v → Reach g (Without cut) root v
+  -- a vertex has a mark exactly if the root reaches it without the cut
+  pub seen : (v : ℕ) → v < n → Marked (read first) v → Reach g (Without cut) root v
   seen v l m = left (entered-reach f fresh t (λ e u v l. clear-closed p (read first₀) clear e u v) (omega arith) v .0 (record { below = l; fresh = clear v l; marked = m }))
 
-  marked : (v : ℕ) → Reach g (Without cut) root v → Marked (read first) v
+  pub marked : (v : ℕ) → Reach g (Without cut) root v → Marked (read first) v
   marked v r = entered-reach f fresh t (λ e u v l. clear-closed p (read first₀) clear e u v) (omega arith) v .1 (live r) .marked
 
   -- fewer were seen than there are exactly where the cut disconnects

@@ -1,0 +1,10 @@
+pub mod Splitting
+pub mod Side
+pub mod Pair
+pub mod Lowest
+pub mod Trying
+pub mod Starring
+pub mod Bodies
+pub mod Attempting
+pub mod Turning
+pub mod Serving

@@ -1,0 +1,183 @@
+-- The whole answer: labels and bodies make ready for the cuts, what is found then is the definition's table, and a refusal leaves the table.
+use mathlib.Core.Path.{_≡_, refl, sym, ap, _∙_, subst}
+use mathlib.Core.Bool.{Bool, true, false, not}
+use mathlib.Core.List.{List, [], _∷_}
+use Prim.Native.Nat.{ℕ, _*_, _/_, _≤_, _<_}
+use native.Mathlib.Omega.{arith}
+use native.Mathlib.Decide.{decLt}
+use lib.Dec.{T, ltb, leb, le→leb}
+use lib.ListN.{length, getD, drop, replicate, length-replicate}
+use borrow.Author.Tests.{lt-ltb, le-ltb}
+use Rattle.connectivity.specs.Plan.{Plan, graph, Limits}
+use Rattle.connectivity.specs.Component.{components}
+use Rattle.connectivity.specs.Admission.{Answer, Handed, passed, Admitted}
+use Rattle.connectivity.proofs.Lists.{Decides, decides-le, T-true, T-false}
+use Rattle.connectivity.proofs.Admission.{admitted-vertex}
+use Rattle.connectivity.proofs.Component.{component-found, component-unique, components-length, components-at}
+use Rattle.graph.specs.declared.Answer as code
+use Rattle.graph.specs.Admission.{toldBy, lent}
+use Rattle.graph.specs.Marks.{read}
+use Rattle.graph.proofs.Joined.{bound-is}
+use Rattle.graph.proofs.Lent.{lent-enough}
+use Rattle.graph.proofs.Tally.{zeros}
+use Rattle.graph.proofs.Telling.{told-admitted, told-room}
+use Rattle.incidence.specs.Tables.{Front, Tabled, incidentTable, beginsTable}
+use Rattle.incidence.specs.Parts.{Kept}
+use Rattle.incidence.proofs.Front.{front, front-at, front-kept}
+use Rattle.labels.specs.Answered.{ForestOf, Tables, tables, handed, enough, labelling}
+use Rattle.labels.proofs.LongEnough.{ample-is}
+use Rattle.components.specs.Answered.{Answered}
+use Rattle.components.specs.Splitting.{Classes}
+use Rattle.components.specs.Bodies.{Ordered, Bodied}
+use Rattle.components.specs.Stars.{Singles, Stars, Working, Worked}
+use Rattle.components.specs.Tries.{LabelledBy, Stage, Found}
+use Rattle.components.proofs.Starring.{singles-start, stars-component}
+use Rattle.components.proofs.Turning.{working-setting, worked-more}
+
+-- The cuts.
+
+module _ {most : Limits} {p : Plan} {incident begins first labels dead order cursor table : List ℕ} (s : Stage most p incident begins first labels dead order cursor table) where
+  pub stage-working : Working most p incident begins first labels dead (replicate (most .vertices) 0) order cursor (replicate (most .edges) 0) table
+  stage-working = record {
+    ready = record {
+      tables = record {
+        tabled = s .tabled;
+        dead-room = s .dead-room;
+        marks-room = omega (arith, s .tabled .admitted .vertices, length-replicate {A = ℕ} (most .vertices) 0);
+        order-room = s .order-room;
+        cursor-room = s .cursor-room;
+        fresh = λ v l. zeros (most .vertices) v;
+      };
+      live = s .live;
+      first-room = s .first-room;
+    };
+    labels-room = s .labels-room;
+    balanced = s .balanced;
+    claimed-room = omega (arith, s .tabled .admitted .edges, length-replicate {A = ℕ} (most .edges) 0);
+    table-room = s .table-room;
+  }
+
+  pub stage-singles : Singles (graph p) (p .vertices) (length (p .ends) / 2) 0 (replicate (most .edges) 0) table
+  stage-singles = singles-start (working-setting stage-working) (replicate (most .edges) 0) table (s .groups) (λ x l. zeros (most .edges) x)
+
+  pub stage-found : {dead₁ marks₁ order₁ cursor₁ claimed₁ table₁ dead₂ marks₂ order₂ cursor₂ claimed₂ table₂ : List ℕ}
+      → Worked (p .vertices) dead (replicate (most .vertices) 0) order cursor (replicate (most .edges) 0) table dead₁ marks₁ order₁ cursor₁ claimed₁ table₁
+      → Stars (graph p) (p .vertices) (length (p .ends) / 2) (length (p .ends) / 2) 0 claimed₂ table₂
+      × Worked (p .vertices) dead₁ marks₁ order₁ cursor₁ claimed₁ table₁ dead₂ marks₂ order₂ cursor₂ claimed₂ table₂ → Found p table table₂
+  stage-found a b = record { kept = worked-more a (b .1) .kept; each = stars-component (working-setting stage-working) (b .0) }
+
+-- Labels and bodies.
+
+module _ {most : Limits} {p : Plan} (a : Admitted most p) where
+  -- the tables that are made for it
+  abbrev made : Tables
+  made = tables (replicate (2 * most .edges) 0) (replicate (most .vertices) 0) (replicate (most .edges) 0) (replicate (most .vertices) 0) (replicate (most .vertices) 0) (replicate (most .vertices) 0)
+      (replicate (most .edges) 0) (replicate (most .vertices) 0)
+
+  long : (k : ℕ) → length (replicate {A = ℕ} k 0) ≡ k
+  long k = length-replicate {A = ℕ} k 0
+
+  roomy : T (enough p made)
+  roomy = ample-is p made .test (record {
+    groups = omega (arith, a .edges, long (2 * most .edges));
+    beginnings = omega (arith, a .vertices, long (most .vertices));
+    edge-marks = omega (arith, a .edges, long (most .edges));
+    cursors = omega (arith, a .vertices, long (most .vertices));
+    room = record {
+      marks = omega (arith, a .vertices, long (most .vertices));
+      places = omega (arith, a .vertices, long (most .vertices));
+      edges = omega (arith, a .edges, long (most .edges));
+      vertices = omega (arith, a .vertices, long (most .vertices));
+    };
+  })
+
+  module _ {incident begins dead first order cursor labels : List ℕ}
+      (s : LabelledBy most p (made .incident) (made .begins) (made .dead) (made .first) (made .order) (made .cursor) (made .labels) incident begins dead first order cursor labels) where
+    served : (handed (s .answer)) .reply ≡ passed
+    unfolding labelling
+    served = ap (λ (h : Handed). h .reply) (s .answered .answer) ∙ rw (lent-enough (enough p made) a roomy)
+
+    first-long : length first ≡ most .vertices
+    first-long = s .answered .spanned served .first-kept .long ∙ long (most .vertices)
+
+    order-long : length order ≡ most .vertices
+    order-long = s .answered .spanned served .order-kept .long ∙ long (most .vertices)
+
+    pub labelled-forest : ForestOf p first order
+    labelled-forest = s .answered .spanned served .forest
+
+    pub labelled-ordered : {table : List ℕ} → p .vertices ≤ length table → Ordered (p .vertices) first order table
+    labelled-ordered r = record {
+      first-room = omega (arith, first-long, a .vertices);
+      order-room = omega (arith, order-long, a .vertices);
+      table-room = r;
+      valid = labelled-forest .valid;
+    }
+
+    pub labelled-stage : {table₀ table : List ℕ} → p .vertices ≤ length table₀ → Bodied p table₀ table → Stage most p incident begins first labels dead order cursor table
+    labelled-stage r b = let l = s .answered .laid served in record {
+      tabled = record {
+        admitted = a;
+        incident-rest = drop (length (incidentTable (graph p))) (made .incident);
+        incident-is = l .incident-front;
+        begins-rest = drop (length (beginsTable (graph p))) (made .begins);
+        begins-is = l .begins-front;
+      };
+      dead-room = omega (arith, dead-kept .long, long (most .edges), a .edges);
+      live = λ e h. front-at (replicate m 0) (made .dead) (l .dead-front) e (omega (arith, long m)) ∙ zeros m e;
+      first-room = omega (arith, first-long, a .vertices);
+      order-room = omega (arith, order-long, a .vertices);
+      cursor-room = omega (arith, cursor-kept .long, long (most .vertices), a .vertices);
+      labels-room = omega (arith, s .answered .cancelled served .labels-kept .long, long (most .edges), a .edges);
+      balanced = s .answered .cancelled served .balanced;
+      table-room = omega (arith, b .kept .long);
+      groups = b .groups;
+    }
+      where
+        m : ℕ
+        m = length (p .ends) / 2
+
+        dead-kept : Kept (length (replicate {A = ℕ} m 0)) (made .dead) dead
+        dead-kept = front-kept (replicate m 0) (made .dead) (s .answered .laid served .dead-front) (omega (arith, long m, long (most .edges), a .edges))
+
+        cursor-kept : Kept (length (replicate {A = ℕ} (p .vertices) 0)) (made .cursor) cursor
+        cursor-kept = front-kept (replicate (p .vertices) 0) (made .cursor) (s .answered .spanned served .cursor-front) (omega (arith, long (p .vertices), long (most .vertices), a .vertices))
+
+  -- what is found is the definition's table
+  pub found-front : {table₀ table₁ table : List ℕ} → p .vertices ≤ length table₀ → Bodied p table₀ table₁ → Found p table₁ table → Front (components (graph p)) table₀ table
+  found-front {table₀} {table₁} {table} r b f = front (components (graph p)) table₀ table (omega (arith, size)) (rw size (record {
+    long = f .kept .long ∙ b .kept .long;
+    rest = λ k l. f .kept .rest k l ∙ b .kept .rest k l;
+  }))
+      (λ v l. let h : v < p .vertices = omega (arith, size) in
+      component-unique (f .each v h) (component-found (graph p) (admitted-vertex a v h)) ∙ sym (components-at (graph p) v (rw bound h)))
+    where
+      bound : graph p .bound ≡ p .vertices
+      bound = bound-is (p .vertices) (p .ends)
+
+      size : length (components (graph p)) ≡ p .vertices
+      size = components-length (graph p) ∙ bound
+
+-- The answer.
+
+not-less : (a b : ℕ) → not (ltb a b) ≡ leb b a
+not-less a b = elim (decLt a b) [
+  | yes l ↦ ap not (lt-ltb a b l) ∙ sym (T-false (leb b a) (λ t. let h = decides-le b a .holds t in omega arith))
+  | no l ↦ ap not (le-ltb a b (omega arith)) ∙ sym (T-true (leb b a) (decides-le b a .test (omega arith)))
+]
+
+module _ (most : Limits) (p : Plan) (table₀ : List ℕ) {r : code.Answer} (q : r ≡ toldBy (lent most p (not (ltb (length table₀) (p .vertices))))) where
+  abbrev room : Bool
+  room = leb (p .vertices) (length table₀)
+
+  told : r ≡ toldBy (lent most p room)
+  told = q ∙ ap (λ (t : Bool). toldBy (lent most p t)) (not-less (length table₀) (p .vertices))
+
+  pub answer-ready : r .number ≡ 0 → Admitted most p × (p .vertices ≤ length table₀)
+  answer-ready z = (told-admitted most p room told z, told-room most p room told z (decides-le (p .vertices) (length table₀)))
+
+  pub answer-served : {table : List ℕ} → r .number ≡ 0 → Front (components (graph p)) table₀ table → Answered most p table₀ table r
+  answer-served z f = record { answer = told; front = λ w. f; unchanged = λ n. absurd (n z) }
+
+  pub answer-refused : (r .number ≡ 0 → ⊥) → Answered most p table₀ table₀ r
+  answer-refused n = record { answer = told; front = λ z. absurd (n z); unchanged = λ w. refl }

@@ -1,0 +1,55 @@
+-- What the parts of a try, and those that make its tables, promise one another.
+use mathlib.Core.Path.{_≡_}
+use mathlib.Core.Bool.{cond}
+use mathlib.Core.Logic.{_⊎_}
+use mathlib.Core.List.{List}
+use Prim.Native.Nat.{ℕ, _+_, _*_, _/_, _≤_, _<_}
+use lib.Dec.{eqb}
+use lib.ListN.{length, getD, replicate}
+use Rattle.connectivity.specs.Plan.{Plan, graph, Limits}
+use Rattle.connectivity.specs.Component.{Component}
+use Rattle.graph.specs.Marks.{read}
+use Rattle.incidence.specs.Tables.{Tabled}
+use Rattle.incidence.specs.Parts.{Kept}
+use Rattle.labels.specs.Label.{Balanced}
+use Rattle.labels.specs.Answered.{tables}
+use Rattle.labels.specs.Answered as labelling
+use Rattle.labels.specs.declared.Labelling.{Labelling}
+use Rattle.components.specs.Splitting.{unseen, Parted}
+use Rattle.components.specs.Stars.{Grouping}
+
+-- an end of d, and the one that is not v
+abbrev pub EndOf : List ℕ → ℕ → ℕ → Type 0
+EndOf ends d v = (v ≡ getD ends (2 * d) 0) ⊎ (v ≡ getD ends (2 * d + 1) 0)
+
+abbrev pub farEnd : List ℕ → ℕ → ℕ → ℕ
+farEnd ends d v = cond (eqb (getD ends (2 * d) 0) v) (getD ends (2 * d + 1) 0) (getD ends (2 * d) 0)
+
+-- the groups are taken apart by the marks exactly where v has none
+pub data PartedAt (n : ℕ) (marks : List ℕ) (v : ℕ) (table₀ table : List ℕ) : ℕ → Type 0 where
+  seen : (getD marks v 0 ≡ 0 → ⊥) → table ≡ table₀ → PartedAt n marks v table₀ table 0
+  cut-off : getD marks v 0 ≡ 0 → length table ≡ length table₀ → Parted n (unseen marks) (read table₀) (read table) → PartedAt n marks v table₀ table 1
+
+-- `label`: what `labels::label` answers with sums that were 0
+pub record LabelledBy (most : Limits) (p : Plan) (incident₀ begins₀ dead₀ first₀ order₀ cursor₀ labels₀ incident begins dead first order cursor labels : List ℕ) : Type 0 where
+  pub sums : List ℕ
+  pub answer : Labelling
+  pub answered : labelling.Answered most p (tables incident₀ begins₀ dead₀ first₀ order₀ cursor₀ labels₀ (replicate (most .vertices) 0)) (tables incident begins dead first order cursor labels sums) answer
+
+-- `part`: what it asks for: the tables of the plan, no edge marked, labels that cancel, room, and the bodies
+pub record Stage (most : Limits) (p : Plan) (incident begins first labels dead order cursor table : List ℕ) : Type 0 where
+  pub tabled : Tabled most p incident begins
+  pub dead-room : length (p .ends) / 2 ≤ length dead
+  pub live : (e : ℕ) → e < length (p .ends) / 2 → getD dead e 0 ≡ 0
+  pub first-room : p .vertices ≤ length first
+  pub order-room : p .vertices ≤ length order
+  pub cursor-room : p .vertices ≤ length cursor
+  pub labels-room : length (p .ends) / 2 ≤ length labels
+  pub balanced : Balanced (graph p) (read labels)
+  pub table-room : p .vertices ≤ length table
+  pub groups : Grouping (graph p) (p .vertices) (read table)
+
+-- each vertex has the lowest of its group; what lies behind the vertices' places stays
+pub record Found (p : Plan) (table₀ table : List ℕ) : Type 0 where
+  pub kept : Kept (p .vertices) table₀ table
+  pub each : (v : ℕ) → v < p .vertices → Component (graph p) v (getD table v 0)
