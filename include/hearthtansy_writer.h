@@ -1,15 +1,16 @@
 /*
- * Hearthtansy: the writer of verdicts, for a program that prepares plans. A board's firmware needs hearthtansy.h alone.
+ * Hearthtansy: the writer of verdicts, and the groups of pieces that hold together, for a program that prepares plans. The writer is in
+ * libcertify_texts.a, the groups are in libcomponents_texts.a. A board's firmware needs hearthtansy.h and libverify_texts.a alone.
  *
- * Both functions keep nothing between calls and always return. No input is taken on trust: every number and every byte is judged, and
+ * The functions keep nothing between calls and always return. No input is taken on trust: every number and every byte is judged, and
  * what can't be taken is answered by a refusal.
  *
  * The caller sees to it that each pointer is not null, also where its length is 0, that it is aligned for its type, that as many numbers
  * or bytes stand behind it as its length says, that nothing else changes or reads them until the call returns, and that what is written
  * to does not overlap what is read.
  *
- * Stack and machine: as hearthtansy.h says. HEARTHTANSY_VERDICT_STACK and HEARTHTANSY_VERDICT_TEXT_STACK are the bytes of stack to keep
- * free below the call; the archive links into x86-64 programs alone.
+ * Stack and machine: as hearthtansy.h says. HEARTHTANSY_VERDICT_STACK, HEARTHTANSY_VERDICT_TEXT_STACK, HEARTHTANSY_GROUPS_STACK and
+ * HEARTHTANSY_GROUPS_TEXT_STACK are the bytes of stack to keep free below the call; the archives link into x86-64 programs alone.
  */
 #ifndef HEARTHTANSY_WRITER_H
 #define HEARTHTANSY_WRITER_H
@@ -24,6 +25,8 @@ extern "C" {
 /* Bytes of stack to keep free below a call. */
 #define HEARTHTANSY_VERDICT_STACK 79872
 #define HEARTHTANSY_VERDICT_TEXT_STACK 119808
+#define HEARTHTANSY_GROUPS_STACK 102400
+#define HEARTHTANSY_GROUPS_TEXT_STACK 143360
 
 /*
  * The verdict on a plan. `ends` has two numbers for each tab, the pieces that it joins; `rows` is lent for the record. The lengths count
@@ -41,6 +44,24 @@ uint64_t hearthtansy_verdict(uint16_t vertices, const uint16_t *ends, size_t end
  * refusal's number. The answer is its length, or 0 where `text` has fewer bytes; then `text` is unchanged. 64,011 bytes are always enough.
  */
 size_t hearthtansy_verdict_text(const uint8_t *plan, size_t plan_length, uint8_t *text, size_t text_length);
+
+/*
+ * The groups of a plan: two pieces hold together when no loss of two or fewer tabs parts them. `ends` has two numbers for each tab, the pieces
+ * that it joins; `table` is lent for the groups. The lengths count numbers, not bytes. The answer is a number and a place in one uint32_t, the
+ * number in the upper sixteen bits, the place in the lower, as hearthtansy.h has it:
+ *
+ *   0        served: for each piece, in the order of their numbers, `table` has the lowest numbered piece of its group; the numbers behind stay
+ *   1 to 5   the plan is refused, with the places of hearthtansy.h. `table` is unchanged
+ *   6        `table` has fewer than one number for each piece. It is unchanged
+ */
+uint32_t hearthtansy_groups(uint16_t vertices, const uint16_t *ends, size_t ends_length, uint16_t *table, size_t table_length);
+
+/*
+ * The groups of a plan text as text, at the front of `text`; the bytes behind it stay. It has one line for each piece, piece and group in two
+ * columns; for a plan that is refused one line with the refusal's number alone. The answer is its length, or 0 where `text` has fewer bytes;
+ * then `text` is unchanged. 11,000 bytes are always enough.
+ */
+size_t hearthtansy_groups_text(const uint8_t *plan, size_t plan_length, uint8_t *text, size_t text_length);
 
 /* The parts of a verdict. */
 static inline uint16_t hearthtansy_kind(uint64_t verdict)

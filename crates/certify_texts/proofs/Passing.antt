@@ -28,8 +28,8 @@ use Rattle.text_write.proofs.Result.{bytes-told}
 use Rattle.verify_texts.specs.Texts.{planIn, verdictIn, judgeRead, judgeTexts}
 use Rattle.verify_texts.proofs.TwoTexts as two
 use Rattle.verify_texts.proofs.TwoTexts.{verdict-space, plan-number}
+use Rattle.verify_texts.proofs.Stored.{planned}
 use Rattle.certify_texts.specs.Says.{SaysOf, Says, weak, firm, refused, read, WritesFor}
-use Rattle.certify_texts.proofs.Saying.{planned}
 
 -- every number of a list is below a bound
 at-below : (list : List ℕ) (bound : ℕ) → ((x : ℕ) → In x list → x < bound) → (i : ℕ) → getD list i 0 ≤ bound

@@ -14,22 +14,17 @@ use Rattle.graph.specs.Admission.{toldBy}
 use Rattle.graph.specs.declared.Answer as declared
 use Rattle.text.specs.Plan.{PlanReading}
 use Rattle.text_write.specs.Entry as written
+use Rattle.text_write.specs.Entry.{sizeOf}
 use Rattle.text_write.specs.declared.Written.{Written}
-use Rattle.text.proofs.RoundTrip.{plan-admitted}
 use Rattle.verify_texts.specs.Texts.{planIn}
 use Rattle.certify.specs.declared.Finding.{Finding}
 use Rattle.certify.specs.declared.Outcome.the-variants.{Refused, Weak, Firm}
 use Rattle.certify.specs.Answered.{Answered, handed, named}
 use Rattle.certify.proofs.Outcomes as outcomes
-use Rattle.certify_texts.specs.Packed.{packed, Packed, sizeOf, TextSize}
+use Rattle.certify_texts.specs.Packed.{packed, Packed, TextSize}
 use Rattle.certify_texts.specs.Says.{SaysOf, weak, firm, refused, WritesFor}
 
--- a plan that is read is admitted
-pub planned : (ws : List ℕ) (most : ℕ) (limits : Limits) (plan : List ℕ) {p : Plan} → planIn ws most limits plan ≡ PlanReading.read p → Admitted limits p
-unfolding planIn
-planned ws most limits plan q = plan-admitted ws most limits plan _ _ q
-
--- one that is refused has kind 2
+-- a plan that is refused has kind 2
 pub says-refused : {ws : List ℕ} {most : ℕ} {limits : Limits} {plan before after : List ℕ} {r : Written} {a : declared.Answer} (b : Answer)
     → planIn ws most limits plan ≡ PlanReading.refused b → a ≡ toldBy b → written.WritesVerdict ws limits 2 (a .number ∷ []) before after r → WritesFor ws most limits plan before after r
 says-refused {ws = ws} {limits = limits} {before = before} {after = after} {r = r} b q e w = record {

@@ -7,7 +7,7 @@ use Rattle.connectivity.specs.Plan.{Plan, Limits}
 use Rattle.connectivity.specs.Admission.{Answer, Handed}
 use Rattle.connectivity.specs.Verdict.{verdict, verdictHanded}
 use Rattle.text.specs.Verdict.{writeVerdict}
-use Rattle.text_write.specs.Entry.{bytesHanded, afterWriting}
+use Rattle.text_write.specs.Entry.{bytesHanded, sizeOf, afterWriting}
 use Rattle.record.specs.Answered.{RecordKept}
 use Rattle.certify_texts.specs.Says.{Says}
 
@@ -27,10 +27,6 @@ packed h = packedBy (h .values) (h .reply)
 pub record Packed (most : Limits) (p : Plan) (before after : List ℕ) (r : ℕ) : Type 0 where
   pub answer : r ≡ packed (verdictHanded (verdict most p (length before)))
   pub kept : RecordKept most p before after
-
--- how many bytes were written; 0 where that was refused
-abbrev pub sizeOf : Handed → ℕ
-sizeOf h = getD (h .values) 0 0
 
 -- the length of the verdict text that is written for a plan text; the lent bytes are as 01 has it
 pub record TextSize (ws : List ℕ) (most : ℕ) (limits : Limits) (plan before after : List ℕ) (r : ℕ) : Type 0 where

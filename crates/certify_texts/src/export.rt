@@ -6,8 +6,9 @@ ghost use mathlib.Core.Path.{_≡_};
 ghost use Rattle.connectivity.specs.Plan.{plan, limits};
 ghost use Rattle.text.specs.Column.{five, largest};
 ghost use Rattle.text_write.specs.Entry as entry;
+ghost use Rattle.text_write.specs.Entry.{sizeOf};
 ghost use Rattle.certify.specs.Answered.{handed};
-ghost use Rattle.certify_texts.specs.Packed.{four, packed, Packed, sizeOf, TextSize};
+ghost use Rattle.certify_texts.specs.Packed.{four, packed, Packed, TextSize};
 
 // The verdict on a plan; a firm one's record stands at the front of `rows`.
 #[no_mangle]

@@ -10,11 +10,11 @@ use lib.Dec.{T, eqb, ltb, ltb→lt}
 use lib.ListN.{length, getD}
 use borrow.Author.Tests.{eqb-true, eqb-false, ltb-false, eq-eqb, ne-eqb, lt-ltb, le-ltb}
 use Rattle.connectivity.specs.Lists.{range, keep}
-use Rattle.connectivity.specs.Graph.{Vertex, Edge, isEdge, edges}
+use Rattle.connectivity.specs.Graph.{Vertex, Edge, isVertex, isEdge, vertices, edges}
 use Rattle.connectivity.specs.Plan.{Plan, plan, graph, Limits}
 use Rattle.connectivity.specs.Admission.{Answer, answer, passed, EndsFit, Admitted, andThen, edgeNumber, endsAnswer, admission}
 use Rattle.connectivity.proofs.Lists.{and-both, T-true, T-false, true-T, range-is, length-range}
-use Rattle.connectivity.proofs.Search.{is-edge}
+use Rattle.connectivity.proofs.Search.{is-vertex, is-edge}
 
 -- two answers, one after the other, are success where both are
 pub both-passed : (x y : Answer) → andThen x y ≡ passed → (x .number ≡ 0) × (y ≡ passed)
@@ -149,6 +149,10 @@ keep-all : (f : ℕ → Bool) (l : List ℕ) → ((x : ℕ) → In x l → T (f 
 unfolding keep
 keep-all f [] h = refl
 keep-all f (x ∷ l) h = rw (T-true (f x) (h x (first refl))) (ap (λ (m : List ℕ). x ∷ m) (keep-all f l (λ y i. h y (later i))))
+
+pub plan-vertices : (p : Plan) → vertices (graph p) ≡ range 0 (p .vertices)
+unfolding vertices graph
+plan-vertices p = keep-all (isVertex (graph p)) (range 0 (p .vertices)) (λ v i. is-vertex (graph p) v .1 (record { below = omega (arith, range-is v 0 (p .vertices) .0 i .1); kept = tt }))
 
 pub edge-size : (p : Plan) {e : ℕ} → Edge (graph p) e → e < length (p .ends) / 2
 unfolding graph

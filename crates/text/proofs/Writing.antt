@@ -6,17 +6,18 @@ use mathlib.Core.List.{List, [], _∷_}
 use Prim.Native.Nat.{ℕ, zero, suc, _+_, _*_, _/_, _≤_, _<_, _%_}
 use native.Mathlib.Omega.{arith}
 use native.Mathlib.Decide.{ℕ-discrete}
-use native.Mathlib.Nat.{mul-suc, suc-mul, mul-zero, mul-le-mul, mul-le-mul-right}
+use native.Mathlib.Nat.{mul-suc, suc-mul, mul-zero, mul-div-le, le-div-iff-mul-le, div-lt-iff-lt-mul, mul-le-mul, mul-le-mul-right}
 use lib.Dec.{eqb, leb}
 use lib.ListN.{length, take, drop, getD, length-append, length-drop}
 use lib.Seq.{length-take-le}
-use borrow.Author.Tests.{ne-eqb, lt-ltb, le-ltb, eq-eqb, eqb-true, leb-true}
+use borrow.Author.Tests.{ne-eqb, lt-ltb, le-ltb, le-leb, lt-leb, eq-eqb, eqb-true, leb-true}
 use Rattle.connectivity.specs.Plan.{Plan, Limits}
 use Rattle.connectivity.specs.Admission.{answer, Admitted, admission}
 use Rattle.connectivity.proofs.Admission.{admission-number}
 use Rattle.text.specs.Column.{line, lines, lineSize}
 use Rattle.text.specs.Plan.{Writing, planText, writePlan}
 use Rattle.text.specs.Verdict.{perLine, linesOf, needed, countOf, countFits, hasText, verdictText, writeVerdict}
+use Rattle.text.specs.Lines.{writeText, writeLines}
 use Rattle.text.proofs.Laws.{and-true, length-line}
 
 pub length-lines : (ws : List ℕ) (k m : ℕ) (list : List ℕ) → k * m ≤ length list → length (lines ws k m list) ≡ m * lineSize ws k
@@ -30,6 +31,45 @@ length-lines ws k (suc m) list h =
 
 abbrev refusal : ℕ → Writing
 refusal k = Writing.refused (answer k 0)
+
+-- writing a text
+module _ (text : List ℕ) (space : ℕ) where
+  pub text-short : space < length text → writeText text space ≡ refusal 6
+  unfolding writeText
+  text-short h = rw (lt-ltb space (length text) h)
+
+  pub text-written : length text ≤ space → writeText text space ≡ Writing.written text
+  unfolding writeText
+  text-written h = rw (le-ltb space (length text) h)
+
+-- writing lines alone
+module _ (ws : List ℕ) (columns : ℕ) (list : List ℕ) where
+  abbrev whole : List ℕ
+  whole = lines ws columns (length list / columns) list
+
+  pub length-whole : length whole ≡ length list / columns * lineSize ws columns
+  length-whole = length-lines ws columns (length list / columns) list (mul-div-le (length list) columns)
+
+  -- a quotient tells whether they fit
+  pub whole-more : (space : ℕ) → space / lineSize ws columns < length list / columns → space < length whole
+  whole-more space h = omega (arith, length-whole, div-lt-iff-lt-mul {k = lineSize ws columns} (omega arith) .0 h)
+
+  pub whole-fits : (space : ℕ) → length list / columns ≤ space / lineSize ws columns → length whole ≤ space
+  whole-fits space h = omega (arith, length-whole, le-div-iff-mul-le {k = lineSize ws columns} (omega arith) .0 h)
+
+  module _ (space : ℕ) where
+    pub few-columns : columns < 1 → writeLines ws columns list space ≡ refusal 8
+    unfolding writeLines
+    few-columns h = rw (lt-leb 1 columns h)
+
+    module _ (one : 1 ≤ columns) where
+      pub many-columns : 3 < columns → writeLines ws columns list space ≡ refusal 8
+      unfolding writeLines
+      many-columns h = rw (le-leb 1 columns one, lt-leb columns 3 h)
+
+      pub in-columns : columns ≤ 3 → writeLines ws columns list space ≡ writeText whole space
+      unfolding writeLines
+      in-columns h = rw (le-leb 1 columns one, le-leb columns 3 h)
 
 -- writing a plan
 module _ (ws : List ℕ) (limits : Limits) (p : Plan) (space : ℕ) where

@@ -1,3 +1,4 @@
 pub mod Column
 pub mod Plan
 pub mod Verdict
+pub mod Lines

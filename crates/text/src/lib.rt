@@ -24,6 +24,9 @@ pub const PLAN_SIZE: usize = HEADER + Graph::MAX_EDGES * HEADER;
 // The bytes of the longest verdict text: a firm one, with a row for each edge.
 pub const VERDICT_SIZE: usize = HEADER + Graph::MAX_EDGES * LONGEST;
 
+// The bytes of the longest text of groups: a line of two columns for each vertex.
+pub const GROUPS_SIZE: usize = Graph::MAX_VERTICES * HEADER;
+
 // The bytes of an answer's line.
 pub const ANSWER_SIZE: usize = HEADER;
 

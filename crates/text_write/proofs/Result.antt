@@ -10,16 +10,21 @@ use Rattle.graph.specs.declared.Answer as code
 use Rattle.graph.proofs.Lent.{not-served, told-by}
 use Rattle.text.specs.Plan.{Writing, writePlan}
 use Rattle.text.specs.Verdict.{writeVerdict}
+use Rattle.text.specs.Lines.{writeLines}
 use Rattle.text_write.specs.declared.Written.{Written}
-use Rattle.text_write.specs.Entry.{handed, bytesHanded, afterWriting, WritesPlan, WritesVerdict}
+use Rattle.text_write.specs.Entry.{handed, bytesHanded, afterWriting, WritesPlan, WritesVerdict, WritesLines}
 
-module _ {ws : List ℕ} {limits : Limits} {lent after : List ℕ} {r : Written} (x : Writing) where
-  pub writes-plan : {p : Plan} → writePlan ws limits p (length lent) ≡ x → handed r ≡ bytesHanded x → after ≡ afterWriting x lent → WritesPlan ws limits p lent after r
+module _ {ws lent after : List ℕ} {r : Written} (x : Writing) where
+  pub writes-plan : {limits : Limits} {p : Plan} → writePlan ws limits p (length lent) ≡ x → handed r ≡ bytesHanded x → after ≡ afterWriting x lent → WritesPlan ws limits p lent after r
   writes-plan p q m = record { answer = q ∙ sym (ap bytesHanded p); memory = m ∙ sym (ap (λ (y : Writing). afterWriting y lent) p) }
 
-  pub writes-verdict : {kind : ℕ} {list : List ℕ}
+  pub writes-verdict : {limits : Limits} {kind : ℕ} {list : List ℕ}
       → writeVerdict ws limits kind list (length lent) ≡ x → handed r ≡ bytesHanded x → after ≡ afterWriting x lent → WritesVerdict ws limits kind list lent after r
   writes-verdict p q m = record { answer = q ∙ sym (ap bytesHanded p); memory = m ∙ sym (ap (λ (y : Writing). afterWriting y lent) p) }
+
+  pub writes-lines : {columns : ℕ} {list : List ℕ}
+      → writeLines ws columns list (length lent) ≡ x → handed r ≡ bytesHanded x → after ≡ afterWriting x lent → WritesLines ws columns list lent after r
+  writes-lines p q m = record { answer = q ∙ sym (ap bytesHanded p); memory = m ∙ sym (ap (λ (y : Writing). afterWriting y lent) p) }
 
 -- For callers: the case of the answer tells the case of the result.
 

@@ -1,4 +1,4 @@
-// Plan text and verdict text (01, "Columns") written, and an answer's line. A refusal leaves what is lent unchanged.
+// Plan text and verdict text (01, "Columns") written, lines of a list, and an answer's line. A refusal leaves what is lent unchanged.
 mod line;
 
 use graph::Admission;
@@ -11,7 +11,7 @@ ghost use mathlib.Core.Path.{_≡_};
 ghost use Rattle.connectivity.specs.Plan.{plan, limits};
 ghost use Rattle.text.specs.Column.{five};
 ghost use Rattle.text.specs.Verdict.{countOf, hasText};
-ghost use Rattle.text_write.specs.Entry.{WritesPlan, WritesVerdict, answerText};
+ghost use Rattle.text_write.specs.Entry.{WritesPlan, WritesVerdict, WritesLines, answerText};
 
 pub enum Written {
     // how many bytes
@@ -90,6 +90,26 @@ fn count_of(kind: u16, list: &[u16]) -> usize
         return list.len() / 3;
     }
     list.len()
+}
+
+// Writes as many lines of `columns` numbers each as the list has whole ones: 8 unless there are one to three columns, then 6.
+pub fn write_lines(columns: usize, list: &[u16], text: &mut [u8]) -> Written
+    ensures { λ r. ⌜ WritesLines five columns (now (list .entry)) (now (text .entry)) (now (text .exit)) r ⌝ }
+{
+    if columns < 1 {
+        return refused_writing(8);
+    }
+    if 3 < columns {
+        return refused_writing(8);
+    }
+    let lines = list.len() / columns;
+    let size = columns * WIDTH + 1;
+    // by division: lines * size could be too large for the type
+    if text.len() / size < lines {
+        return refused_writing(6);
+    }
+    line::write_lines(list, columns, lines, text, 0);
+    Written::Bytes(lines * size)
 }
 
 // The line of an answer: number and place in two columns.

@@ -35,7 +35,7 @@ fn write_line(list: &[u16], from: usize, columns: usize, text: &mut [u8], at: us
 }
 
 // Writes `count` lines of `columns` numbers each, from `at` on.
-fn write_lines(list: &[u16], columns: usize, count: usize, text: &mut [u8], at: usize)
+pub(crate) fn write_lines(list: &[u16], columns: usize, count: usize, text: &mut [u8], at: usize)
     requires { ⌜ (columns ≤ 3) × (columns * count ≤ length (now list)) × (at + count * lineSize five columns ≤ length (now text)) ⌝ }
     ensures { λ r. ⌜ now (text .exit) ≡ sets (now (text .entry)) at (lines five columns count (now (list .entry))) ⌝ }
 {

@@ -23,6 +23,11 @@ use Rattle.verify_texts.proofs.TwoTexts.{plan-space, verdict-space}
 front : (xs lent : List ℕ) (k : ℕ) → length xs ≡ k → (k ≤ length (filled xs lent)) × (take k (filled xs lent) ≡ xs)
 front xs lent k p = (omega (arith, length-append xs (drop (length xs) lent)), take-at xs (drop (length xs) lent) k p)
 
+-- a plan that is read is admitted
+pub planned : (ws : List ℕ) (most : ℕ) (limits : Limits) (plan : List ℕ) {p : Plan} → planIn ws most limits plan ≡ PlanReading.read p → meaning.Admitted limits p
+unfolding planIn
+planned ws most limits plan q = plan-admitted ws most limits plan _ _ q
+
 -- the plan's table has room for every admitted plan
 module _ (ws : List ℕ) (most : ℕ) (limits : Limits) (text lent after : List ℕ) (r : Admission) (reads : ReadsPlan ws most limits text lent after r)
     (room : 2 * limits .edges ≤ length lent) where

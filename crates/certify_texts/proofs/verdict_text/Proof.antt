@@ -8,9 +8,9 @@ use Rattle.connectivity.specs.Plan.{plan, limits}
 use Rattle.text.specs.Column.{five, largest}
 use Rattle.text.specs.Plan.{PlanReading}
 use Rattle.verify_texts.specs.Texts.{planIn}
-use Rattle.verify_texts.proofs.Stored.{plan-stored, plan-told}
+use Rattle.verify_texts.proofs.Stored.{planned, plan-stored, plan-told}
 use Rattle.certify_texts.specs.Says.{read}
-use Rattle.certify_texts.proofs.Saying.{planned, says-refused}
+use Rattle.certify_texts.proofs.Saying.{says-refused}
 use Rattle.certify_texts.proofs.verdict_text.Statement.{statement}
 use Rattle.certify_texts.proofs.verdict_text.Tie as tie
 
