@@ -1,4 +1,4 @@
-//! The proved check and the proved writer, from their static libraries.
+//! The proved check, the proved writer and the proved finder of groups, from their static libraries.
 
 use crate::second::Answer;
 use crate::writer::Verdict;
@@ -34,6 +34,21 @@ unsafe extern "C" {
         text: *mut u8,
         text_length: usize,
     ) -> u64;
+
+    fn hearthtansy_groups(
+        vertices: u16,
+        ends: *const u16,
+        ends_length: usize,
+        table: *mut u16,
+        table_length: usize,
+    ) -> u32;
+
+    fn hearthtansy_groups_text(
+        plan: *const u8,
+        plan_length: usize,
+        text: *mut u8,
+        text_length: usize,
+    ) -> usize;
 }
 
 /// The exported functions, in the order of their addresses and names below.
@@ -43,9 +58,11 @@ pub enum Exported {
     CheckTexts,
     Verdict,
     VerdictText,
+    Groups,
+    GroupsText,
 }
 
-pub const EXPORTED: [(*const (), &str); 4] = [
+pub const EXPORTED: [(*const (), &str); 6] = [
     (hearthtansy_check as *const (), "hearthtansy_check"),
     (
         hearthtansy_check_texts as *const (),
@@ -55,6 +72,11 @@ pub const EXPORTED: [(*const (), &str); 4] = [
     (
         hearthtansy_verdict_text as *const (),
         "hearthtansy_verdict_text",
+    ),
+    (hearthtansy_groups as *const (), "hearthtansy_groups"),
+    (
+        hearthtansy_groups_text as *const (),
+        "hearthtansy_groups_text",
     ),
 ];
 
@@ -110,4 +132,24 @@ pub fn verdict_text(plan: &[u8], text: &mut [u8]) -> usize {
         hearthtansy_verdict_text(plan.as_ptr(), plan.len(), text.as_mut_ptr(), text.len())
     };
     written as usize
+}
+
+pub fn groups(vertices: u16, ends: &[u16], table: &mut [u16]) -> Answer {
+    // SAFETY: both lists are lent for the call, with their own lengths; only the table is written.
+    let told = unsafe {
+        hearthtansy_groups(
+            vertices,
+            ends.as_ptr(),
+            ends.len(),
+            table.as_mut_ptr(),
+            table.len(),
+        )
+    };
+    answer(told)
+}
+
+/// How many bytes of the text are written.
+pub fn groups_text(plan: &[u8], text: &mut [u8]) -> usize {
+    // SAFETY: both texts are lent for the call, with their own lengths; only the second is written.
+    unsafe { hearthtansy_groups_text(plan.as_ptr(), plan.len(), text.as_mut_ptr(), text.len()) }
 }

@@ -88,7 +88,7 @@ impl Seen {
     }
 }
 
-fn require(holds: bool, why: impl FnOnce() -> String) -> Result<(), String> {
+pub fn require(holds: bool, why: impl FnOnce() -> String) -> Result<(), String> {
     if holds { Ok(()) } else { Err(why()) }
 }
 
@@ -162,10 +162,13 @@ fn expected_text(plan: &[u8]) -> Result<(Verdict, Vec<u8>), String> {
     Ok((told, text))
 }
 
-/// The proved writer of texts gives the expected text, or 0 where the lent bytes are fewer, and leaves the others as they were;
-/// the text passes both checks.
-fn text(random: &mut Random, plan: &[u8]) -> Result<Verdict, String> {
-    let (verdict, expected) = expected_text(plan)?;
+/// A writer of texts gives the expected text, or 0 where the lent bytes are fewer, and leaves the others as they were.
+pub fn writes(
+    random: &mut Random,
+    plan: &[u8],
+    expected: &[u8],
+    write: fn(&[u8], &mut [u8]) -> usize,
+) -> Result<(), String> {
     let length = match random.below(8) {
         0 => random.below(expected.len()),
         1 => expected.len() - 1,
@@ -176,10 +179,10 @@ fn text(random: &mut Random, plan: &[u8]) -> Result<Verdict, String> {
     let mut wanted = lent.clone();
     let fits = length >= expected.len();
     if fits {
-        wanted[..expected.len()].copy_from_slice(&expected);
+        wanted[..expected.len()].copy_from_slice(expected);
     }
     let mut bytes = lent;
-    let written = archive::verdict_text(plan, &mut bytes);
+    let written = write(plan, &mut bytes);
     require(
         written == if fits { expected.len() } else { 0 } && bytes == wanted,
         || {
@@ -189,7 +192,13 @@ fn text(random: &mut Random, plan: &[u8]) -> Result<Verdict, String> {
                 wanted.escape_ascii()
             )
         },
-    )?;
+    )
+}
+
+/// The proved writer of texts gives the expected text, which passes both checks.
+fn text(random: &mut Random, plan: &[u8]) -> Result<Verdict, String> {
+    let (verdict, expected) = expected_text(plan)?;
+    writes(random, plan, &expected, archive::verdict_text)?;
     let refused = if verdict[0] == 2 { verdict[1] } else { 0 };
     let answer = same_texts(&[plan.to_vec(), expected])?;
     require(answer.number == refused, || {

@@ -7,13 +7,13 @@ use crate::table::{head, number, numbers, row, whole};
 
 const SIZES: [usize; 3] = [100, 1000, 4000];
 /// How many tabs the plans of a shape, size and order have together: so many that a processor which has seen them all does not know each again.
-const TABS: usize = 12_000;
+pub const TABS: usize = 12_000;
 
 /// The tabs of a shape in an order at a size, and the median nanoseconds of one call of the proved function and of the second one.
-struct Cell {
-    order: Order,
-    tabs: usize,
-    times: [f64; 2],
+pub struct Cell {
+    pub order: Order,
+    pub tabs: usize,
+    pub times: [f64; 2],
 }
 
 impl Cell {
@@ -22,32 +22,32 @@ impl Cell {
         self.times.map(|time| time / self.tabs as f64)
     }
 
-    fn ratio(&self) -> f64 {
+    pub fn ratio(&self) -> f64 {
         self.times[0] / self.times[1]
     }
 
     /// The time for each tab against that of another size.
-    fn growth(&self, before: &Cell) -> f64 {
+    pub fn growth(&self, before: &Cell) -> f64 {
         self.each()[0] / before.each()[0]
     }
 }
 
 /// The largest number so far, and what it belongs to.
 #[derive(Default)]
-struct Worst {
-    most: f64,
-    of: String,
+pub struct Worst {
+    pub most: f64,
+    pub of: String,
 }
 
 impl Worst {
-    fn meet(&mut self, x: f64, shape: &Shape, order: Order) {
+    pub fn meet(&mut self, x: f64, shape: &Shape, order: Order) {
         if x > self.most {
             self.most = x;
             self.of = format!("{}, {}", shape.name, order.name());
         }
     }
 
-    fn print(&self, what: &str) {
+    pub fn print(&self, what: &str) {
         println!("{what}: × {} ({})", number(self.most), self.of);
     }
 }

@@ -1,4 +1,5 @@
-//! Random plans for the writers: small ones of many shapes, some larger ones, refused ones, and space for the record.
+//! Random plans for the writers and the finders of groups: small ones of many shapes, some larger ones, refused ones, and space for what is
+//! written.
 
 use crate::damage::record;
 use crate::random::Random;
@@ -13,8 +14,15 @@ pub struct Trial {
 
 type Tabs = Vec<[u16; 2]>;
 
-/// A random plan, most of 2 to 8 pieces, with space that may be too short or longer than needed.
+/// A random plan with space that may be too short or longer than needed.
 pub fn random_trial(random: &mut Random) -> Trial {
+    let plan = random_plan(random);
+    let rows = space(random, plan.ends.len() / 2 * 3);
+    Trial { plan, rows }
+}
+
+/// A random plan, most of 2 to 8 pieces.
+pub fn random_plan(random: &mut Random) -> Plan {
     let mut tabs = match random.below(20) {
         0 => scattered(random, 7, 14),
         1 => scattered(random, 3, 14),
@@ -35,8 +43,45 @@ pub fn random_trial(random: &mut Random) -> Trial {
     while random.once_in(12) {
         spoil(random, &mut plan);
     }
-    let rows = space(random, plan.ends.len() / 2);
-    Trial { plan, rows }
+    plan
+}
+
+/// A random plan of up to so many pieces, weak as a rule: tabs between any pieces, or small bodies that hang together.
+pub fn random_larger(random: &mut Random, most: usize) -> Plan {
+    let mut tabs = match random.below(4) {
+        0 => scattered(random, most - 1, most + most / 2),
+        _ => gathered(random, most - 8),
+    };
+    while random.once_in(2) {
+        change(random, &mut tabs);
+    }
+    mixed(random, &tabs)
+}
+
+/// Small bodies and single pieces until there are so many pieces, each put into a tab of those before, hung on them by some tabs, or both.
+fn gathered(random: &mut Random, least: usize) -> Tabs {
+    let mut tabs = small(random);
+    while (pieces(&tabs) as usize) < least {
+        let first = pieces(&tabs);
+        let at = random.below(tabs.len());
+        let body = if random.once_in(2) {
+            Tabs::new()
+        } else {
+            small(random)
+        };
+        tabs.extend(body.iter().map(|tab| tab.map(|v| first + v)));
+        let size = if body.is_empty() { 1 } else { pieces(&body) };
+        let inside = |random: &mut Random| first + random.below(size as usize) as u16;
+        if random.once_in(3) {
+            let [a, b] = tabs[at];
+            tabs[at] = [a, inside(random)];
+            tabs.push([inside(random), b]);
+        }
+        for _ in 0..[0, 1, 1, 1, 2, 2, 2, 3, 4][random.below(9)] {
+            tabs.push([random.below(first as usize) as u16, inside(random)]);
+        }
+    }
+    tabs
 }
 
 /// Two different pieces.
@@ -250,9 +295,8 @@ fn crowd(random: &mut Random, plan: &mut Plan) {
     plan.vertices = plan.vertices.max(highest).saturating_add(5);
 }
 
-/// Space for a record: as much as is needed, less or more.
-fn space(random: &mut Random, tabs: usize) -> Vec<u16> {
-    let need = 3 * tabs;
+/// Space for what is written: as many numbers as are needed, fewer or more.
+pub fn space(random: &mut Random, need: usize) -> Vec<u16> {
     let length = match random.below(16) {
         0 => random.below(need + 1),
         1 => need.saturating_sub(1),

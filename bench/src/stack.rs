@@ -8,9 +8,10 @@
 
 use crate::archive::{self, Exported};
 use crate::damage::number;
+use crate::group_shapes::grouped;
 use crate::grow::{Case, Family, grow};
 use crate::random::Random;
-use crate::shapes::{ORDERS, Plan, shapes};
+use crate::shapes::{ORDERS, Order, Plan, shapes};
 use crate::table::{head, row, whole};
 use crate::texts;
 use std::arch::asm;
@@ -80,6 +81,10 @@ fn measure() -> Result<Vec<Use>, String> {
             let plan = shape.plan(&mut random, TABS, order);
             stack.plans(&mut random, &plan)?;
         }
+    }
+    for shape in grouped() {
+        let plan = shape.plan(&mut random, TABS, Order::Shuffled);
+        stack.plan_groups(&mut random, &plan)?;
     }
     Ok(stack.uses)
 }
@@ -202,6 +207,41 @@ impl Stack {
         let [written, length] = [text.as_mut_ptr() as usize, text.len()];
         let words = [plan.as_ptr() as usize, plan.len(), written, length, 0, 0];
         Ok(self.call(Exported::VerdictText, words)? as usize)
+    }
+
+    fn groups(&mut self, plan: &Plan, table: &mut [u16]) -> Result<(), String> {
+        let [ends, count] = [plan.ends.as_ptr() as usize, plan.ends.len()];
+        let [list, length] = [table.as_mut_ptr() as usize, table.len()];
+        let words = [plan.vertices as usize, ends, count, list, length, 0];
+        self.call(Exported::Groups, words)?;
+        Ok(())
+    }
+
+    fn groups_text(&mut self, plan: &[u8], text: &mut [u8]) -> Result<usize, String> {
+        let [written, length] = [text.as_mut_ptr() as usize, text.len()];
+        let words = [plan.as_ptr() as usize, plan.len(), written, length, 0, 0];
+        Ok(self.call(Exported::GroupsText, words)? as usize)
+    }
+
+    /// The groups of a plan as it is, with too little space, refused and damaged, as numbers and as texts.
+    fn plan_groups(&mut self, random: &mut Random, plan: &Plan) -> Result<(), String> {
+        let mut table = vec![0; plan.vertices as usize];
+        self.groups(plan, &mut table)?;
+        self.groups(plan, &mut table[1..])?;
+        let text = texts::write(plan.vertices, &plan.ends, 2);
+        let mut written = vec![0; 11 * table.len()];
+        let length = self.groups_text(&text, &mut written)?;
+        self.groups_text(&text, &mut written[..length - 1])?;
+        for _ in 0..DAMAGED {
+            let mut damaged = plan.clone();
+            let at = random.below(plan.ends.len());
+            damaged.ends[at] = random.below(PIECES + 1) as u16;
+            self.groups(&damaged, &mut table)?;
+            let mut text = texts::write(damaged.vertices, &damaged.ends, 2);
+            texts::damage(random, &mut text);
+            self.groups_text(&text, &mut written)?;
+        }
+        Ok(())
     }
 
     /// A plan as it is, with too little space, refused and damaged, and the check of what is written, as numbers and as texts.

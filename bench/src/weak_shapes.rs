@@ -143,7 +143,7 @@ fn tail(random: &mut Random, tabs: usize, closed: bool) -> Drawn {
 }
 
 /// The same with the path before the blob: piece 0 is at its far end.
-fn tail_first(random: &mut Random, tabs: usize) -> Drawn {
+pub fn tail_first(random: &mut Random, tabs: usize) -> Drawn {
     let length = (tabs / 2).min(MAX_PIECES - 10);
     let mut all = joined(length, 1, 1);
     let blob = Drawn::grown(random, Family::Short, 10, tabs - length);
@@ -187,7 +187,7 @@ fn two_blobs(random: &mut Random, tabs: usize, joints: usize) -> Drawn {
     all
 }
 
-fn cycle(tabs: usize) -> Drawn {
+pub fn cycle(tabs: usize) -> Drawn {
     let mut cycle = joined(long(tabs), 1, 1);
     cycle.tie(cycle.pieces - 1, 0, 1);
     cycle
