@@ -1,4 +1,4 @@
--- A try of one cut: the edges marked, a search from an end of one of them, the groups taken apart, and all marks taken back.
+-- A try of one cut: a search from an end of one of its edges marks what that reaches without the cut, and the groups are taken apart by it.
 use mathlib.Core.Path.{_≡_, refl, sym, ap, _∙_, subst}
 use mathlib.Core.Logic.{_⊎_, inl, inr}
 use mathlib.Core.Bool.{Bool, true, false, not, cond}
@@ -7,7 +7,7 @@ use Prim.Native.Nat.{ℕ, _+_, _*_, _/_, _≤_, _<_}
 use native.Mathlib.Omega.{arith}
 use native.Mathlib.Decide.{ℕ-discrete}
 use lib.Dec.{eqb}
-use lib.ListN.{length, getD}
+use lib.ListN.{length, getD, replicate, length-replicate}
 use borrow.Author.Tests.{eq-eqb, ne-eqb}
 use Rattle.connectivity.specs.Plan.{Plan, graph, Limits}
 use Rattle.connectivity.specs.Graph.{Joins}
@@ -17,17 +17,19 @@ use Rattle.connectivity.proofs.Admission.{admitted-vertex}
 use Rattle.graph.specs.Marks.{read}
 use Rattle.graph.specs.Tells.{Tells}
 use Rattle.graph.proofs.Joined.{joins-below}
-use Rattle.depth.specs.Depth.{Crossing, Found, Cutting, Undone}
-use Rattle.depth.proofs.Left.{seen, marked}
-use Rattle.depth.proofs.Undoing.{undone-all}
-use Rattle.cuts.specs.Tries.{Ready, Restored}
-use Rattle.cuts.proofs.Trying.{both, cutting, taken-back}
-use Rattle.components.specs.Splitting.{Classes, Placing, unseen}
+use Rattle.graph.proofs.Tally.{zeros}
+use Rattle.incidence.specs.Tables.{Tabled}
+use Rattle.depth.specs.Depth.{Cutting}
+use Rattle.depth.specs.Depth as depth
+use Rattle.depth.specs.declared.Explored.{Explored}
+use Rattle.depth.proofs.Left.{fresh-at, seen, marked}
+use Rattle.depth.proofs.Outcomes.{seen-found, tabled-enough}
+use Rattle.cuts.proofs.Trying.{both, both-long, cutting}
+use Rattle.components.specs.Splitting.{unseen}
 use Rattle.components.specs.Stars.{Attempt}
 use Rattle.components.specs.Stars as stars
 use Rattle.components.specs.Tries.{EndOf, farEnd, PartedAt}
 use Rattle.components.specs.Tries as tries
-use Rattle.components.proofs.Splitting.{placing-start}
 
 -- an edge joins each of its ends to the other
 pub joins-far : {most : Limits} (p : Plan) {d root : ℕ} → Admitted most p → d < length (p .ends) / 2 → EndOf (p .ends) d root → Joins (graph p) d root (farEnd (p .ends) d root)
@@ -46,42 +48,41 @@ joins-far p {d} {root} a l e = record {
     chosen : {t : Bool} → eqb left root ≡ t → cond (eqb left root) right left ≡ cond t right left
     chosen z = ap (λ (t : Bool). cond t right left) z
 
-module _ {most : Limits} {p : Plan} {incident begins first dead₀ marks₀ order₀ cursor₀ : List ℕ} (s : Ready most p incident begins first dead₀ marks₀ order₀ cursor₀) {e d : ℕ}
-    (h : e < length (p .ends) / 2) (l : d < length (p .ends) / 2) where
-  -- the root and the far end are vertices
+-- the root and the far end are vertices
+module _ {most : Limits} {p : Plan} (a : Admitted most p) {d : ℕ} (l : d < length (p .ends) / 2) where
   pub root-vertex : {root : ℕ} → EndOf (p .ends) d root → root < p .vertices
-  root-vertex q = let f = s .tables .tabled .admitted .fit d l in elim q [ inl z ↦ rw z (f .left) | inr z ↦ rw z (f .right) ]
+  root-vertex q = let f = a .fit d l in elim q [ inl z ↦ rw z (f .left) | inr z ↦ rw z (f .right) ]
 
   pub far-vertex : {root far : ℕ} → EndOf (p .ends) d root → far ≡ farEnd (p .ends) d root → far < p .vertices
-  far-vertex {root} q z = rw z (joins-below (p .vertices) (p .ends) d root (farEnd (p .ends) d root) (joins-far p (s .tables .tabled .admitted) l q))
+  far-vertex {root} q z = rw z (joins-below (p .vertices) (p .ends) d root (farEnd (p .ends) d root) (joins-far p a l q))
 
-  module _ {dead₁ marks order cursor : List ℕ} {root count : ℕ} (k : dead₁ ≡ both dead₀ e d 1)
-      (f : Found (Crossing p incident begins dead₁) (p .vertices) root 0 marks₀ order₀ cursor₀ marks order cursor count) where
-    -- the search leaves room for the pass over the groups
-    pub placing-ready : {table : List ℕ} → p .vertices ≤ length table → Classes (p .vertices) (read table) → Placing (p .vertices) 0 marks cursor table table
-    placing-ready {table} r c = placing-start marks cursor table (omega (arith, s .tables .marks-room, f .first-long)) (omega (arith, s .tables .cursor-room, f .cursor-long)) r c
-
-    cuts : Cutting p (e ∷ (d ∷ [])) (read dead₁)
-    cuts = rw k (cutting dead₀ e d (omega (arith, s .tables .dead-room)) (omega (arith, s .tables .dead-room)) p (s .live))
-
-    tells : (v : ℕ) → v < p .vertices → Tells (not (unseen marks v)) (Reach (graph p) (Without (e ∷ (d ∷ []))) root v)
-    tells v b = elim (ℕ-discrete (getD marks v 0) 0) [
-      | yes z ↦ rw (eq-eqb (getD marks v 0) 0 z) (λ r. marked (s .tables .tabled) f cuts (s .tables .fresh) v r z)
-      | no n ↦ rw (ne-eqb (getD marks v 0) 0 n) (seen (s .tables .tabled) f cuts (s .tables .fresh) v b n)
+-- the search marks what the root reaches
+pub searched : {most : Limits} {p : Plan} {incident begins dead₀ dead marks₀ marks order₀ order cursor₀ cursor : List ℕ} {e d root : ℕ} {r : Explored} → Tabled most p incident begins
+    → e < length (p .ends) / 2 → d < length (p .ends) / 2 → root < p .vertices → dead₀ ≡ replicate (most .edges) 0 → p .vertices ≤ length marks₀ → p .vertices ≤ length order₀
+    → p .vertices ≤ length cursor₀ → ((v : ℕ) → v < p .vertices → getD marks₀ v 0 ≡ 0) → dead ≡ both dead₀ e d 1
+    → depth.Answered most p incident begins dead root 0 marks₀ order₀ cursor₀ marks order cursor r
+    → (v : ℕ) → v < p .vertices → Tells (not (unseen marks v)) (Reach (graph p) (Without (e ∷ (d ∷ []))) root v)
+searched {most} {p} {incident} {begins} {dead₀} {dead} {marks₀} {marks} {order₀} {order} {cursor₀} {cursor} {e} {d} {root} {r} t h l b z mr or cr clear k a v i =
+    elim (ℕ-discrete (getD marks v 0) 0) [
+      | yes q ↦ rw (eq-eqb (getD marks v 0) 0 q) (λ w. marked t (f .1) cuts clear v w q)
+      | no n ↦ rw (ne-eqb (getD marks v 0) 0 n) (seen t (f .1) cuts clear v i n)
     ]
+  where
+    long : length dead₀ ≡ most .edges
+    long = ap length z ∙ length-replicate {A = ℕ} (most .edges) 0
 
-    pub attempted : {far r : ℕ} {table₀ table : List ℕ} → EndOf (p .ends) d root → far ≡ farEnd (p .ends) d root → PartedAt (p .vertices) marks far table₀ table r
-        → Attempt (graph p) (p .vertices) (e ∷ (d ∷ [])) d table₀ table r
-    attempted {far} q z (tries.seen n same) = stars.joined same root far (rw z (joins-far p (s .tables .tabled .admitted) l q)) (seen (s .tables .tabled) f cuts (s .tables .fresh) far (far-vertex q z) n)
-    attempted {far} q z (tries.cut-off o long p′) =
-        stars.parted long root far (rw z (joins-far p (s .tables .tabled .admitted) l q)) (λ r. marked (s .tables .tabled) f cuts (s .tables .fresh) far r o) (unseen marks) tells p′
+    cuts : Cutting p (e ∷ (d ∷ [])) (read dead)
+    cuts = rw k (cutting dead₀ e d (omega (arith, long, t .admitted .edges)) (omega (arith, long, t .admitted .edges)) p (λ j o. ap (λ (x : List ℕ). getD x j 0) z ∙ zeros (most .edges) j))
 
-    pub restored : {dead marks′ cursor′ : List ℕ} → dead ≡ both dead₁ e d 0 → length cursor′ ≡ length cursor → Undone order 0 count marks marks′
-        → Restored dead₀ marks₀ order₀ cursor₀ dead marks′ order cursor′
-    restored b c u = record {
-      dead-same = b ∙ ap (λ (x : List ℕ). both x e d 0) k
-          ∙ taken-back dead₀ e d (omega (arith, s .tables .dead-room)) (omega (arith, s .tables .dead-room)) (s .live e h) (s .live d l);
-      marks-same = undone-all f (omega (arith, s .tables .order-room, f .order-long)) u;
-      order-long = f .order-long;
-      cursor-long = c ∙ f .cursor-long;
-    }
+    f : (count : ℕ) × depth.Found (depth.Crossing p incident begins dead) (p .vertices) root 0 marks₀ order₀ cursor₀ marks order cursor count
+    f = let s = seen-found most p incident begins dead root 0 marks₀ order₀ cursor₀ marks order cursor r (t .admitted)
+        (tabled-enough t (omega (arith, ap length k ∙ both-long dead₀ e d 1, long, t .admitted .edges)) mr or cr) (fresh-at (p .vertices) root marks₀ b clear) a in (s .0, s .2)
+
+-- the whole try
+pub attempted : {most : Limits} {p : Plan} {e d root far r : ℕ} {marks table₀ table : List ℕ} → Admitted most p → d < length (p .ends) / 2
+    → ((v : ℕ) → v < p .vertices → Tells (not (unseen marks v)) (Reach (graph p) (Without (e ∷ (d ∷ []))) root v))
+    → EndOf (p .ends) d root → far ≡ farEnd (p .ends) d root → PartedAt (p .vertices) marks far table₀ table r → Attempt (graph p) (p .vertices) (e ∷ (d ∷ [])) d table₀ table r
+attempted {p = p} {e = e} {d = d} {root = root} {far = far} {marks = marks} a l tells q z (tries.seen n same) =
+    stars.joined same root far (rw z (joins-far p a l q)) (subst (λ (t : Bool). Tells (not t) (Reach (graph p) (Without (e ∷ (d ∷ []))) root far)) (ne-eqb (getD marks far 0) 0 n) (tells far (far-vertex a l q z)))
+attempted {p = p} {e = e} {d = d} {root = root} {far = far} {marks = marks} a l tells q z (tries.cut-off o long p′) =
+    stars.parted long root far (rw z (joins-far p a l q)) (subst (λ (t : Bool). Tells (not t) (Reach (graph p) (Without (e ∷ (d ∷ []))) root far)) (eq-eqb (getD marks far 0) 0 o) (tells far (far-vertex a l q z))) (unseen marks) tells p′

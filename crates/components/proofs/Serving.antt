@@ -23,11 +23,10 @@ use Rattle.graph.proofs.Tally.{zeros}
 use Rattle.graph.proofs.Telling.{told-admitted, told-room}
 use Rattle.incidence.specs.Tables.{Front, Tabled, incidentTable, beginsTable}
 use Rattle.incidence.specs.Parts.{Kept}
-use Rattle.incidence.proofs.Front.{front, front-at, front-kept}
+use Rattle.incidence.proofs.Front.{front}
 use Rattle.labels.specs.Answered.{ForestOf, Tables, tables, handed, enough, labelling}
 use Rattle.labels.proofs.LongEnough.{ample-is}
 use Rattle.components.specs.Answered.{Answered}
-use Rattle.components.specs.Splitting.{Classes}
 use Rattle.components.specs.Bodies.{Ordered, Bodied}
 use Rattle.components.specs.Stars.{Singles, Stars, Working, Worked}
 use Rattle.components.specs.Tries.{LabelledBy, Stage, Found}
@@ -36,21 +35,11 @@ use Rattle.components.proofs.Turning.{working-setting, worked-more}
 
 -- The cuts.
 
-module _ {most : Limits} {p : Plan} {incident begins first labels dead order cursor table : List ℕ} (s : Stage most p incident begins first labels dead order cursor table) where
-  pub stage-working : Working most p incident begins first labels dead (replicate (most .vertices) 0) order cursor (replicate (most .edges) 0) table
+module _ {most : Limits} {p : Plan} {incident begins first labels table : List ℕ} (s : Stage most p incident begins first labels table) where
+  pub stage-working : Working most p incident begins first labels (replicate (most .edges) 0) table
   stage-working = record {
-    ready = record {
-      tables = record {
-        tabled = s .tabled;
-        dead-room = s .dead-room;
-        marks-room = omega (arith, s .tabled .admitted .vertices, length-replicate {A = ℕ} (most .vertices) 0);
-        order-room = s .order-room;
-        cursor-room = s .cursor-room;
-        fresh = λ v l. zeros (most .vertices) v;
-      };
-      live = s .live;
-      first-room = s .first-room;
-    };
+    tabled = s .tabled;
+    first-room = s .first-room;
     labels-room = s .labels-room;
     balanced = s .balanced;
     claimed-room = omega (arith, s .tabled .admitted .edges, length-replicate {A = ℕ} (most .edges) 0);
@@ -60,10 +49,8 @@ module _ {most : Limits} {p : Plan} {incident begins first labels dead order cur
   pub stage-singles : Singles (graph p) (p .vertices) (length (p .ends) / 2) 0 (replicate (most .edges) 0) table
   stage-singles = singles-start (working-setting stage-working) (replicate (most .edges) 0) table (s .groups) (λ x l. zeros (most .edges) x)
 
-  pub stage-found : {dead₁ marks₁ order₁ cursor₁ claimed₁ table₁ dead₂ marks₂ order₂ cursor₂ claimed₂ table₂ : List ℕ}
-      → Worked (p .vertices) dead (replicate (most .vertices) 0) order cursor (replicate (most .edges) 0) table dead₁ marks₁ order₁ cursor₁ claimed₁ table₁
-      → Stars (graph p) (p .vertices) (length (p .ends) / 2) (length (p .ends) / 2) 0 claimed₂ table₂
-      × Worked (p .vertices) dead₁ marks₁ order₁ cursor₁ claimed₁ table₁ dead₂ marks₂ order₂ cursor₂ claimed₂ table₂ → Found p table table₂
+  pub stage-found : {claimed₁ table₁ claimed₂ table₂ : List ℕ} → Worked (p .vertices) (replicate (most .edges) 0) table claimed₁ table₁
+      → Stars (graph p) (p .vertices) (length (p .ends) / 2) (length (p .ends) / 2) 0 claimed₂ table₂ × Worked (p .vertices) claimed₁ table₁ claimed₂ table₂ → Found p table table₂
   stage-found a b = record { kept = worked-more a (b .1) .kept; each = stars-component (working-setting stage-working) (b .0) }
 
 -- Labels and bodies.
@@ -91,8 +78,8 @@ module _ {most : Limits} {p : Plan} (a : Admitted most p) where
     };
   })
 
-  module _ {incident begins dead first order cursor labels : List ℕ}
-      (s : LabelledBy most p (made .incident) (made .begins) (made .dead) (made .first) (made .order) (made .cursor) (made .labels) incident begins dead first order cursor labels) where
+  module _ {incident begins first order labels : List ℕ}
+      (s : LabelledBy most p (made .incident) (made .begins) (made .first) (made .order) (made .labels) incident begins first order labels) where
     served : (handed (s .answer)) .reply ≡ passed
     unfolding labelling
     served = ap (λ (h : Handed). h .reply) (s .answered .answer) ∙ rw (lent-enough (enough p made) a roomy)
@@ -114,7 +101,7 @@ module _ {most : Limits} {p : Plan} (a : Admitted most p) where
       valid = labelled-forest .valid;
     }
 
-    pub labelled-stage : {table₀ table : List ℕ} → p .vertices ≤ length table₀ → Bodied p table₀ table → Stage most p incident begins first labels dead order cursor table
+    pub labelled-stage : {table₀ table : List ℕ} → p .vertices ≤ length table₀ → Bodied p table₀ table → Stage most p incident begins first labels table
     labelled-stage r b = let l = s .answered .laid served in record {
       tabled = record {
         admitted = a;
@@ -123,25 +110,12 @@ module _ {most : Limits} {p : Plan} (a : Admitted most p) where
         begins-rest = drop (length (beginsTable (graph p))) (made .begins);
         begins-is = l .begins-front;
       };
-      dead-room = omega (arith, dead-kept .long, long (most .edges), a .edges);
-      live = λ e h. front-at (replicate m 0) (made .dead) (l .dead-front) e (omega (arith, long m)) ∙ zeros m e;
       first-room = omega (arith, first-long, a .vertices);
-      order-room = omega (arith, order-long, a .vertices);
-      cursor-room = omega (arith, cursor-kept .long, long (most .vertices), a .vertices);
       labels-room = omega (arith, s .answered .cancelled served .labels-kept .long, long (most .edges), a .edges);
       balanced = s .answered .cancelled served .balanced;
       table-room = omega (arith, b .kept .long);
       groups = b .groups;
     }
-      where
-        m : ℕ
-        m = length (p .ends) / 2
-
-        dead-kept : Kept (length (replicate {A = ℕ} m 0)) (made .dead) dead
-        dead-kept = front-kept (replicate m 0) (made .dead) (s .answered .laid served .dead-front) (omega (arith, long m, long (most .edges), a .edges))
-
-        cursor-kept : Kept (length (replicate {A = ℕ} (p .vertices) 0)) (made .cursor) cursor
-        cursor-kept = front-kept (replicate (p .vertices) 0) (made .cursor) (s .answered .spanned served .cursor-front) (omega (arith, long (p .vertices), long (most .vertices), a .vertices))
 
   -- what is found is the definition's table
   pub found-front : {table₀ table₁ table : List ℕ} → p .vertices ≤ length table₀ → Bodied p table₀ table₁ → Found p table₁ table → Front (components (graph p)) table₀ table

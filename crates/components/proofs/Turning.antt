@@ -17,8 +17,6 @@ use Rattle.labels.proofs.CutLabels.{no-loops}
 use Rattle.chains.specs.Chains.{keyOf, keys, named, Lowest}
 use Rattle.chains.proofs.Lowest.{named-some}
 use Rattle.cuts.specs.Alike.{Chaining}
-use Rattle.cuts.specs.Tries.{Restored}
-use Rattle.cuts.proofs.Trying.{ready-again, restored-same, restored-more}
 use Rattle.components.specs.Pair.{LowestPair}
 use Rattle.components.specs.Stars.{Attempt, joined, parted, Turn, other, taken, tried, Singles, Stars, Working, Worked}
 use Rattle.components.proofs.Starring.{Setting, singles-pass, singles-try, star-skip, star-claimed, star-try, star-end}
@@ -34,29 +32,24 @@ turn-kept (other ne p q) = (ap length p, record { long = ap length q; rest = λ 
 turn-kept (taken ne p q) = (ap length p, record { long = ap length q; rest = λ k l. ap (λ (t : List ℕ). getD t k 0) q })
 turn-kept {d = d} {claimed₀ = claimed₀} (tried {r} z p a) = (ap length p ∙ length-set claimed₀ d r, attempt-kept a)
 
-pub worked-same : {n : ℕ} {dead marks order cursor claimed table : List ℕ} → Worked n dead marks order cursor claimed table dead marks order cursor claimed table
-worked-same = record { restored = restored-same; claimed-long = refl; kept = record { long = refl; rest = λ k l. refl } }
+pub worked-same : {n : ℕ} {claimed table : List ℕ} → Worked n claimed table claimed table
+worked-same = record { claimed-long = refl; kept = record { long = refl; rest = λ k l. refl } }
 
-pub worked-more : {n : ℕ} {dead₀ marks₀ order₀ cursor₀ claimed₀ table₀ dead₁ marks₁ order₁ cursor₁ claimed₁ table₁ dead marks order cursor claimed table : List ℕ}
-    → Worked n dead₀ marks₀ order₀ cursor₀ claimed₀ table₀ dead₁ marks₁ order₁ cursor₁ claimed₁ table₁ → Worked n dead₁ marks₁ order₁ cursor₁ claimed₁ table₁ dead marks order cursor claimed table
-    → Worked n dead₀ marks₀ order₀ cursor₀ claimed₀ table₀ dead marks order cursor claimed table
+pub worked-more : {n : ℕ} {claimed₀ table₀ claimed₁ table₁ claimed table : List ℕ} → Worked n claimed₀ table₀ claimed₁ table₁ → Worked n claimed₁ table₁ claimed table
+    → Worked n claimed₀ table₀ claimed table
 worked-more a b = record {
-  restored = restored-more (a .restored) (b .restored);
   claimed-long = b .claimed-long ∙ a .claimed-long;
   kept = record { long = b .kept .long ∙ a .kept .long; rest = λ k l. b .kept .rest k l ∙ a .kept .rest k l };
 }
 
-pub worked-turn : {g : Graph} {n label e d : ℕ} {labels dead₀ marks₀ order₀ cursor₀ claimed₀ table₀ dead marks order cursor claimed table : List ℕ}
-    → Turn g n label e d labels claimed₀ table₀ claimed table × Restored dead₀ marks₀ order₀ cursor₀ dead marks order cursor
-    → Worked n dead₀ marks₀ order₀ cursor₀ claimed₀ table₀ dead marks order cursor claimed table
-worked-turn t = let k = turn-kept (t .0) in record { restored = t .1; claimed-long = k .0; kept = k .1 }
+pub worked-turn : {g : Graph} {n label e d : ℕ} {labels claimed₀ table₀ claimed table : List ℕ} → Turn g n label e d labels claimed₀ table₀ claimed table → Worked n claimed₀ table₀ claimed table
+worked-turn t = let k = turn-kept t in record { claimed-long = k .0; kept = k .1 }
 
-module _ {most : Limits} {p : Plan} {incident begins first labels dead₀ marks₀ order₀ cursor₀ claimed₀ table₀ : List ℕ}
-    (s : Working most p incident begins first labels dead₀ marks₀ order₀ cursor₀ claimed₀ table₀) where
-  pub working-on : {dead marks order cursor claimed table : List ℕ} → Worked (p .vertices) dead₀ marks₀ order₀ cursor₀ claimed₀ table₀ dead marks order cursor claimed table
-      → Working most p incident begins first labels dead marks order cursor claimed table
+module _ {most : Limits} {p : Plan} {incident begins first labels claimed₀ table₀ : List ℕ} (s : Working most p incident begins first labels claimed₀ table₀) where
+  pub working-on : {claimed table : List ℕ} → Worked (p .vertices) claimed₀ table₀ claimed table → Working most p incident begins first labels claimed table
   working-on w = record {
-    ready = ready-again (s .ready) (w .restored);
+    tabled = s .tabled;
+    first-room = s .first-room;
     labels-room = s .labels-room;
     balanced = s .balanced;
     claimed-room = omega (arith, s .claimed-room, w .claimed-long);
@@ -64,7 +57,7 @@ module _ {most : Limits} {p : Plan} {incident begins first labels dead₀ marks�
   }
 
   abbrev a : Admitted most p
-  a = s .ready .tables .tabled .admitted
+  a = s .tabled .admitted
 
   pub working-setting : Setting (graph p) (p .vertices) (length (p .ends) / 2) (read labels)
   unfolding graph

@@ -11,9 +11,9 @@ use Rattle.connectivity.specs.Reach.{Reach, Without}
 use Rattle.connectivity.specs.Component.{Together}
 use Rattle.graph.specs.Marks.{read}
 use Rattle.graph.specs.Tells.{Tells}
+use Rattle.incidence.specs.Tables.{Tabled}
 use Rattle.incidence.specs.Parts.{Kept}
 use Rattle.labels.specs.Label.{Balanced, Keeps}
-use Rattle.cuts.specs.Tries.{Ready, Restored}
 use Rattle.components.specs.Pair.{CutPair, LowestPair}
 use Rattle.components.specs.Splitting.{Classes, Parted}
 
@@ -68,16 +68,16 @@ pub data Turn (g : Graph) (n label e d : ℕ) (labels claimed₀ table₀ claime
   taken : (getD claimed₀ d 0 ≡ 0 → ⊥) → claimed ≡ claimed₀ → table ≡ table₀ → Turn g n label e d labels claimed₀ table₀ claimed table
   tried : {r : ℕ} → getD claimed₀ d 0 ≡ 0 → claimed ≡ set claimed₀ d r → Attempt g n (e ∷ d ∷ []) d table₀ table r → Turn g n label e d labels claimed₀ table₀ claimed table
 
--- what the turns ask for: tables for a search, labels that cancel, and room
-pub record Working (most : Limits) (p : Plan) (incident begins first labels dead marks order cursor claimed table : List ℕ) : Type 0 where
-  pub ready : Ready most p incident begins first dead marks order cursor
+-- what the turns ask for: the tables of the plan, labels that cancel, and room
+pub record Working (most : Limits) (p : Plan) (incident begins first labels claimed table : List ℕ) : Type 0 where
+  pub tabled : Tabled most p incident begins
+  pub first-room : p .vertices ≤ length first
   pub labels-room : length (p .ends) / 2 ≤ length labels
   pub balanced : Balanced (graph p) (read labels)
   pub claimed-room : length (p .ends) / 2 ≤ length claimed
   pub table-room : p .vertices ≤ length table
 
--- what they leave: no mark, and what lies behind the vertices' places of the table
-pub record Worked (n : ℕ) (dead₀ marks₀ order₀ cursor₀ claimed₀ table₀ dead marks order cursor claimed table : List ℕ) : Type 0 where
-  pub restored : Restored dead₀ marks₀ order₀ cursor₀ dead marks order cursor
+-- what they leave: what lies behind the vertices' places of the table
+pub record Worked (n : ℕ) (claimed₀ table₀ claimed table : List ℕ) : Type 0 where
   pub claimed-long : length claimed ≡ length claimed₀
   pub kept : Kept n table₀ table

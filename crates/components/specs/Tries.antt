@@ -30,20 +30,20 @@ pub data PartedAt (n : ℕ) (marks : List ℕ) (v : ℕ) (table₀ table : List 
   seen : (getD marks v 0 ≡ 0 → ⊥) → table ≡ table₀ → PartedAt n marks v table₀ table 0
   cut-off : getD marks v 0 ≡ 0 → length table ≡ length table₀ → Parted n (unseen marks) (read table₀) (read table) → PartedAt n marks v table₀ table 1
 
--- `label`: what `labels::label` answers with sums that were 0
-pub record LabelledBy (most : Limits) (p : Plan) (incident₀ begins₀ dead₀ first₀ order₀ cursor₀ labels₀ incident begins dead first order cursor labels : List ℕ) : Type 0 where
+-- `label`: what `labels::label` answers, with other tables that were 0
+pub record LabelledBy (most : Limits) (p : Plan) (incident₀ begins₀ first₀ order₀ labels₀ incident begins first order labels : List ℕ) : Type 0 where
+  pub dead : List ℕ
+  pub cursor : List ℕ
   pub sums : List ℕ
   pub answer : Labelling
-  pub answered : labelling.Answered most p (tables incident₀ begins₀ dead₀ first₀ order₀ cursor₀ labels₀ (replicate (most .vertices) 0)) (tables incident begins dead first order cursor labels sums) answer
+  pub answered : labelling.Answered most p
+      (tables incident₀ begins₀ (replicate (most .edges) 0) first₀ order₀ (replicate (most .vertices) 0) labels₀ (replicate (most .vertices) 0))
+      (tables incident begins dead first order cursor labels sums) answer
 
--- `part`: what it asks for: the tables of the plan, no edge marked, labels that cancel, room, and the bodies
-pub record Stage (most : Limits) (p : Plan) (incident begins first labels dead order cursor table : List ℕ) : Type 0 where
+-- `part`: what it asks for: the tables of the plan, labels that cancel, room, and the bodies
+pub record Stage (most : Limits) (p : Plan) (incident begins first labels table : List ℕ) : Type 0 where
   pub tabled : Tabled most p incident begins
-  pub dead-room : length (p .ends) / 2 ≤ length dead
-  pub live : (e : ℕ) → e < length (p .ends) / 2 → getD dead e 0 ≡ 0
   pub first-room : p .vertices ≤ length first
-  pub order-room : p .vertices ≤ length order
-  pub cursor-room : p .vertices ≤ length cursor
   pub labels-room : length (p .ends) / 2 ≤ length labels
   pub balanced : Balanced (graph p) (read labels)
   pub table-room : p .vertices ≤ length table

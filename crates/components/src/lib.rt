@@ -35,61 +35,46 @@ fn fill(vertices: u16, ends: &[u16], table: &mut [u16])
 {
     let mut incident = [0u16; 2 * Graph::MAX_EDGES];
     let mut begins = [0u16; Graph::MAX_VERTICES];
-    let mut dead = [0u8; Graph::MAX_EDGES];
     let mut first = [0u16; Graph::MAX_VERTICES];
     let mut order = [0u16; Graph::MAX_VERTICES];
-    let mut cursor = [0u16; Graph::MAX_VERTICES];
     let mut labels = [0u64; Graph::MAX_EDGES];
     label(
         vertices,
         ends,
         &mut incident,
         &mut begins,
-        &mut dead,
         &mut first,
         &mut order,
-        &mut cursor,
         &mut labels,
     );
     split::bodies(vertices, &first, &order, table);
-    pairs::part(
-        vertices,
-        ends,
-        &incident,
-        &begins,
-        &first,
-        &labels,
-        &mut dead,
-        &mut order,
-        &mut cursor,
-        table,
-    );
+    pairs::part(vertices, ends, &incident, &begins, &first, &labels, table);
 }
 
-// Tables by vertex, a spanning forest and labels. The sums are only needed here.
+// Tables by vertex, a spanning forest and labels. The other tables are only needed here.
 fn label(
     vertices: u16,
     ends: &[u16],
     incident: &mut [u16],
     begins: &mut [u16],
-    dead: &mut [u8],
     first: &mut [u16],
     order: &mut [u16],
-    cursor: &mut [u16],
     labels: &mut [u64],
 )
-    ensures { λ _. ⌜ LabelledBy limits (plan vertices (now (ends .entry))) (now (incident .entry)) (now (begins .entry)) (now (dead .entry)) (now (first .entry)) (now (order .entry)) (now (cursor .entry)) (now (labels .entry)) (now (incident .exit)) (now (begins .exit)) (now (dead .exit)) (now (first .exit)) (now (order .exit)) (now (cursor .exit)) (now (labels .exit)) ⌝ }
+    ensures { λ _. ⌜ LabelledBy limits (plan vertices (now (ends .entry))) (now (incident .entry)) (now (begins .entry)) (now (first .entry)) (now (order .entry)) (now (labels .entry)) (now (incident .exit)) (now (begins .exit)) (now (first .exit)) (now (order .exit)) (now (labels .exit)) ⌝ }
 {
+    let mut dead = [0u8; Graph::MAX_EDGES];
+    let mut cursor = [0u16; Graph::MAX_VERTICES];
     let mut sums = [0u64; Graph::MAX_VERTICES];
     labels::label(
         vertices,
         ends,
         incident,
         begins,
-        dead,
+        &mut dead,
         first,
         order,
-        cursor,
+        &mut cursor,
         labels,
         &mut sums,
     );

@@ -8,7 +8,6 @@ ghost use lib.ListN.{length};
 ghost use Rattle.connectivity.specs.Plan.{plan, graph, limits};
 ghost use Rattle.graph.specs.Marks.{read};
 ghost use Rattle.cuts.specs.Alike.{Chaining};
-ghost use Rattle.cuts.specs.Tries.{Restored};
 ghost use Rattle.components.specs.Splitting.{Classes};
 ghost use Rattle.components.specs.Stars.{Singles, Stars, Turn, Working, Worked};
 ghost use Rattle.components.specs.Tries.{Stage, Found};
@@ -24,15 +23,11 @@ pub(crate) fn part(
     begins: &[u16],
     first: &[u16],
     labels: &[u64],
-    dead: &mut [u8],
-    order: &mut [u16],
-    cursor: &mut [u16],
     table: &mut [u16],
 )
-    requires { ⌜ Stage limits (plan vertices (now ends)) (now incident) (now begins) (now first) (now labels) (now dead) (now order) (now cursor) (now table) ⌝ }
+    requires { ⌜ Stage limits (plan vertices (now ends)) (now incident) (now begins) (now first) (now labels) (now table) ⌝ }
     ensures { λ _. ⌜ Found (plan vertices (now (ends .entry))) (now (table .entry)) (now (table .exit)) ⌝ }
 {
-    let mut marks = [0u16; Graph::MAX_VERTICES];
     let mut claimed = [0u8; Graph::MAX_EDGES];
     let mut next = [0u16; Graph::MAX_EDGES];
     let edges = (ends.len() / 2) as u16;
@@ -45,10 +40,6 @@ pub(crate) fn part(
         first,
         labels,
         edges,
-        dead,
-        &mut marks,
-        order,
-        cursor,
         &mut claimed,
         table,
     );
@@ -61,10 +52,6 @@ pub(crate) fn part(
         labels,
         &next,
         edges,
-        dead,
-        &mut marks,
-        order,
-        cursor,
         &mut claimed,
         table,
     );
@@ -88,15 +75,11 @@ fn singles(
     first: &[u16],
     labels: &[u64],
     edges: u16,
-    dead: &mut [u8],
-    marks: &mut [u16],
-    order: &mut [u16],
-    cursor: &mut [u16],
     claimed: &mut [u8],
     table: &mut [u16],
 )
-    requires { ⌜ (edges ≡ length (now ends) / 2) × Working limits (plan vertices (now ends)) (now incident) (now begins) (now first) (now labels) (now dead) (now marks) (now order) (now cursor) (now claimed) (now table) × Singles (graph (plan vertices (now ends))) vertices (length (now ends) / 2) 0 (now claimed) (now table) ⌝ }
-    ensures { λ _. ⌜ Singles (graph (plan vertices (now (ends .entry)))) vertices (length (now (ends .entry)) / 2) (length (now (ends .entry)) / 2) (now (claimed .exit)) (now (table .exit)) × Worked vertices (now (dead .entry)) (now (marks .entry)) (now (order .entry)) (now (cursor .entry)) (now (claimed .entry)) (now (table .entry)) (now (dead .exit)) (now (marks .exit)) (now (order .exit)) (now (cursor .exit)) (now (claimed .exit)) (now (table .exit)) ⌝ }
+    requires { ⌜ (edges ≡ length (now ends) / 2) × Working limits (plan vertices (now ends)) (now incident) (now begins) (now first) (now labels) (now claimed) (now table) × Singles (graph (plan vertices (now ends))) vertices (length (now ends) / 2) 0 (now claimed) (now table) ⌝ }
+    ensures { λ _. ⌜ Singles (graph (plan vertices (now (ends .entry)))) vertices (length (now (ends .entry)) / 2) (length (now (ends .entry)) / 2) (now (claimed .exit)) (now (table .exit)) × Worked vertices (now (claimed .entry)) (now (table .entry)) (now (claimed .exit)) (now (table .exit)) ⌝ }
 {
     let mut e = 0;
     while e < edges {
@@ -110,10 +93,6 @@ fn singles(
             0,
             e,
             e,
-            dead,
-            marks,
-            order,
-            cursor,
             claimed,
             table,
         );
@@ -131,15 +110,11 @@ fn stars(
     labels: &[u64],
     next: &[u16],
     edges: u16,
-    dead: &mut [u8],
-    marks: &mut [u16],
-    order: &mut [u16],
-    cursor: &mut [u16],
     claimed: &mut [u8],
     table: &mut [u16],
 )
-    requires { ⌜ (edges ≡ length (now ends) / 2) × Working limits (plan vertices (now ends)) (now incident) (now begins) (now first) (now labels) (now dead) (now marks) (now order) (now cursor) (now claimed) (now table) × Chaining (length (now ends) / 2) (now labels) (now next) × Stars (graph (plan vertices (now ends))) vertices (length (now ends) / 2) 0 0 (now claimed) (now table) ⌝ }
-    ensures { λ _. ⌜ Stars (graph (plan vertices (now (ends .entry)))) vertices (length (now (ends .entry)) / 2) (length (now (ends .entry)) / 2) 0 (now (claimed .exit)) (now (table .exit)) × Worked vertices (now (dead .entry)) (now (marks .entry)) (now (order .entry)) (now (cursor .entry)) (now (claimed .entry)) (now (table .entry)) (now (dead .exit)) (now (marks .exit)) (now (order .exit)) (now (cursor .exit)) (now (claimed .exit)) (now (table .exit)) ⌝ }
+    requires { ⌜ (edges ≡ length (now ends) / 2) × Working limits (plan vertices (now ends)) (now incident) (now begins) (now first) (now labels) (now claimed) (now table) × Chaining (length (now ends) / 2) (now labels) (now next) × Stars (graph (plan vertices (now ends))) vertices (length (now ends) / 2) 0 0 (now claimed) (now table) ⌝ }
+    ensures { λ _. ⌜ Stars (graph (plan vertices (now (ends .entry)))) vertices (length (now (ends .entry)) / 2) (length (now (ends .entry)) / 2) 0 (now (claimed .exit)) (now (table .exit)) × Worked vertices (now (claimed .entry)) (now (table .entry)) (now (claimed .exit)) (now (table .exit)) ⌝ }
 {
     let mut e = 0;
     while e < edges {
@@ -152,10 +127,6 @@ fn stars(
             labels,
             next,
             e,
-            dead,
-            marks,
-            order,
-            cursor,
             claimed,
             table,
         );
@@ -173,15 +144,11 @@ fn star(
     labels: &[u64],
     next: &[u16],
     e: u16,
-    dead: &mut [u8],
-    marks: &mut [u16],
-    order: &mut [u16],
-    cursor: &mut [u16],
     claimed: &mut [u8],
     table: &mut [u16],
 )
-    requires { ⌜ (e < length (now ends) / 2) × Working limits (plan vertices (now ends)) (now incident) (now begins) (now first) (now labels) (now dead) (now marks) (now order) (now cursor) (now claimed) (now table) × Chaining (length (now ends) / 2) (now labels) (now next) × Stars (graph (plan vertices (now ends))) vertices (length (now ends) / 2) e 0 (now claimed) (now table) ⌝ }
-    ensures { λ _. ⌜ Stars (graph (plan vertices (now (ends .entry)))) vertices (length (now (ends .entry)) / 2) (e + 1) 0 (now (claimed .exit)) (now (table .exit)) × Worked vertices (now (dead .entry)) (now (marks .entry)) (now (order .entry)) (now (cursor .entry)) (now (claimed .entry)) (now (table .entry)) (now (dead .exit)) (now (marks .exit)) (now (order .exit)) (now (cursor .exit)) (now (claimed .exit)) (now (table .exit)) ⌝ }
+    requires { ⌜ (e < length (now ends) / 2) × Working limits (plan vertices (now ends)) (now incident) (now begins) (now first) (now labels) (now claimed) (now table) × Chaining (length (now ends) / 2) (now labels) (now next) × Stars (graph (plan vertices (now ends))) vertices (length (now ends) / 2) e 0 (now claimed) (now table) ⌝ }
+    ensures { λ _. ⌜ Stars (graph (plan vertices (now (ends .entry)))) vertices (length (now (ends .entry)) / 2) (e + 1) 0 (now (claimed .exit)) (now (table .exit)) × Worked vertices (now (claimed .entry)) (now (table .entry)) (now (claimed .exit)) (now (table .exit)) ⌝ }
 {
     if claimed[e as usize] != 0 {
         return;
@@ -200,10 +167,6 @@ fn star(
             label,
             e,
             d,
-            dead,
-            marks,
-            order,
-            cursor,
             claimed,
             table,
         );
@@ -222,15 +185,11 @@ fn turn(
     label: u64,
     e: u16,
     d: u16,
-    dead: &mut [u8],
-    marks: &mut [u16],
-    order: &mut [u16],
-    cursor: &mut [u16],
     claimed: &mut [u8],
     table: &mut [u16],
 )
-    requires { ⌜ (e < length (now ends) / 2) × (d < length (now ends) / 2) × Working limits (plan vertices (now ends)) (now incident) (now begins) (now first) (now labels) (now dead) (now marks) (now order) (now cursor) (now claimed) (now table) × Classes vertices (read (now table)) ⌝ }
-    ensures { λ _. ⌜ Turn (graph (plan vertices (now (ends .entry)))) vertices label e d (now (labels .entry)) (now (claimed .entry)) (now (table .entry)) (now (claimed .exit)) (now (table .exit)) × Restored (now (dead .entry)) (now (marks .entry)) (now (order .entry)) (now (cursor .entry)) (now (dead .exit)) (now (marks .exit)) (now (order .exit)) (now (cursor .exit)) ⌝ }
+    requires { ⌜ (e < length (now ends) / 2) × (d < length (now ends) / 2) × Working limits (plan vertices (now ends)) (now incident) (now begins) (now first) (now labels) (now claimed) (now table) × Classes vertices (read (now table)) ⌝ }
+    ensures { λ _. ⌜ Turn (graph (plan vertices (now (ends .entry)))) vertices label e d (now (labels .entry)) (now (claimed .entry)) (now (table .entry)) (now (claimed .exit)) (now (table .exit)) ⌝ }
 {
     let at = d as usize;
     if labels[at] != label {
@@ -239,18 +198,5 @@ fn turn(
     if claimed[at] != 0 {
         return;
     }
-    claimed[at] = tries::attempt(
-        vertices,
-        ends,
-        incident,
-        begins,
-        first,
-        e,
-        d,
-        dead,
-        marks,
-        order,
-        cursor,
-        table,
-    );
+    claimed[at] = tries::attempt(vertices, ends, incident, begins, first, e, d, table);
 }

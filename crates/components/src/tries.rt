@@ -1,20 +1,23 @@
 // One cut of one edge or two, tried by a search.
 use crate::split;
-use depth::Explored;
+use graph::Graph;
 ghost use mathlib.Core.Path.{_≡_};
+ghost use mathlib.Core.Bool.{not};
 ghost use mathlib.Core.List.{[], _∷_};
-ghost use Prim.Native.Nat.{_/_, _<_, _≤_};
-ghost use lib.ListN.{length, set};
+ghost use Prim.Native.Nat.{ℕ, _/_, _<_, _≤_};
+ghost use lib.ListN.{length, getD, set};
 ghost use Rattle.connectivity.specs.Plan.{plan, graph, limits};
+ghost use Rattle.connectivity.specs.Reach.{Reach, Without};
 ghost use Rattle.graph.specs.Marks.{read};
-ghost use Rattle.depth.specs.Depth.{Crossing, Found};
-ghost use Rattle.cuts.specs.Tries.{Tables, Ready, Restored, EndsBelow};
-ghost use Rattle.components.specs.Splitting.{Classes, Placing};
+ghost use Rattle.graph.specs.Tells.{Tells};
+ghost use Rattle.incidence.specs.Tables.{Tabled};
+ghost use Rattle.cuts.specs.Tries.{EndsBelow};
+ghost use Rattle.components.specs.Splitting.{Classes, unseen};
 ghost use Rattle.components.specs.Stars.{Attempt};
 ghost use Rattle.components.specs.Tries.{EndOf, farEnd, PartedAt};
 
 // Searches from an end of d without e and d. Where that does not come to its other end, the groups are taken apart by what was seen, and the
-// answer is 1; else 0. The marks are taken back.
+// answer is 1; else 0.
 pub(crate) fn attempt(
     vertices: u16,
     ends: &[u16],
@@ -23,44 +26,69 @@ pub(crate) fn attempt(
     first: &[u16],
     e: u16,
     d: u16,
-    dead: &mut [u8],
-    marks: &mut [u16],
-    order: &mut [u16],
-    cursor: &mut [u16],
     table: &mut [u16],
 ) -> u8
-    requires { ⌜ Ready limits (plan vertices (now ends)) (now incident) (now begins) (now first) (now dead) (now marks) (now order) (now cursor) × (e < length (now ends) / 2) × (d < length (now ends) / 2) × (vertices ≤ length (now table)) × Classes vertices (read (now table)) ⌝ }
-    ensures { λ r. ⌜ Attempt (graph (plan vertices (now (ends .entry)))) vertices (e ∷ (d ∷ [])) d (now (table .entry)) (now (table .exit)) r × Restored (now (dead .entry)) (now (marks .entry)) (now (order .entry)) (now (cursor .entry)) (now (dead .exit)) (now (marks .exit)) (now (order .exit)) (now (cursor .exit)) ⌝ }
+    requires { ⌜ Tabled limits (plan vertices (now ends)) (now incident) (now begins) × (vertices ≤ length (now first)) × (e < length (now ends) / 2) × (d < length (now ends) / 2) × (vertices ≤ length (now table)) × Classes vertices (read (now table)) ⌝ }
+    ensures { λ r. ⌜ Attempt (graph (plan vertices (now (ends .entry)))) vertices (e ∷ (d ∷ [])) d (now (table .entry)) (now (table .exit)) r ⌝ }
 {
     let root = lower_end(ends, first, d);
     let far = far_end(ends, d, root);
-    mark(e, d, 1, dead);
-    let count = search(
+    let mut marks = [0u16; Graph::MAX_VERTICES];
+    search(vertices, ends, incident, begins, e, d, root, &mut marks);
+    part(vertices, far, &marks, table)
+}
+
+// The search from `root` without e and d: marks what it sees. It has tables of its own: to clear them costs less than a search.
+fn search(
+    vertices: u16,
+    ends: &[u16],
+    incident: &[u16],
+    begins: &[u16],
+    e: u16,
+    d: u16,
+    root: u16,
+    marks: &mut [u16],
+)
+    requires { ⌜ Tabled limits (plan vertices (now ends)) (now incident) (now begins) × (e < length (now ends) / 2) × (d < length (now ends) / 2) × (root < vertices) × (vertices ≤ length (now marks)) × ((v : ℕ) → v < vertices → getD (now marks) v 0 ≡ 0) ⌝ }
+    ensures { λ _. ⌜ ((v : ℕ) → v < vertices → Tells (not (unseen (now (marks .exit)) v)) (Reach (graph (plan vertices (now (ends .entry)))) (Without (e ∷ (d ∷ []))) root v)) ⌝ }
+{
+    let mut dead = [0u8; Graph::MAX_EDGES];
+    mark(e, d, &mut dead);
+    let mut order = [0u16; Graph::MAX_VERTICES];
+    let mut cursor = [0u16; Graph::MAX_VERTICES];
+    depth::explore(
         vertices,
         ends,
         incident,
         begins,
-        dead,
+        &dead,
         root,
+        0,
         marks,
-        order,
-        cursor,
+        &mut order,
+        &mut cursor,
     );
-    mark(e, d, 0, dead);
-    let parted = part(vertices, far, marks, cursor, table);
-    depth::undo(order, 0, count, marks);
-    parted
+}
+
+// Gives both edges a mark.
+fn mark(e: u16, d: u16, dead: &mut [u8])
+    requires { ⌜ (e < length (now dead)) × (d < length (now dead)) ⌝ }
+    ensures { λ _. ⌜ now (dead .exit) ≡ set (set (now (dead .entry)) e 1) d 1 ⌝ }
+{
+    dead[e as usize] = 1;
+    dead[d as usize] = 1;
 }
 
 // Where v has no mark, the groups are taken apart by the marks, and the answer is 1; else 0.
-fn part(vertices: u16, v: u16, marks: &[u16], other: &mut [u16], table: &mut [u16]) -> u8
-    requires { ⌜ (v < length (now marks)) × Placing vertices 0 (now marks) (now other) (now table) (now table) ⌝ }
+fn part(vertices: u16, v: u16, marks: &[u16], table: &mut [u16]) -> u8
+    requires { ⌜ (v < length (now marks)) × (vertices ≤ limits .vertices) × (vertices ≤ length (now marks)) × (vertices ≤ length (now table)) × Classes vertices (read (now table)) ⌝ }
     ensures { λ r. ⌜ PartedAt vertices (now (marks .entry)) v (now (table .entry)) (now (table .exit)) r ⌝ }
 {
     if marks[v as usize] != 0 {
         return 0;
     }
-    split::split(vertices, marks, other, table);
+    let mut other = [0u16; Graph::MAX_VERTICES];
+    split::split(vertices, marks, &mut other, table);
     1
 }
 
@@ -89,46 +117,4 @@ fn far_end(ends: &[u16], d: u16, v: u16) -> u16
         return ends[at + 1];
     }
     left
-}
-
-// Gives both edges a mark.
-fn mark(e: u16, d: u16, x: u8, dead: &mut [u8])
-    requires { ⌜ (e < length (now dead)) × (d < length (now dead)) ⌝ }
-    ensures { λ _. ⌜ now (dead .exit) ≡ set (set (now (dead .entry)) e x) d x ⌝ }
-{
-    dead[e as usize] = x;
-    dead[d as usize] = x;
-}
-
-// The search from `root` over the edges without a mark; how many vertices it has seen.
-fn search(
-    vertices: u16,
-    ends: &[u16],
-    incident: &[u16],
-    begins: &[u16],
-    dead: &[u8],
-    root: u16,
-    marks: &mut [u16],
-    order: &mut [u16],
-    cursor: &mut [u16],
-) -> u16
-    requires { ⌜ Tables limits (plan vertices (now ends)) (now incident) (now begins) (now dead) (now marks) (now order) (now cursor) × (root < vertices) ⌝ }
-    ensures { λ r. ⌜ Found (Crossing (plan vertices (now (ends .entry))) (now (incident .entry)) (now (begins .entry)) (now (dead .entry))) vertices root 0 (now (marks .entry)) (now (order .entry)) (now (cursor .entry)) (now (marks .exit)) (now (order .exit)) (now (cursor .exit)) r ⌝ }
-{
-    let found = depth::explore(
-        vertices,
-        ends,
-        incident,
-        begins,
-        dead,
-        root,
-        0,
-        marks,
-        order,
-        cursor,
-    );
-    match found {
-        Explored::Seen(count) => count,
-        Explored::Refused(_) => 0, // never: the plan is admitted, and there is room
-    }
 }

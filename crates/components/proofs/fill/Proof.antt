@@ -19,12 +19,6 @@ slice-aggregate-label-4 c = search needs
 slice-aggregate-label-5 : tie.Need-slice-aggregate-label-5
 slice-aggregate-label-5 c = search needs
 
-slice-aggregate-label-6 : tie.Need-slice-aggregate-label-6
-slice-aggregate-label-6 c = search needs
-
-slice-aggregate-label-7 : tie.Need-slice-aggregate-label-7
-slice-aggregate-label-7 c = search needs
-
 label-requires : tie.Need-label-requires
 label-requires c κs = search needs
 
@@ -35,7 +29,7 @@ slice-aggregate-bodies-2 : tie.Need-slice-aggregate-bodies-2
 slice-aggregate-bodies-2 c = search needs
 
 bodies-requires : tie.Need-bodies-requires
-bodies-requires c κs = let s = c .before .before .before .before .before .before .before .before .before .before .before .before .before .before .before .before .before .before .before .before .pre in labelled-ordered (s .0) (c .before .before .before .before .before .before .before .before .before .before .label .ensures) (s .1)
+bodies-requires c κs = let s = c .before .before .before .before .before .before .before .before .before .before .before .before .before .before .before .before .pre in labelled-ordered (s .0) (c .before .before .before .before .before .before .before .before .label .ensures) (s .1)
 
 slice-aggregate-part : tie.Need-slice-aggregate-part
 slice-aggregate-part c = search needs
@@ -49,23 +43,14 @@ slice-aggregate-part-3 c = search needs
 slice-aggregate-part-4 : tie.Need-slice-aggregate-part-4
 slice-aggregate-part-4 c = search needs
 
-slice-aggregate-part-5 : tie.Need-slice-aggregate-part-5
-slice-aggregate-part-5 c = search needs
-
-slice-aggregate-part-6 : tie.Need-slice-aggregate-part-6
-slice-aggregate-part-6 c = search needs
-
-slice-aggregate-part-7 : tie.Need-slice-aggregate-part-7
-slice-aggregate-part-7 c = search needs
-
 part-requires : tie.Need-part-requires
-part-requires c κs = let s = c .before .before .before .before .before .before .before .before .before .before .before .before .before .before .before .before .before .before .before .before .before .before .before .before .before .before .before .before .before .before .before .pre in let l = c .before .before .before .before .before .before .before .before .before .before .before .before .before .before .before .before .before .before .before .before .before .label .ensures in labelled-stage (s .0) l (s .1) (c .before .before .before .before .before .before .before .before .before .before .bodies .ensures _ (labelled-forest (s .0) l))
+part-requires c κs = let s = c .before .before .before .before .before .before .before .before .before .before .before .before .before .before .before .before .before .before .before .before .before .before .before .before .pre in let l = c .before .before .before .before .before .before .before .before .before .before .before .before .before .before .before .before .label .ensures in labelled-stage (s .0) l (s .1) (c .before .before .before .before .before .before .before .bodies .ensures _ (labelled-forest (s .0) l))
 
 same-length : tie.Need-same-length
 same-length c = search needs
 
 returns : tie.Need-returns
-returns c = let s = c .before .before .before .before .before .before .before .before .before .before .before .before .before .before .before .before .before .before .before .before .before .before .before .before .before .before .before .before .before .before .before .before .before .before .before .before .before .pre in found-front (s .0) (s .1) (c .before .before .before .before .before .before .before .before .before .before .before .before .before .before .before .before .bodies .ensures _ (labelled-forest (s .0) (c .before .before .before .before .before .before .before .before .before .before .before .before .before .before .before .before .before .before .before .before .before .before .before .before .before .before .before .label .ensures))) (c .before .before .before .before .before .part .ensures)
+returns c = let s = c .before .before .before .before .before .before .before .before .before .before .before .before .before .before .before .before .before .before .before .before .before .before .before .before .before .before .before .pre in found-front (s .0) (s .1) (c .before .before .before .before .before .before .before .before .before .before .bodies .ensures _ (labelled-forest (s .0) (c .before .before .before .before .before .before .before .before .before .before .before .before .before .before .before .before .before .before .before .label .ensures))) (c .before .before .part .ensures)
 
 pub fill-spec : {M : Type 1} → statement M
 fill-spec =
@@ -76,8 +61,6 @@ fill-spec =
     slice-aggregate-label-3
     slice-aggregate-label-4
     slice-aggregate-label-5
-    slice-aggregate-label-6
-    slice-aggregate-label-7
     label-requires
     slice-aggregate-bodies
     slice-aggregate-bodies-2
@@ -86,9 +69,6 @@ fill-spec =
     slice-aggregate-part-2
     slice-aggregate-part-3
     slice-aggregate-part-4
-    slice-aggregate-part-5
-    slice-aggregate-part-6
-    slice-aggregate-part-7
     part-requires
     same-length
     returns)

@@ -1,7 +1,7 @@
 -- `part` meets its contract: each edge alone, then with later ones.
 use mathlib.Core.Path.{refl}
-use native.Mathlib.Omega.{arith}
 use Prim.Native.Nat.{ℕ}
+use native.Mathlib.Omega.{arith}
 use lib.ListN.{length-replicate}
 use Rattle.connectivity.specs.Plan.{limits}
 use Rattle.components.proofs.Starring.{stars-start}
@@ -12,22 +12,19 @@ use Rattle.components.proofs.pairs.part.Statement.{statement}
 use Rattle.components.proofs.pairs.part.Tie as tie
 
 cast-edges : tie.Need-cast-edges
-cast-edges c = omega (arith, c .before .before .before .before .before .before .before .before .before .pre .tabled .admitted .edges)
+cast-edges c = omega (arith, c .before .before .before .before .before .before .pre .tabled .admitted .edges)
 
 slice-aggregate-chain : tie.Need-slice-aggregate-chain
 slice-aggregate-chain c = search needs
 
 chain-requires : tie.Need-chain-requires
-chain-requires c κs = let s = c .before .before .before .before .before .before .before .before .before .before .pre in (s .labels-room, omega (arith, s .tabled .admitted .edges, length-replicate {A = ℕ} (limits .edges) 0))
+chain-requires c κs = let s = c .before .before .before .before .before .before .before .pre in (s .labels-room, omega (arith, s .tabled .admitted .edges, length-replicate {A = ℕ} (limits .edges) 0))
 
 slice-aggregate-singles : tie.Need-slice-aggregate-singles
 slice-aggregate-singles c = search needs
 
-slice-aggregate-singles-2 : tie.Need-slice-aggregate-singles-2
-slice-aggregate-singles-2 c = search needs
-
 singles-requires : tie.Need-singles-requires
-singles-requires c κs = let s = c .before .before .before .before .before .before .before .before .before .before .before .before .before .before .before .before .before .before .pre in (refl, stage-working s, stage-singles s)
+singles-requires c κs = let s = c .before .before .before .before .before .before .before .before .before .before .before .pre in (refl, stage-working s, stage-singles s)
 
 slice-aggregate-stars : tie.Need-slice-aggregate-stars
 slice-aggregate-stars c = search needs
@@ -35,30 +32,18 @@ slice-aggregate-stars c = search needs
 slice-aggregate-stars-2 : tie.Need-slice-aggregate-stars-2
 slice-aggregate-stars-2 c = search needs
 
-slice-aggregate-stars-3 : tie.Need-slice-aggregate-stars-3
-slice-aggregate-stars-3 c = search needs
-
 stars-requires : tie.Need-stars-requires
 stars-requires c κs =
-    let s = c .before .before .before .before .before .before .before .before .before .before .before .before .before .before .before .before .before .before .before .before .before .before .before .before .before .before .before .before .before .before .before .before .before .before .before .before .pre in
-    let r = c .before .before .before .before .before .before .before .before .before .before .before .before .before .before .before .before .before .singles .ensures in
+    let s = c .before .before .before .before .before .before .before .before .before .before .before .before .before .before .before .before .before .before .pre in
+    let r = c .before .before .before .before .before .before .singles .ensures in
     let w = stage-working s in
-    (refl, working-on w (r .1), c .before .before .before .before .before .before .before .before .before .before .before .before .before .before .before .before .before .before .before .before .before .before .before .before .before .chain .ensures, stars-start (working-setting w) (r .0))
+    (refl, working-on w (r .1), c .before .before .before .before .before .before .before .before .before .before .chain .ensures, stars-start (working-setting w) (r .0))
 
 same-length : tie.Need-same-length
 same-length c = search needs
 
-same-length-2 : tie.Need-same-length-2
-same-length-2 c = search needs
-
-same-length-3 : tie.Need-same-length-3
-same-length-3 c = search needs
-
-same-length-4 : tie.Need-same-length-4
-same-length-4 c = search needs
-
 returns : tie.Need-returns
-returns c = stage-found (c .before .before .before .before .before .before .before .before .before .before .before .before .before .before .before .before .before .before .before .before .before .before .before .before .before .before .before .before .before .before .before .before .before .before .before .before .before .before .before .before .before .before .before .before .before .before .before .pre) (c .before .before .before .before .before .before .before .before .before .before .before .before .before .before .before .before .before .before .before .before .before .before .before .before .before .before .before .before .singles .ensures .1) (c .before .before .before .before .before .before .before .before .before .before .stars .ensures)
+returns c = stage-found (c .before .before .before .before .before .before .before .before .before .before .before .before .before .before .before .before .before .before .before .before .before .before .pre) (c .before .before .before .before .before .before .before .before .before .before .singles .ensures .1) (c .before .before .before .stars .ensures)
 
 pub part-spec : {M : Type 1} → statement M
 part-spec =
@@ -68,14 +53,9 @@ part-spec =
     slice-aggregate-chain
     chain-requires
     slice-aggregate-singles
-    slice-aggregate-singles-2
     singles-requires
     slice-aggregate-stars
     slice-aggregate-stars-2
-    slice-aggregate-stars-3
     stars-requires
     same-length
-    same-length-2
-    same-length-3
-    same-length-4
     returns)

@@ -1,7 +1,5 @@
 -- `turn` meets its contract: nothing happens, or the cut is tried.
 use mathlib.Core.Path.{refl}
-use native.Mathlib.Omega.{arith}
-use Rattle.cuts.proofs.Trying.{restored-same}
 use Rattle.components.specs.Stars.{other, taken, tried}
 use borrow.Author.Needs.{needs}
 use Rattle.components.proofs.pairs.turn.Statement.{statement}
@@ -14,13 +12,13 @@ shared-slice-read-if1 : tie.Need-shared-slice-read-if1
 shared-slice-read-if1 c = search needs
 
 returns : tie.Need-returns
-returns c = (other (c .if1 .taken) refl refl, restored-same)
+returns c = other (c .if1 .taken) refl refl
 
 slice-read-if2 : tie.Need-slice-read-if2
 slice-read-if2 c = search needs
 
 returns-2 : tie.Need-returns-2
-returns-2 c = (taken (c .if2 .taken) refl refl, restored-same)
+returns-2 c = taken (c .if2 .taken) refl refl
 
 attempt-requires : tie.Need-attempt-requires
 attempt-requires c κs = search needs
@@ -34,20 +32,8 @@ same-length c = search needs
 same-length-2 : tie.Need-same-length-2
 same-length-2 c = search needs
 
-same-length-3 : tie.Need-same-length-3
-same-length-3 c = search needs
-
-same-length-4 : tie.Need-same-length-4
-same-length-4 c = search needs
-
-same-length-5 : tie.Need-same-length-5
-same-length-5 c = search needs
-
-same-length-6 : tie.Need-same-length-6
-same-length-6 c = search needs
-
 returns-3 : tie.Need-returns-3
-returns-3 c = let r = c .before .before .before .before .before .before .before .before .before .before .attempt .ensures in (tried (c .before .before .before .before .before .before .before .before .before .before .before .before .before .before .before .before .if2 .left) refl (r .0), r .1)
+returns-3 c = tried (c .before .before .before .before .if2 .left) refl (c .before .before .attempt .ensures)
 
 pub turn-spec : {M : Type 1} → statement M
 turn-spec =
@@ -62,8 +48,4 @@ turn-spec =
     slice-write-claimed
     same-length
     same-length-2
-    same-length-3
-    same-length-4
-    same-length-5
-    same-length-6
     returns-3)

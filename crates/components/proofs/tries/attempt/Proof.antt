@@ -1,60 +1,48 @@
--- `attempt` meets its contract: a search over what is left without the two edges.
-use mathlib.Core.Path.{_∙_}
+-- `attempt` meets its contract: a search, and the groups taken apart by what it has seen.
+use Prim.Native.Nat.{ℕ}
 use native.Mathlib.Omega.{arith}
-use Rattle.cuts.proofs.Trying.{ends-below, try-tables}
-use Rattle.components.proofs.Attempting.{root-vertex, far-vertex, placing-ready, attempted, restored}
+use lib.ListN.{length-replicate}
+use Rattle.connectivity.specs.Plan.{limits}
+use Rattle.graph.proofs.Tally.{zeros}
+use Rattle.cuts.proofs.Trying.{ends-below}
+use Rattle.components.proofs.Attempting.{root-vertex, far-vertex, attempted}
 use borrow.Author.Needs.{needs}
 use Rattle.components.proofs.tries.attempt.Statement.{statement}
 use Rattle.components.proofs.tries.attempt.Tie as tie
 
 lower-end-requires : tie.Need-lower-end-requires
-lower-end-requires c κs =
-    let s = c .before .before .before .before .before .before .before .before .before .pre in
-    let a = s .0 .tables .tabled .admitted in
-    (ends-below _ a (s .0 .first-room), s .2, omega (arith, s .2, a .edges))
+lower-end-requires c κs = let s = c .before .before .before .before .before .pre in let a = s .0 .admitted in (ends-below _ a (s .1), s .3, omega (arith, s .3, a .edges))
 
 far-end-requires : tie.Need-far-end-requires
-far-end-requires c κs = c .before .before .before .before .before .before .before .before .before .before .pre .2
+far-end-requires c κs = c .before .before .before .before .before .before .pre .3
 
-mark-requires : tie.Need-mark-requires
-mark-requires c κs = let s = c .before .before .before .before .before .before .before .before .before .before .before .before .pre in (omega (arith, s .1, s .0 .tables .dead-room), omega (arith, s .2, s .0 .tables .dead-room))
+slice-aggregate-search : tie.Need-slice-aggregate-search
+slice-aggregate-search c = search needs
 
 search-requires : tie.Need-search-requires
-search-requires c κs = let s = c .before .before .before .before .before .before .before .before .before .before .before .before .before .before .before .before .before .before .before .pre in (try-tables (s .0) (s .1) (s .2) (c .before .before .before .before .before .before .mark .ensures), root-vertex (s .0) (s .1) (s .2) (c .before .before .before .before .before .before .before .before .before .lower-end .ensures))
+search-requires c κs =
+    let s = c .before .before .before .before .before .before .before .before .pre in
+    let a = s .0 .admitted in
+    (s .0, s .2, s .3, root-vertex a (s .3) (c .before .before .lower-end .ensures), omega (arith, a .vertices, length-replicate {A = ℕ} (limits .vertices) 0), λ v l. zeros (limits .vertices) v)
 
-mark-requires-2 : tie.Need-mark-requires-2
-mark-requires-2 c κs = let s = c .before .before .before .before .before .before .before .before .before .before .before .before .before .before .before .before .before .before .before .before .before .before .before .before .before .before .before .pre in let q = c .before .before .before .before .before .before .before .before .before .before .before .before .before .before .mark .kept .1 .1 .1 .0 in (omega (arith, s .1, s .0 .tables .dead-room, q), omega (arith, s .2, s .0 .tables .dead-room, q))
+slice-aggregate-part : tie.Need-slice-aggregate-part
+slice-aggregate-part c = search needs
 
 part-requires : tie.Need-part-requires
 part-requires c κs =
-    let s = c .before .before .before .before .before .before .before .before .before .before .before .before .before .before .before .before .before .before .before .before .before .before .before .before .before .before .before .before .before .before .before .before .before .pre in
-    let f = c .before .before .before .before .before .before .before .before .before .before .before .before .before .search .ensures in
-    (omega (arith, far-vertex (s .0) (s .1) (s .2) (c .before .before .before .before .before .before .before .before .before .before .before .before .before .before .before .before .before .before .before .before .before .before .before .lower-end .ensures) (c .before .before .before .before .before .before .before .before .before .before .before .before .before .before .before .before .before .before .before .before .before .before .far-end .ensures), s .0 .tables .marks-room, f .first-long), placing-ready (s .0) (s .1) (s .2) (c .before .before .before .before .before .before .before .before .before .before .before .before .before .before .before .before .before .before .before .before .mark .ensures) f (s .3) (s .4))
-
-undo-requires : tie.Need-undo-requires
-undo-requires c κs = search needs
+    let s = c .before .before .before .before .before .before .before .before .before .before .before .before .pre in
+    let a = s .0 .admitted in
+    let long = length-replicate {A = ℕ} (limits .vertices) 0 in
+    let same = c .before .before .before .search .kept .1 .1 .1 .1 .1 .1 .1 .0 in
+    (omega (arith, far-vertex a (s .3) (c .before .before .before .before .before .before .lower-end .ensures) (c .before .before .before .before .before .far-end .ensures), a .vertices, long, same), a .vertices, omega (arith, a .vertices, long, same), s .4, s .5)
 
 same-length : tie.Need-same-length
-same-length c = c .before .before .before .before .before .before .before .before .before .before .before .before .before .before .before .mark2 .kept .1 .1 .1 .0 ∙ c .before .before .before .before .before .before .before .before .before .before .before .before .before .before .before .before .before .before .before .before .before .before .before .before .before .before .before .before .before .before .mark .kept .1 .1 .1 .0
-
-same-length-2 : tie.Need-same-length-2
-same-length-2 c = c .before .before .undo .kept .1 .1 .1 .0 ∙ c .before .before .before .before .before .before .before .before .before .before .before .before .before .before .before .before .before .before .before .before .before .before .before .search .kept .1 .1 .1 .1 .1 .1 .0
-
-same-length-3 : tie.Need-same-length-3
-same-length-3 c = c .before .before .before .before .before .before .before .before .before .before .before .before .before .before .before .before .before .before .before .before .before .before .before .search .kept .1 .1 .1 .1 .1 .1 .1 .0
-
-same-length-4 : tie.Need-same-length-4
-same-length-4 c = c .before .before .before .before .before .before .before .before .before .part .kept .1 .1 .1 .0 ∙ c .before .before .before .before .before .before .before .before .before .before .before .before .before .before .before .before .before .before .before .before .before .before .before .search .kept .1 .1 .1 .1 .1 .1 .1 .1 .0
-
-same-length-5 : tie.Need-same-length-5
-same-length-5 c = c .before .before .before .before .before .before .before .before .before .part .kept .1 .1 .1 .1 .0
+same-length c = search needs
 
 returns : tie.Need-returns
 returns c =
-    let s = c .before .before .before .before .before .before .before .before .before .before .before .before .before .before .before .before .before .before .before .before .before .before .before .before .before .before .before .before .before .before .before .before .before .before .before .before .before .before .before .before .before .before .before .pre in
-    let f = c .before .before .before .before .before .before .before .before .before .before .before .before .before .before .before .before .before .before .before .before .before .before .before .search .ensures in
-    let k = c .before .before .before .before .before .before .before .before .before .before .before .before .before .before .before .before .before .before .before .before .before .before .before .before .before .before .before .before .before .before .mark .ensures in
-    (attempted (s .0) (s .1) (s .2) k f (c .before .before .before .before .before .before .before .before .before .before .before .before .before .before .before .before .before .before .before .before .before .before .before .before .before .before .before .before .before .before .before .before .before .lower-end .ensures) (c .before .before .before .before .before .before .before .before .before .before .before .before .before .before .before .before .before .before .before .before .before .before .before .before .before .before .before .before .before .before .before .before .far-end .ensures) (c .before .before .before .before .before .before .before .before .before .part .ensures), restored (s .0) (s .1) (s .2) k f (c .before .before .before .before .before .before .before .before .before .before .before .before .before .before .before .mark2 .ensures) (c .before .before .before .before .before .before .before .before .before .part .kept .1 .1 .1 .0) (c .before .before .undo .ensures))
+    let s = c .before .before .before .before .before .before .before .before .before .before .before .before .before .before .before .pre in
+    attempted (s .0 .admitted) (s .3) (c .before .before .before .before .before .before .search .ensures) (c .before .before .before .before .before .before .before .before .before .lower-end .ensures) (c .before .before .before .before .before .before .before .before .far-end .ensures) (c .before .before .part .ensures)
 
 pub attempt-spec : {M : Type 1} → statement M
 attempt-spec =
@@ -62,14 +50,9 @@ attempt-spec =
     (tie.spec
     lower-end-requires
     far-end-requires
-    mark-requires
+    slice-aggregate-search
     search-requires
-    mark-requires-2
+    slice-aggregate-part
     part-requires
-    undo-requires
     same-length
-    same-length-2
-    same-length-3
-    same-length-4
-    same-length-5
     returns)

@@ -1,61 +1,51 @@
--- `search` meets its contract: the root can be entered, and with tables that are long enough an admitted plan is not refused.
-use Rattle.depth.proofs.Left.{fresh-at}
-use Rattle.depth.proofs.Outcomes.{not-refused, found-from, tabled-enough}
+-- `search` meets its contract: the marks tell what the root reaches without the two edges.
+use mathlib.Core.Path.{refl}
+use Prim.Native.Nat.{ℕ}
+use native.Mathlib.Omega.{arith}
+use lib.ListN.{length-replicate}
+use Rattle.connectivity.specs.Plan.{limits}
+use Rattle.components.proofs.Attempting.{searched}
 use borrow.Author.Needs.{needs}
 use Rattle.components.proofs.tries.search.Statement.{statement}
 use Rattle.components.proofs.tries.search.Tie as tie
 
+slice-aggregate-mark : tie.Need-slice-aggregate-mark
+slice-aggregate-mark c = search needs
+
+mark-requires : tie.Need-mark-requires
+mark-requires c κs = let s = c .before .before .before .before .before .pre in let long = length-replicate {A = ℕ} (limits .edges) 0 in (omega (arith, s .1, s .0 .admitted .edges, long), omega (arith, s .2, s .0 .admitted .edges, long))
+
+slice-aggregate-explore : tie.Need-slice-aggregate-explore
+slice-aggregate-explore c = search needs
+
+slice-aggregate-explore-2 : tie.Need-slice-aggregate-explore-2
+slice-aggregate-explore-2 c = search needs
+
+slice-aggregate-explore-3 : tie.Need-slice-aggregate-explore-3
+slice-aggregate-explore-3 c = search needs
+
 explore-requires : tie.Need-explore-requires
 explore-requires c κs = search needs
-
-enum-known-found : tie.Need-enum-known-found
-enum-known-found c = search needs
-
-enum-told : tie.Need-enum-told
-enum-told c = search needs
 
 same-length : tie.Need-same-length
 same-length c = search needs
 
-same-length-2 : tie.Need-same-length-2
-same-length-2 c = search needs
-
-same-length-3 : tie.Need-same-length-3
-same-length-3 c = search needs
-
 returns : tie.Need-returns
 returns c =
-    let e = rw (c .before .found .given .1) at (c .before .before .before .before .before .before .before .before .before .explore .ensures) in
-    let s = c .before .before .before .before .before .before .before .before .before .before .before .before .before .before .before .before .before .before .before .before .pre in
-    found-from _ _ _ _ _ _ _ _ _ _ _ _ _ (fresh-at _ _ _ (s .1) (s .0 .fresh)) e
-
-same-length-4 : tie.Need-same-length-4
-same-length-4 c = search needs
-
-same-length-5 : tie.Need-same-length-5
-same-length-5 c = search needs
-
-same-length-6 : tie.Need-same-length-6
-same-length-6 c = search needs
-
-returns-2 : tie.Need-returns-2
-returns-2 c =
-    let e = rw (c .enum-told .given .1) at (c .before .before .before .before .before .before .before .before .explore .ensures) in
-    let t = c .before .before .before .before .before .before .before .before .before .before .before .before .before .before .before .before .before .before .before .pre .0 in
-    absurd (not-refused _ _ _ _ _ _ _ _ _ _ _ _ _ (t .tabled .admitted) (tabled-enough (t .tabled) (t .dead-room) (t .marks-room) (t .order-room) (t .cursor-room)) e)
+    let s = c .before .before .before .before .before .before .before .before .before .before .before .before .before .before .before .before .pre in
+    let a = s .0 .admitted in
+    let room = length-replicate {A = ℕ} (limits .vertices) 0 in
+    searched (s .0) (s .1) (s .2) (s .3) refl (s .4) (omega (arith, a .vertices, room)) (omega (arith, a .vertices, room)) (s .5) (c .before .before .before .before .before .before .before .before .before .before .mark .ensures) (c .before .before .before .before .explore .ensures)
 
 pub search-spec : {M : Type 1} → statement M
 search-spec =
     tie.close
     (tie.spec
+    slice-aggregate-mark
+    mark-requires
+    slice-aggregate-explore
+    slice-aggregate-explore-2
+    slice-aggregate-explore-3
     explore-requires
-    enum-known-found
-    enum-told
     same-length
-    same-length-2
-    same-length-3
-    returns
-    same-length-4
-    same-length-5
-    same-length-6
-    returns-2)
+    returns)
