@@ -1,28 +1,26 @@
 -- The whole answer: labels and bodies make ready for the cuts, what is found then is the definition's table, and a refusal leaves the table.
-use mathlib.Core.Path.{_≡_, refl, sym, ap, _∙_, subst}
-use mathlib.Core.Bool.{Bool, true, false, not}
-use mathlib.Core.List.{List, [], _∷_}
+use mathlib.Core.Path.{_≡_, refl, sym, ap, _∙_}
+use mathlib.Core.Bool.{Bool, not}
+use mathlib.Core.List.{List}
 use Prim.Native.Nat.{ℕ, _*_, _/_, _≤_, _<_}
 use native.Mathlib.Omega.{arith}
 use native.Mathlib.Decide.{decLt}
-use lib.Dec.{T, ltb, leb, le→leb}
-use lib.ListN.{length, getD, drop, replicate, length-replicate}
+use lib.Dec.{T, ltb, leb}
+use lib.ListN.{length, drop, replicate, length-replicate}
 use borrow.Author.Tests.{lt-ltb, le-ltb}
 use Rattle.connectivity.specs.Plan.{Plan, graph, Limits}
 use Rattle.connectivity.specs.Component.{components}
 use Rattle.connectivity.specs.Admission.{Answer, Handed, passed, Admitted}
-use Rattle.connectivity.proofs.Lists.{Decides, decides-le, T-true, T-false}
+use Rattle.connectivity.proofs.Lists.{decides-le, T-true, T-false}
 use Rattle.connectivity.proofs.Admission.{admitted-vertex}
 use Rattle.connectivity.proofs.Component.{component-found, component-unique, components-length, components-at}
 use Rattle.graph.specs.declared.Answer as code
 use Rattle.graph.specs.Admission.{toldBy, lent}
-use Rattle.graph.specs.Marks.{read}
 use Rattle.graph.proofs.Joined.{bound-is}
 use Rattle.graph.proofs.Lent.{lent-enough}
 use Rattle.graph.proofs.Tally.{zeros}
 use Rattle.graph.proofs.Telling.{told-admitted, told-room}
-use Rattle.incidence.specs.Tables.{Front, Tabled, incidentTable, beginsTable}
-use Rattle.incidence.specs.Parts.{Kept}
+use Rattle.incidence.specs.Tables.{Front, incidentTable, beginsTable}
 use Rattle.incidence.proofs.Front.{front}
 use Rattle.labels.specs.Answered.{ForestOf, Tables, tables, handed, enough, labelling}
 use Rattle.labels.proofs.LongEnough.{ample-is}

@@ -1,23 +1,23 @@
 -- The edges tried alone, then those that are not claimed together with each later one of their label: what is kept from try to try, and that in the
 -- end the groups are those of the definition.
-use mathlib.Core.Path.{_≡_, refl, sym, ap, _∙_, subst}
-use mathlib.Core.Logic.{_⊎_, inl, inr}
+use mathlib.Core.Path.{_≡_, refl, sym, ap, _∙_}
+use mathlib.Core.Logic.{inl, inr}
 use mathlib.Core.List.{List, [], _∷_}
 use Prim.Native.Nat.{ℕ, _+_, _≤_, _<_}
 use native.Mathlib.Omega.{arith}
 use native.Mathlib.Decide.{ℕ-discrete, decLt}
-use lib.ListN.{length, getD, set, length-set}
+use lib.ListN.{length, getD, set}
 use lib.Seq.{getD-set-same, getD-set-other}
 use Rattle.connectivity.specs.Graph.{Graph, Vertex, Edge}
 use Rattle.connectivity.specs.Component.{Together, Component}
-use Rattle.connectivity.proofs.Together.{reach-dec, together-sym}
+use Rattle.connectivity.proofs.Together.{reach-dec}
 use Rattle.graph.specs.Marks.{read}
 use Rattle.labels.specs.Label.{Balanced, Keeps}
 use Rattle.labels.proofs.CutLabels.{NoLoops, label-one, label-two}
 use Rattle.components.specs.Pair.{CutPair, LowestPair}
-use Rattle.components.specs.Stars.{Respects, Grouping, Attempt, joined, parted, Singles, Claim, Done, Stars}
+use Rattle.components.specs.Stars.{Respects, Grouping, Attempt, joined, parted, Singles, Done, Stars}
 use Rattle.components.proofs.Pair.{across, keeps-one, pair-sym, pair-trans, pair-differ}
-use Rattle.components.proofs.Lowest.{Told, lowest-self, lowest-found, told-together}
+use Rattle.components.proofs.Lowest.{lowest-self, lowest-found, told-together}
 use Rattle.components.proofs.Trying.{alone-keeps, alone-parts, both-keep, both-part, parted-grouping, respects-on, respects-one, respects-two}
 
 keeps-dec : {g : Graph} {e : ℕ} → Edge g e → Dec (Keeps g (e ∷ []))

@@ -1,27 +1,26 @@
 -- What a try of a cut tells: which edges part something alone, which are a cut pair, and that the groups then respect the cut.
 use mathlib.Core.Path.{_≡_, refl, sym, ap, _∙_, subst}
-use mathlib.Core.Logic.{_⊎_, inl, inr}
+use mathlib.Core.Logic.{inl, inr}
 use mathlib.Core.Bool.{Bool, true, false, not}
 use mathlib.Core.List.{List, [], _∷_, List·Memᴰ as In, List·Memᴰ·head as first, List·Memᴰ·not-nil as not-in, List·Memᴰ·cases-cons as in-cons, List·Memᴰ·eq-of-singleton as eq-of-singleton}
 use Prim.Native.Nat.{ℕ, _≤_, _<_}
 use native.Mathlib.Omega.{arith}
-use lib.ListN.{length, getD}
+use lib.ListN.{length}
 use Rattle.connectivity.specs.Graph.{Graph, Vertex, Edge, Joins}
 use Rattle.connectivity.specs.Reach.{Reach, here, over, Without}
-use Rattle.connectivity.specs.Component.{Together, joined}
-use Rattle.connectivity.proofs.Lists.{T-true, T-false, Decides}
+use Rattle.connectivity.specs.Component.{joined}
+use Rattle.connectivity.proofs.Lists.{T-true, T-false}
 use Rattle.connectivity.proofs.Reach.{joins-sym, joins-vertex, reach-sym, reach-trans, reach-less}
-use Rattle.connectivity.proofs.Together.{decides-joined, reach-dec}
-use Rattle.graph.specs.Marks.{read}
+use Rattle.connectivity.proofs.Together.{decides-joined}
 use Rattle.graph.specs.Tells.{Tells}
 use Rattle.labels.specs.Label.{Keeps}
 use Rattle.labels.proofs.CutLabels.{crossing}
 use Rattle.components.specs.Pair.{CutPair}
-use Rattle.components.specs.Splitting.{Classes, Parted}
-use Rattle.components.specs.Stars.{Respects, Grouping, Attempt}
+use Rattle.components.specs.Splitting.{Parted}
+use Rattle.components.specs.Stars.{Respects, Grouping}
 use Rattle.components.proofs.Splitting.{parted-classes, parted-same}
 use Rattle.components.proofs.Side.{Split, crossed-one, crossed-two, split-one, split-two, unparted}
-use Rattle.components.proofs.Pair.{reach-turned, across, keeps-one, detour, cut-pair, pair-sym}
+use Rattle.components.proofs.Pair.{reach-turned, keeps-one, detour, cut-pair, pair-sym}
 
 -- an edge twice is one
 twice-once : {e y : ℕ} → In y (e ∷ e ∷ []) → y ≡ e

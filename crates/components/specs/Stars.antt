@@ -6,7 +6,7 @@ use mathlib.Core.List.{List, [], _∷_}
 use Prim.Native.Nat.{ℕ, _/_, _≤_, _<_}
 use lib.ListN.{length, getD, set}
 use Rattle.connectivity.specs.Plan.{Plan, graph, Limits}
-use Rattle.connectivity.specs.Graph.{Graph, Edge, Joins}
+use Rattle.connectivity.specs.Graph.{Graph, Joins}
 use Rattle.connectivity.specs.Reach.{Reach, Without}
 use Rattle.connectivity.specs.Component.{Together}
 use Rattle.graph.specs.Marks.{read}

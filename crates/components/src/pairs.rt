@@ -1,4 +1,4 @@
-// The cuts that have to be tried: each edge with the label 0, and each edge together with the lowest one that it is a cut pair with. Labels
+// The cuts that have to be tried: each edge alone if its label is 0; each edge together with the lowest one that it is a cut pair with. Labels
 // tell which need not be tried.
 use crate::tries;
 use graph::Graph;

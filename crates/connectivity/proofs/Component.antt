@@ -2,14 +2,17 @@
 -- 3-edge-connected exactly where there is one group.
 use mathlib.Core.Path.{_≡_, refl, sym, ap, _∙_, subst}
 use mathlib.Core.Logic.{inl, inr, _↔_}
-use mathlib.Core.List.{List, map, List·Memᴰ as In, List·Memᴰ·head as first, List·Memᴰ·not-nil as not-in, List·Memᴰ·cases-cons as in-cons}
+use mathlib.Core.List.{List, List·Memᴰ as In, List·Memᴰ·head as first, List·Memᴰ·not-nil as not-in, List·Memᴰ·cases-cons as in-cons}
 use Prim.Native.Nat.{ℕ, _+_, _≤_, _<_}
 use native.Mathlib.Omega.{arith}
 use lib.ListN.{length, getD, length-map}
 use Rattle.connectivity.specs.Lists.{Ordered, nil, cons, range, keep}
 use Rattle.connectivity.specs.Graph.{Graph, Vertex, isVertex, vertices}
+use Rattle.connectivity.specs.Plan.{Plan, graph, Limits}
+use Rattle.connectivity.specs.Admission.{Admitted}
 use Rattle.connectivity.specs.Reach.{ThreeEdgeConnected}
 use Rattle.connectivity.proofs.Lists.{T-true, T-false, keep-is, length-range, map-range}
+use Rattle.connectivity.proofs.Admission.{admitted-vertex}
 use Rattle.connectivity.proofs.Search.{is-vertex, vertices-are}
 use Rattle.connectivity.proofs.Order.{ordered-keep, ordered-vertices}
 use Rattle.connectivity.specs.Component.{Together, together, Component, componentOf, components, OneComponent}
@@ -51,6 +54,10 @@ component-none g v n = rw (T-false (isVertex g v) (λ t. n (is-vertex g v .0 t))
 pub component-unique : {g : Graph} {v u w : ℕ} → Component g v u → Component g v w → u ≡ w
 component-unique {v = v} {u = u} {w = w} p q = omega (arith, p .lowest w (q .vertex) (q .together), q .lowest u (p .vertex) (p .together))
 
+-- the computed one is the declared one
+pub component-is : (g : Graph) {v : ℕ} (u : ℕ) → Vertex g v → Component g v u ↔ (componentOf g v ≡ u)
+component-is g {v} u h = (λ c. component-unique (component-found g h) c, λ q. subst (Component g v) q (component-found g h))
+
 component-moved : {g : Graph} {u v w : ℕ} → Together g u v → Component g u w → Component g v w
 component-moved t p = record {
   vertex = p .vertex;
@@ -72,6 +79,9 @@ one-component {g} u v hu hv n = (
   λ s. record { two = (u, v, hu, hv, n); still = λ cut h x y hx hy. classes g hx hy .0 (s x y hx hy) cut h },
 )
 
+pub plan-one : {most : Limits} {p : Plan} → Admitted most p → ThreeEdgeConnected (graph p) ↔ OneComponent (graph p)
+plan-one a = one-component 0 1 (admitted-vertex a 0 (omega (arith, a .two))) (admitted-vertex a 1 (omega (arith, a .two))) (λ q. omega arith)
+
 -- The table.
 
 pub components-length : (g : Graph) → length (components g) ≡ g .bound
@@ -81,3 +91,7 @@ components-length g = length-map (range 0 (g .bound)) (componentOf g) ∙ length
 pub components-at : (g : Graph) (v : ℕ) → v < g .bound → getD (components g) v 0 ≡ componentOf g v
 unfolding components
 components-at g v h = let p : 0 + v ≡ v = omega arith in map-range (componentOf g) 0 (g .bound) v h ∙ ap (componentOf g) p
+
+-- the table has for every vertex the lowest of its group
+pub components-are : (g : Graph) {v : ℕ} → Vertex g v → Component g v (getD (components g) v 0)
+components-are g {v} h = subst (Component g v) (sym (components-at g v (h .below))) (component-found g h)

@@ -1,8 +1,4 @@
 -- `is_alike` meets its contract: both or neither is 0.
-use mathlib.Core.Path.{_≡_, refl, sym}
-use mathlib.Core.Bool.{true, false}
-use lib.Dec.{eqb, ltb}
-use borrow.Author.Tests.{eq-eqb, ne-eqb}
 use Rattle.components.proofs.Splitting.{alike-zero, alike-some}
 use Rattle.components.proofs.split.is_alike.Statement.{statement}
 use Rattle.components.proofs.split.is_alike.Tie as tie

@@ -1,5 +1,4 @@
 -- `place` meets its contract: each way out is one of the cases of the pass.
-use native.Mathlib.Omega.{arith}
 use Rattle.components.proofs.Splitting.{placing-lowest, placing-stays, placing-first, placing-later}
 use borrow.Author.Needs.{needs}
 use Rattle.components.proofs.split.place.Statement.{statement}
