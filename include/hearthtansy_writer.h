@@ -25,8 +25,8 @@ extern "C" {
 /* Bytes of stack to keep free below a call. */
 #define HEARTHTANSY_VERDICT_STACK 79872
 #define HEARTHTANSY_VERDICT_TEXT_STACK 119808
-#define HEARTHTANSY_GROUPS_STACK 77824
-#define HEARTHTANSY_GROUPS_TEXT_STACK 100352
+#define HEARTHTANSY_GROUPS_STACK 92160
+#define HEARTHTANSY_GROUPS_TEXT_STACK 113664
 
 /*
  * The verdict on a plan. `ends` has two numbers for each tab, the pieces that it joins; `rows` is lent for the record. The lengths count

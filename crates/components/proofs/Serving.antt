@@ -22,12 +22,14 @@ use Rattle.graph.proofs.Tally.{zeros}
 use Rattle.graph.proofs.Telling.{told-admitted, told-room}
 use Rattle.incidence.specs.Tables.{Front, incidentTable, beginsTable}
 use Rattle.incidence.proofs.Front.{front}
-use Rattle.labels.specs.Answered.{ForestOf, Tables, tables, handed, enough, labelling}
+use Rattle.labels.specs.Answered.{ForestOf, Tables, tables, handed, enough}
+use Rattle.labels.specs.Answered as labelling
+use Rattle.labels.specs.declared.Labelling.{Labelling}
 use Rattle.labels.proofs.LongEnough.{ample-is}
 use Rattle.components.specs.Answered.{Answered}
 use Rattle.components.specs.Bodies.{Ordered, Bodied}
 use Rattle.components.specs.Stars.{Singles, Stars, Working, Worked}
-use Rattle.components.specs.Tries.{LabelledBy, Stage, Found}
+use Rattle.components.specs.Tries.{Stage, Found}
 use Rattle.components.proofs.Starring.{singles-start, stars-component}
 use Rattle.components.proofs.Turning.{working-setting, worked-more}
 
@@ -76,20 +78,19 @@ module _ {most : Limits} {p : Plan} (a : Admitted most p) where
     };
   })
 
-  module _ {incident begins first order labels : List ℕ}
-      (s : LabelledBy most p (made .incident) (made .begins) (made .first) (made .order) (made .labels) incident begins first order labels) where
-    served : (handed (s .answer)) .reply ≡ passed
-    unfolding labelling
-    served = ap (λ (h : Handed). h .reply) (s .answered .answer) ∙ rw (lent-enough (enough p made) a roomy)
+  module _ {incident begins dead first order cursor labels sums : List ℕ} {r : Labelling} (s : labelling.Answered most p made (tables incident begins dead first order cursor labels sums) r) where
+    served : (handed r) .reply ≡ passed
+    unfolding labelling.labelling
+    served = ap (λ (h : Handed). h .reply) (s .answer) ∙ rw (lent-enough (enough p made) a roomy)
 
     first-long : length first ≡ most .vertices
-    first-long = s .answered .spanned served .first-kept .long ∙ long (most .vertices)
+    first-long = s .spanned served .first-kept .long ∙ long (most .vertices)
 
     order-long : length order ≡ most .vertices
-    order-long = s .answered .spanned served .order-kept .long ∙ long (most .vertices)
+    order-long = s .spanned served .order-kept .long ∙ long (most .vertices)
 
     pub labelled-forest : ForestOf p first order
-    labelled-forest = s .answered .spanned served .forest
+    labelled-forest = s .spanned served .forest
 
     pub labelled-ordered : {table : List ℕ} → p .vertices ≤ length table → Ordered (p .vertices) first order table
     labelled-ordered r = record {
@@ -100,7 +101,7 @@ module _ {most : Limits} {p : Plan} (a : Admitted most p) where
     }
 
     pub labelled-stage : {table₀ table : List ℕ} → p .vertices ≤ length table₀ → Bodied p table₀ table → Stage most p incident begins first labels table
-    labelled-stage r b = let l = s .answered .laid served in record {
+    labelled-stage r b = let l = s .laid served in record {
       tabled = record {
         admitted = a;
         incident-rest = drop (length (incidentTable (graph p))) (made .incident);
@@ -109,8 +110,8 @@ module _ {most : Limits} {p : Plan} (a : Admitted most p) where
         begins-is = l .begins-front;
       };
       first-room = omega (arith, first-long, a .vertices);
-      labels-room = omega (arith, s .answered .cancelled served .labels-kept .long, long (most .edges), a .edges);
-      balanced = s .answered .cancelled served .balanced;
+      labels-room = omega (arith, s .cancelled served .labels-kept .long, long (most .edges), a .edges);
+      balanced = s .cancelled served .balanced;
       table-room = omega (arith, b .kept .long);
       groups = b .groups;
     }

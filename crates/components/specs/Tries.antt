@@ -1,20 +1,17 @@
--- What the parts of a try, and those that make its tables, promise one another.
+-- What the parts of a try promise one another, and what the cuts are tried over.
 use mathlib.Core.Path.{_≡_}
 use mathlib.Core.Bool.{cond}
 use mathlib.Core.Logic.{_⊎_}
 use mathlib.Core.List.{List}
 use Prim.Native.Nat.{ℕ, _+_, _*_, _/_, _≤_, _<_}
 use lib.Dec.{eqb}
-use lib.ListN.{length, getD, replicate}
+use lib.ListN.{length, getD}
 use Rattle.connectivity.specs.Plan.{Plan, graph, Limits}
 use Rattle.connectivity.specs.Component.{Component}
 use Rattle.graph.specs.Marks.{read}
 use Rattle.incidence.specs.Tables.{Tabled}
 use Rattle.incidence.specs.Parts.{Kept}
 use Rattle.labels.specs.Label.{Balanced}
-use Rattle.labels.specs.Answered.{tables}
-use Rattle.labels.specs.Answered as labelling
-use Rattle.labels.specs.declared.Labelling.{Labelling}
 use Rattle.components.specs.Splitting.{unseen, Parted}
 use Rattle.components.specs.Stars.{Grouping}
 
@@ -29,16 +26,6 @@ farEnd ends d v = cond (eqb (getD ends (2 * d) 0) v) (getD ends (2 * d + 1) 0) (
 pub data PartedAt (n : ℕ) (marks : List ℕ) (v : ℕ) (table₀ table : List ℕ) : ℕ → Type 0 where
   seen : (getD marks v 0 ≡ 0 → ⊥) → table ≡ table₀ → PartedAt n marks v table₀ table 0
   cut-off : getD marks v 0 ≡ 0 → length table ≡ length table₀ → Parted n (unseen marks) (read table₀) (read table) → PartedAt n marks v table₀ table 1
-
--- `label`: what `labels::label` answers, with other tables that were 0
-pub record LabelledBy (most : Limits) (p : Plan) (incident₀ begins₀ first₀ order₀ labels₀ incident begins first order labels : List ℕ) : Type 0 where
-  pub dead : List ℕ
-  pub cursor : List ℕ
-  pub sums : List ℕ
-  pub answer : Labelling
-  pub answered : labelling.Answered most p
-      (tables incident₀ begins₀ (replicate (most .edges) 0) first₀ order₀ (replicate (most .vertices) 0) labels₀ (replicate (most .vertices) 0))
-      (tables incident begins dead first order cursor labels sums) answer
 
 -- `part`: what it asks for: the tables of the plan, labels that cancel, room, and the bodies
 pub record Stage (most : Limits) (p : Plan) (incident begins first labels table : List ℕ) : Type 0 where

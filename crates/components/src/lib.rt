@@ -8,7 +8,6 @@ ghost use Rattle.connectivity.specs.Component.{components};
 ghost use Rattle.connectivity.specs.Admission.{Admitted};
 ghost use Rattle.incidence.specs.Tables.{Front};
 ghost use Rattle.components.specs.Answered.{Answered};
-ghost use Rattle.components.specs.Tries.{LabelledBy};
 
 mod pairs; // pairs.rt: the cuts of one edge and of two that have to be tried
 mod split; // split.rt: groups in a table, and how they are taken apart
@@ -35,47 +34,24 @@ fn fill(vertices: u16, ends: &[u16], table: &mut [u16])
 {
     let mut incident = [0u16; 2 * Graph::MAX_EDGES];
     let mut begins = [0u16; Graph::MAX_VERTICES];
+    let mut dead = [0u8; Graph::MAX_EDGES];
     let mut first = [0u16; Graph::MAX_VERTICES];
     let mut order = [0u16; Graph::MAX_VERTICES];
-    let mut labels = [0u64; Graph::MAX_EDGES];
-    label(
-        vertices,
-        ends,
-        &mut incident,
-        &mut begins,
-        &mut first,
-        &mut order,
-        &mut labels,
-    );
-    split::bodies(vertices, &first, &order, table);
-    pairs::part(vertices, ends, &incident, &begins, &first, &labels, table);
-}
-
-// Tables by vertex, a spanning forest and labels. The other tables are only needed here.
-fn label(
-    vertices: u16,
-    ends: &[u16],
-    incident: &mut [u16],
-    begins: &mut [u16],
-    first: &mut [u16],
-    order: &mut [u16],
-    labels: &mut [u64],
-)
-    ensures { λ _. ⌜ LabelledBy limits (plan vertices (now (ends .entry))) (now (incident .entry)) (now (begins .entry)) (now (first .entry)) (now (order .entry)) (now (labels .entry)) (now (incident .exit)) (now (begins .exit)) (now (first .exit)) (now (order .exit)) (now (labels .exit)) ⌝ }
-{
-    let mut dead = [0u8; Graph::MAX_EDGES];
     let mut cursor = [0u16; Graph::MAX_VERTICES];
+    let mut labels = [0u64; Graph::MAX_EDGES];
     let mut sums = [0u64; Graph::MAX_VERTICES];
     labels::label(
         vertices,
         ends,
-        incident,
-        begins,
+        &mut incident,
+        &mut begins,
         &mut dead,
-        first,
-        order,
+        &mut first,
+        &mut order,
         &mut cursor,
-        labels,
+        &mut labels,
         &mut sums,
     );
+    split::bodies(vertices, &first, &order, table);
+    pairs::part(vertices, ends, &incident, &begins, &first, &labels, table);
 }

@@ -19,6 +19,15 @@ slice-aggregate-label-4 c = search needs
 slice-aggregate-label-5 : tie.Need-slice-aggregate-label-5
 slice-aggregate-label-5 c = search needs
 
+slice-aggregate-label-6 : tie.Need-slice-aggregate-label-6
+slice-aggregate-label-6 c = search needs
+
+slice-aggregate-label-7 : tie.Need-slice-aggregate-label-7
+slice-aggregate-label-7 c = search needs
+
+slice-aggregate-label-8 : tie.Need-slice-aggregate-label-8
+slice-aggregate-label-8 c = search needs
+
 label-requires : tie.Need-label-requires
 label-requires c κs = search needs
 
@@ -29,7 +38,7 @@ slice-aggregate-bodies-2 : tie.Need-slice-aggregate-bodies-2
 slice-aggregate-bodies-2 c = search needs
 
 bodies-requires : tie.Need-bodies-requires
-bodies-requires c κs = let s = c .before .before .before .before .before .before .before .before .before .before .before .before .before .before .before .before .pre in labelled-ordered (s .0) (c .before .before .before .before .before .before .before .before .label .ensures) (s .1)
+bodies-requires c κs = let s = c .before .before .before .before .before .before .before .before .before .before .before .before .before .before .before .before .before .before .before .before .before .before .pre in labelled-ordered (s .0) (c .before .before .before .before .before .before .before .before .before .before .before .label .ensures) (s .1)
 
 slice-aggregate-part : tie.Need-slice-aggregate-part
 slice-aggregate-part c = search needs
@@ -44,13 +53,13 @@ slice-aggregate-part-4 : tie.Need-slice-aggregate-part-4
 slice-aggregate-part-4 c = search needs
 
 part-requires : tie.Need-part-requires
-part-requires c κs = let s = c .before .before .before .before .before .before .before .before .before .before .before .before .before .before .before .before .before .before .before .before .before .before .before .before .pre in let l = c .before .before .before .before .before .before .before .before .before .before .before .before .before .before .before .before .label .ensures in labelled-stage (s .0) l (s .1) (c .before .before .before .before .before .before .before .bodies .ensures _ (labelled-forest (s .0) l))
+part-requires c κs = let s = c .before .before .before .before .before .before .before .before .before .before .before .before .before .before .before .before .before .before .before .before .before .before .before .before .before .before .before .before .before .before .pre in let l = c .before .before .before .before .before .before .before .before .before .before .before .before .before .before .before .before .before .before .before .label .ensures in labelled-stage (s .0) l (s .1) (c .before .before .before .before .before .before .before .bodies .ensures _ (labelled-forest (s .0) l))
 
 same-length : tie.Need-same-length
 same-length c = search needs
 
 returns : tie.Need-returns
-returns c = let s = c .before .before .before .before .before .before .before .before .before .before .before .before .before .before .before .before .before .before .before .before .before .before .before .before .before .before .before .pre in found-front (s .0) (s .1) (c .before .before .before .before .before .before .before .before .before .before .bodies .ensures _ (labelled-forest (s .0) (c .before .before .before .before .before .before .before .before .before .before .before .before .before .before .before .before .before .before .before .label .ensures))) (c .before .before .part .ensures)
+returns c = let s = c .before .before .before .before .before .before .before .before .before .before .before .before .before .before .before .before .before .before .before .before .before .before .before .before .before .before .before .before .before .before .before .before .before .pre in found-front (s .0) (s .1) (c .before .before .before .before .before .before .before .before .before .before .bodies .ensures _ (labelled-forest (s .0) (c .before .before .before .before .before .before .before .before .before .before .before .before .before .before .before .before .before .before .before .before .before .before .label .ensures))) (c .before .before .part .ensures)
 
 pub fill-spec : {M : Type 1} → statement M
 fill-spec =
@@ -61,6 +70,9 @@ fill-spec =
     slice-aggregate-label-3
     slice-aggregate-label-4
     slice-aggregate-label-5
+    slice-aggregate-label-6
+    slice-aggregate-label-7
+    slice-aggregate-label-8
     label-requires
     slice-aggregate-bodies
     slice-aggregate-bodies-2
