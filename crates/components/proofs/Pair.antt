@@ -11,7 +11,7 @@ use borrow.Author.Tests.{eq-eqb, ne-eqb}
 use Rattle.connectivity.specs.Graph.{Graph, Vertex, Edge, Joins}
 use Rattle.connectivity.specs.Reach.{Reach, here, over, Without}
 use Rattle.connectivity.proofs.Reach.{reach-sym, reach-trans, reach-less}
-use Rattle.labels.proofs.CutLabels.{unlike}
+use Rattle.labels.proofs.CutLabels.{unlike, left-right}
 use Rattle.labels.specs.Label.{Keeps}
 use Rattle.components.specs.Pair.{CutPair}
 use Rattle.connectivity.proofs.Together.{reach-dec}
@@ -31,11 +31,8 @@ pair-none e d x w = ap₂ unlike (ne-eqb x e (λ p. w (first p))) (ne-eqb x d (�
 -- An edge's ends, and what is reached between them.
 
 module _ {g : Graph} {e : ℕ} (h : Edge g e) where
-  pub joins-ends : Joins g e (g .left e) (g .right e)
-  joins-ends = record { edge = h; ends = inl (refl, refl) }
-
   pub across : Reach g (Without []) (g .left e) (g .right e)
-  across = over e (λ i. not-in i) joins-ends here
+  across = over e (λ i. not-in i) (left-right h) here
 
   -- a way round an edge serves for it
   pub detour : {rest : List ℕ} → Reach g (Without (e ∷ rest)) (g .left e) (g .right e)

@@ -10,9 +10,9 @@ use lib.Dec.{T, eqb}
 use borrow.Author.Tests.{eq-eqb, ne-eqb}
 use Rattle.connectivity.specs.Graph.{Graph, Vertex, Edge, Joins}
 use Rattle.connectivity.specs.Reach.{Reach, here, over, Without}
-use Rattle.connectivity.proofs.Lists.{false-T, Decides}
-use Rattle.connectivity.proofs.Reach.{reach-trans, reach-less, closed-reach}
-use Rattle.labels.proofs.CutLabels.{unlike, crossing}
+use Rattle.connectivity.proofs.Lists.{false-T}
+use Rattle.connectivity.proofs.Reach.{joins-sym, reach-trans, reach-less, closed-reach}
+use Rattle.labels.proofs.CutLabels.{unlike, crossing, not-crossing, left-right}
 use Rattle.connectivity.specs.Component.{joined}
 use Rattle.connectivity.proofs.Together.{decides-joined, reach-dec}
 
@@ -105,19 +105,12 @@ module _ {g : Graph} {p q r : ℕ → Bool} (a : Side g p) (b : Side g q) (f : (
 
 -- What u reaches without a cut.
 
-decides-alike : (a b : Bool) {P Q : Type 0} → Decides a P → Decides b Q → (P → Q) → (Q → P) → unlike a b ≡ false
-decides-alike true true p q f h = refl
-decides-alike true false p q f h = absurd (q .test (f (p .holds tt)))
-decides-alike false true p q f h = absurd (p .test (h (q .holds tt)))
-decides-alike false false p q f h = refl
-
 module _ {g : Graph} {cut : List ℕ} (u : ℕ) where
   -- no other edge crosses
   only-cut : (x : ℕ) → Edge g x → Without cut x → crossing g (joined g cut u) x ≡ false
-  unfolding crossing
-  only-cut x h w = decides-alike (joined g cut u (g .left x)) (joined g cut u (g .right x)) (decides-joined g cut u (h .left)) (decides-joined g cut u (h .right))
-      (λ r. reach-trans r (over x w (record { edge = h; ends = inl (refl, refl) }) here))
-      (λ r. reach-trans r (over x w (record { edge = h; ends = inr (refl, refl) }) here))
+  only-cut x h w = not-crossing g (joined g cut u) x
+      (λ t. decides-joined g cut u (h .right) .test (reach-trans (decides-joined g cut u (h .left) .holds t) (over x w (left-right h) here)))
+      (λ t. decides-joined g cut u (h .left) .test (reach-trans (decides-joined g cut u (h .right) .holds t) (over x w (joins-sym (left-right h)) here)))
 
   module _ {v : ℕ} (hu : Vertex g u) (hv : Vertex g v) (apart : Reach g (Without cut) u v → ⊥) where
     -- u and v are on different sides
