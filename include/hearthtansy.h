@@ -28,15 +28,18 @@
  *   3        more than 4,000 tabs
  *   4        an end is not below the number of pieces; place: the tab
  *   5        both ends of a tab are the same; place: the tab
+ *   18       a slug is not below the number of pieces, or not above the one before; place: its position
+ *   19       fewer than 2 pieces are kept
  *
  *   a text is refused:
  *   7        plan text not in the form
  *   8        verdict text not in the form
  *
  *   the verdict is rejected:
- *   9        kind other than 0 or 1; firm with other than three numbers for each tab; weak with over 2 tabs
+ *   9        kind other than 0 or 1; firm with other than three numbers for each kept tab; weak with over 2 tabs
  *   10       first step not 0, or a step neither the last one nor one more; place: the row
- *   11       tab not below the tabs, or used before; place: the row. In a weak list also: not above the one before; place: the position
+ *   11       tab not below the tabs, not kept, or used before; place: the row. In a weak list also: not above the one before; place: the
+ *            position
  *   12       piece not an end of the tab, or not where the walk of this step has come to; place: the row
  *   13       step 0, 1 or 2 breaks its rule; place: the last row of the step
  *   14       a later step's ends or inner pieces break their rule; place: the last row of the step
@@ -45,6 +48,9 @@
  *   17       the weak list does not part the sheet
  *
  * Where no place is named it is 0. Tabs, rows and positions count from 0. No other number is ever answered.
+ *
+ * Slugs are the pieces that are meant to fall. All other pieces are kept, and so are the tabs between them, under the numbers that they were
+ * drawn with; firm and weak are about these.
  */
 #ifndef HEARTHTANSY_H
 #define HEARTHTANSY_H
@@ -57,20 +63,22 @@ extern "C" {
 #endif
 
 /* Bytes of stack to keep free below a call. */
-#define HEARTHTANSY_CHECK_STACK 31744
-#define HEARTHTANSY_CHECK_TEXTS_STACK 71680
+#define HEARTHTANSY_CHECK_STACK 37888
+#define HEARTHTANSY_CHECK_TEXTS_STACK 79872
 
 /*
- * The check of a verdict about a plan, both as numbers. `ends` has two numbers for each tab, the pieces that it joins. `kind` is 0 for a
- * firm verdict, whose `list` has three numbers for each row (step, tab, piece), and 1 for a weak one, whose `list` has the tabs. The
- * lengths count numbers, not bytes.
+ * The check of a verdict about a plan, both as numbers. `ends` has two numbers for each tab, the pieces that it joins. `excluded` has the
+ * slugs, ascending; where there are none, its length is 0 and it may point at anything that is not null, as at `ends`. `kind` is 0 for a firm
+ * verdict, whose `list` has three numbers for each row (step, tab, piece), and 1 for a weak one, whose `list` has the tabs. The lengths count
+ * numbers, not bytes.
  */
 uint32_t hearthtansy_check(uint16_t vertices, const uint16_t *ends, size_t ends_length,
+                           const uint16_t *excluded, size_t excluded_length,
                            uint16_t kind, const uint16_t *list, size_t list_length);
 
 /*
  * The check of a verdict text about a plan text. The plan is read first, and any refusal there is the answer. The lengths count bytes; no
- * zero byte ends a text. What is read is kept on the stack, in two tables of 40,000 bytes together.
+ * zero byte ends a text. What is read is kept on the stack, in two tables of 42,000 bytes together.
  */
 uint32_t hearthtansy_check_texts(const uint8_t *plan, size_t plan_length,
                                  const uint8_t *verdict, size_t verdict_length);

@@ -23,21 +23,25 @@ extern "C" {
 #endif
 
 /* Bytes of stack to keep free below a call. */
-#define HEARTHTANSY_VERDICT_STACK 79872
-#define HEARTHTANSY_VERDICT_TEXT_STACK 119808
-#define HEARTHTANSY_GROUPS_STACK 92160
-#define HEARTHTANSY_GROUPS_TEXT_STACK 113664
+#define HEARTHTANSY_VERDICT_STACK 83968
+#define HEARTHTANSY_VERDICT_TEXT_STACK 125952
+#define HEARTHTANSY_GROUPS_STACK 94208
+#define HEARTHTANSY_GROUPS_TEXT_STACK 119808
 
 /*
- * The verdict on a plan. `ends` has two numbers for each tab, the pieces that it joins; `rows` is lent for the record. The lengths count
- * numbers, not bytes. The answer is four numbers of sixteen bits, the first in the uppermost:
+ * The verdict on a plan. `ends` has two numbers for each tab, the pieces that it joins; `excluded` has the slugs, ascending, and where there
+ * are none its length is 0; `rows` is lent for the record. The lengths count numbers, not bytes. The answer is four numbers of sixteen bits,
+ * the first in the uppermost:
  *
- *   0, 0, 0, 0           firm: the first three numbers for each tab in `rows` are the record (step, tab, piece), which passes the check;
- *                        those behind stay
- *   1, count, tab, tab   weak: the fewest tabs whose loss parts the sheet, the lowest such set; unused places are 0. `rows` is unchanged
- *   2, number, place, 0  refused: 1 to 5 as hearthtansy.h has them, or 6, fewer than three numbers for each tab. `rows` is unchanged
+ *   0, 0, 0, 0           firm: the first three numbers for each kept tab in `rows` are the record (step, tab, piece), which passes the
+ *                        check; those behind stay
+ *   1, count, tab, tab   weak: the fewest kept tabs whose loss parts the sheet, the lowest such set; unused places are 0. `rows` is
+ *                        unchanged
+ *   2, number, place, 0  refused: 1 to 5, 18 or 19 as hearthtansy.h has them, or 6, fewer than three numbers for each kept tab. `rows` is
+ *                        unchanged
  */
-uint64_t hearthtansy_verdict(uint16_t vertices, const uint16_t *ends, size_t ends_length, uint16_t *rows, size_t rows_length);
+uint64_t hearthtansy_verdict(uint16_t vertices, const uint16_t *ends, size_t ends_length,
+                             const uint16_t *excluded, size_t excluded_length, uint16_t *rows, size_t rows_length);
 
 /*
  * The verdict text of a plan text, at the front of `text`; the bytes behind it stay. For a plan that is refused it is of kind 2 with the
@@ -46,19 +50,23 @@ uint64_t hearthtansy_verdict(uint16_t vertices, const uint16_t *ends, size_t end
 size_t hearthtansy_verdict_text(const uint8_t *plan, size_t plan_length, uint8_t *text, size_t text_length);
 
 /*
- * The groups of a plan: two pieces hold together when no loss of two or fewer tabs parts them. `ends` has two numbers for each tab, the pieces
- * that it joins; `table` is lent for the groups. The lengths count numbers, not bytes. The answer is a number and a place in one uint32_t, the
- * number in the upper sixteen bits, the place in the lower, as hearthtansy.h has it:
+ * The groups of a plan: two kept pieces hold together when no loss of two or fewer tabs parts them. `ends` has two numbers for each tab, the
+ * pieces that it joins; `excluded` has the slugs, ascending, and where there are none its length is 0; `table` is lent for the groups. The
+ * lengths count numbers, not bytes. The answer is a number and a place in one uint32_t, the number in the upper sixteen bits, the place in the
+ * lower, as hearthtansy.h has it:
  *
- *   0        served: for each piece, in the order of their numbers, `table` has the lowest numbered piece of its group; the numbers behind stay
- *   1 to 5   the plan is refused, with the places of hearthtansy.h. `table` is unchanged
- *   6        `table` has fewer than one number for each piece. It is unchanged
+ *   0        served: for each piece, in the order of their numbers, `table` has the lowest numbered piece of its group, and for a slug itself;
+ *            the numbers behind stay
+ *   1 to 5, 18, 19
+ *            the plan is refused, with the places of hearthtansy.h. `table` is unchanged
+ *   6        `table` has fewer than one number for each piece, slugs too. It is unchanged
  */
-uint32_t hearthtansy_groups(uint16_t vertices, const uint16_t *ends, size_t ends_length, uint16_t *table, size_t table_length);
+uint32_t hearthtansy_groups(uint16_t vertices, const uint16_t *ends, size_t ends_length,
+                            const uint16_t *excluded, size_t excluded_length, uint16_t *table, size_t table_length);
 
 /*
- * The groups of a plan text as text, at the front of `text`; the bytes behind it stay. It has one line for each piece, piece and group in two
- * columns; for a plan that is refused one line with the refusal's number alone. The answer is its length, or 0 where `text` has fewer bytes;
+ * The groups of a plan text as text, at the front of `text`; the bytes behind it stay. It has one line for each kept piece, piece and group in
+ * two columns; for a plan that is refused one line with the refusal's number alone. The answer is its length, or 0 where `text` has fewer bytes;
  * then `text` is unchanged. 11,000 bytes are always enough.
  */
 size_t hearthtansy_groups_text(const uint8_t *plan, size_t plan_length, uint8_t *text, size_t text_length);

@@ -1,5 +1,6 @@
 //! The proved check, the proved writer and the proved finder of groups, from their static libraries.
 
+use crate::plan::Plan;
 use crate::second::Answer;
 use crate::writer::Verdict;
 
@@ -8,6 +9,8 @@ unsafe extern "C" {
         vertices: u16,
         ends: *const u16,
         ends_length: usize,
+        excluded: *const u16,
+        excluded_length: usize,
         kind: u16,
         list: *const u16,
         list_length: usize,
@@ -24,6 +27,8 @@ unsafe extern "C" {
         vertices: u16,
         ends: *const u16,
         ends_length: usize,
+        excluded: *const u16,
+        excluded_length: usize,
         rows: *mut u16,
         rows_length: usize,
     ) -> u64;
@@ -39,6 +44,8 @@ unsafe extern "C" {
         vertices: u16,
         ends: *const u16,
         ends_length: usize,
+        excluded: *const u16,
+        excluded_length: usize,
         table: *mut u16,
         table_length: usize,
     ) -> u32;
@@ -88,13 +95,15 @@ fn answer(told: u32) -> Answer {
     }
 }
 
-pub fn check(vertices: u16, ends: &[u16], kind: u16, list: &[u16]) -> Answer {
-    // SAFETY: both lists are lent for the call, with their own lengths, and are only read.
+pub fn check(plan: &Plan, kind: u16, list: &[u16]) -> Answer {
+    // SAFETY: all lists are lent for the call, with their own lengths, and are only read.
     let told = unsafe {
         hearthtansy_check(
-            vertices,
-            ends.as_ptr(),
-            ends.len(),
+            plan.vertices,
+            plan.ends.as_ptr(),
+            plan.ends.len(),
+            plan.excluded.as_ptr(),
+            plan.excluded.len(),
             kind,
             list.as_ptr(),
             list.len(),
@@ -111,13 +120,15 @@ pub fn check_texts(plan: &[u8], verdict: &[u8]) -> Answer {
     answer(told)
 }
 
-pub fn verdict(vertices: u16, ends: &[u16], rows: &mut [u16]) -> Verdict {
-    // SAFETY: both lists are lent for the call, with their own lengths; only the rows are written.
+pub fn verdict(plan: &Plan, rows: &mut [u16]) -> Verdict {
+    // SAFETY: all lists are lent for the call, with their own lengths; only the rows are written.
     let told = unsafe {
         hearthtansy_verdict(
-            vertices,
-            ends.as_ptr(),
-            ends.len(),
+            plan.vertices,
+            plan.ends.as_ptr(),
+            plan.ends.len(),
+            plan.excluded.as_ptr(),
+            plan.excluded.len(),
             rows.as_mut_ptr(),
             rows.len(),
         )
@@ -134,13 +145,15 @@ pub fn verdict_text(plan: &[u8], text: &mut [u8]) -> usize {
     written as usize
 }
 
-pub fn groups(vertices: u16, ends: &[u16], table: &mut [u16]) -> Answer {
-    // SAFETY: both lists are lent for the call, with their own lengths; only the table is written.
+pub fn groups(plan: &Plan, table: &mut [u16]) -> Answer {
+    // SAFETY: all lists are lent for the call, with their own lengths; only the table is written.
     let told = unsafe {
         hearthtansy_groups(
-            vertices,
-            ends.as_ptr(),
-            ends.len(),
+            plan.vertices,
+            plan.ends.as_ptr(),
+            plan.ends.len(),
+            plan.excluded.as_ptr(),
+            plan.excluded.len(),
             table.as_mut_ptr(),
             table.len(),
         )

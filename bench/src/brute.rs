@@ -1,29 +1,39 @@
 //! The verdict about a plan and its groups by trying every set of two tabs or fewer: slow, and with no code in common with anything else.
 
+/// A plan as it is lent.
+#[derive(Clone, Copy)]
+pub struct Drawing<'a> {
+    pub pieces: u16,
+    pub ends: &'a [u16],
+    pub slugs: &'a [u16],
+}
+
 /// Kind, a, b and c as the writers tell them, where so many numbers are lent for the record.
-pub fn verdict(pieces: u16, ends: &[u16], room: usize) -> [u16; 4] {
-    if let Some([number, place]) = refusal(pieces, ends) {
+pub fn verdict(drawing: Drawing, room: usize) -> [u16; 4] {
+    if let Some([number, place]) = refusal(drawing) {
         return [2, number, place, 0];
     }
-    if room < ends.len() / 2 * 3 {
+    let sheet = Sheet::new(drawing);
+    if room < sheet.tabs.len() * 3 {
         return [2, 6, 0, 0];
     }
-    lowest(pieces as usize, ends)
+    sheet.lowest()
 }
 
 /// The lowest piece of each piece's group, or the number and the place that the plan is refused by, where so many numbers are lent.
-pub fn groups(pieces: u16, ends: &[u16], room: usize) -> Result<Vec<u16>, [u16; 2]> {
-    if let Some(refused) = refusal(pieces, ends) {
+pub fn groups(drawing: Drawing, room: usize) -> Result<Vec<u16>, [u16; 2]> {
+    if let Some(refused) = refusal(drawing) {
         return Err(refused);
     }
-    if room < pieces as usize {
+    if room < drawing.pieces as usize {
         return Err([6, 0]);
     }
-    Ok(lowest_together(pieces as usize, ends))
+    Ok(Sheet::new(drawing).lowest_together())
 }
 
 /// The number and the place that a plan is refused by.
-fn refusal(pieces: u16, ends: &[u16]) -> Option<[u16; 2]> {
+fn refusal(drawing: Drawing) -> Option<[u16; 2]> {
+    let Drawing { pieces, ends, .. } = drawing;
     if ends.len() % 2 == 1 {
         return Some([1, 0]);
     }
@@ -42,73 +52,116 @@ fn refusal(pieces: u16, ends: &[u16]) -> Option<[u16; 2]> {
             return Some([5, tab]);
         }
     }
+    slug_refusal(pieces, drawing.slugs)
+}
+
+fn slug_refusal(pieces: u16, slugs: &[u16]) -> Option<[u16; 2]> {
+    let mut least = 0;
+    for at in 0..slugs.len() {
+        if slugs[at] < least || slugs[at] >= pieces {
+            return Some([18, at as u16]);
+        }
+        least = slugs[at] + 1;
+    }
+    if pieces as usize - slugs.len() < 2 {
+        return Some([19, 0]);
+    }
     None
 }
 
-/// For each piece the lowest one that no set of tabs parts it from. The number of the tabs stands for none.
-fn lowest_together(pieces: usize, ends: &[u16]) -> Vec<u16> {
-    let tabs = ends.len() / 2;
-    let mut parted = vec![vec![false; pieces]; pieces];
-    for a in 0..=tabs {
-        for b in a..=tabs {
-            let (above, _) = bodies(pieces, ends, a, b);
-            let body: Vec<usize> = (0..pieces).map(|v| top(&above, v as u16)).collect();
-            for v in 0..pieces {
-                for u in 0..v {
-                    parted[v][u] |= body[u] != body[v];
+/// What is left when the slugs have fallen: the pieces that have not, and the tabs between them with their ends.
+struct Sheet {
+    stays: Vec<bool>,
+    pieces: usize,
+    tabs: Vec<(u16, [usize; 2])>,
+}
+
+impl Sheet {
+    fn new(drawing: Drawing) -> Sheet {
+        let mut stays = vec![true; drawing.pieces as usize];
+        for &slug in drawing.slugs {
+            stays[slug as usize] = false;
+        }
+        let mut tabs = Vec::new();
+        for tab in 0..drawing.ends.len() / 2 {
+            let [a, b] = [2 * tab, 2 * tab + 1].map(|at| drawing.ends[at] as usize);
+            if stays[a] && stays[b] {
+                tabs.push((tab as u16, [a, b]));
+            }
+        }
+        let pieces = stays.len() - drawing.slugs.len();
+        Sheet {
+            stays,
+            pieces,
+            tabs,
+        }
+    }
+
+    /// For each piece the lowest one that no set of tabs parts it from; a slug has itself. The number of the tabs stands for none.
+    fn lowest_together(&self) -> Vec<u16> {
+        let (all, tabs) = (self.stays.len(), self.tabs.len());
+        let mut parted = vec![vec![false; all]; all];
+        for a in 0..=tabs {
+            for b in a..=tabs {
+                let (above, _) = self.bodies(a, b);
+                let body: Vec<usize> = (0..all).map(|v| top(&above, v)).collect();
+                for v in 0..all {
+                    for u in 0..v {
+                        parted[v][u] |= body[u] != body[v];
+                    }
                 }
             }
         }
+        let lowest = |v: usize| (0..v).find(|&u| !parted[v][u]).unwrap_or(v);
+        (0..all).map(|v| lowest(v) as u16).collect()
     }
-    let lowest = |v: usize| (0..v).find(|&u| !parted[v][u]).unwrap_or(v);
-    (0..pieces).map(|v| lowest(v) as u16).collect()
-}
 
-fn lowest(pieces: usize, ends: &[u16]) -> [u16; 4] {
-    let tabs = ends.len() / 2;
-    if parted(pieces, ends, tabs, tabs) {
-        return [1, 0, 0, 0];
-    }
-    for a in 0..tabs {
-        if parted(pieces, ends, a, a) {
-            return [1, 1, a as u16, 0];
+    fn lowest(&self) -> [u16; 4] {
+        let tabs = self.tabs.len();
+        if self.parted(tabs, tabs) {
+            return [1, 0, 0, 0];
         }
-    }
-    for a in 0..tabs {
-        for b in a + 1..tabs {
-            if parted(pieces, ends, a, b) {
-                return [1, 2, a as u16, b as u16];
+        for a in 0..tabs {
+            if self.parted(a, a) {
+                return [1, 1, self.tabs[a].0, 0];
             }
         }
-    }
-    [0, 0, 0, 0]
-}
-
-/// Whether the plan without two tabs is not one body.
-fn parted(pieces: usize, ends: &[u16], a: usize, b: usize) -> bool {
-    let (_, count) = bodies(pieces, ends, a, b);
-    count > 1
-}
-
-/// The bodies of the plan without two tabs, as ways up, and how many there are: joins those that the other tabs join.
-fn bodies(pieces: usize, ends: &[u16], a: usize, b: usize) -> (Vec<usize>, usize) {
-    let mut above: Vec<usize> = (0..pieces).collect();
-    let mut bodies = pieces;
-    for tab in 0..ends.len() / 2 {
-        if tab != a && tab != b {
-            let x = top(&above, ends[2 * tab]);
-            let y = top(&above, ends[2 * tab + 1]);
-            if x != y {
-                above[x] = y;
-                bodies -= 1;
+        for a in 0..tabs {
+            for b in a + 1..tabs {
+                if self.parted(a, b) {
+                    return [1, 2, self.tabs[a].0, self.tabs[b].0];
+                }
             }
         }
+        [0, 0, 0, 0]
     }
-    (above, bodies)
+
+    /// Whether the sheet without two tabs is not one body.
+    fn parted(&self, a: usize, b: usize) -> bool {
+        let (_, count) = self.bodies(a, b);
+        count > 1
+    }
+
+    /// The bodies of the sheet without two tabs, as ways up, and how many there are: joins those that the other tabs join. A slug is joined
+    /// to nothing and is none of them.
+    fn bodies(&self, a: usize, b: usize) -> (Vec<usize>, usize) {
+        let mut above: Vec<usize> = (0..self.stays.len()).collect();
+        let mut bodies = self.pieces;
+        for (i, (_, [u, v])) in self.tabs.iter().enumerate() {
+            if i != a && i != b {
+                let (x, y) = (top(&above, *u), top(&above, *v));
+                if x != y {
+                    above[x] = y;
+                    bodies -= 1;
+                }
+            }
+        }
+        (above, bodies)
+    }
 }
 
-fn top(above: &[usize], piece: u16) -> usize {
-    let mut at = piece as usize;
+fn top(above: &[usize], piece: usize) -> usize {
+    let mut at = piece;
     while above[at] != at {
         at = above[at];
     }

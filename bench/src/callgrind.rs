@@ -5,8 +5,9 @@
 
 use crate::firm_shapes::firm;
 use crate::measure::weak_verdict;
+use crate::plan::Plan;
 use crate::random::Random;
-use crate::shapes::{ORDERS, Plan, Shape};
+use crate::shapes::{ORDERS, Shape};
 use crate::table::{head, number, row, whole};
 use crate::weak_shapes::weak;
 use crate::{archive, second, writer};
@@ -112,14 +113,14 @@ fn table(counted: &Counted, shapes: &[Shape]) -> Result<(), String> {
             let each = |which: &str, size: usize| -> Result<f64, String> {
                 let size_word = size.to_string();
                 let words = [which, counted.what, shape.name, order.name(), &size_word];
-                Ok(instructions(words)? / tabs(&plan(size)) as f64)
+                Ok(instructions(words)? / plan(size).tabs() as f64)
             };
             let [low, middle, high] = counted.sizes.map(|size| each("proved", size));
             let (low, high) = (low?, high?);
             row(&[
                 shape.name.to_string(),
                 order.name().to_string(),
-                whole(tabs(&plan(most))),
+                whole(plan(most).tabs()),
                 number(low),
                 number(middle?),
                 number(high),
@@ -129,10 +130,6 @@ fn table(counted: &Counted, shapes: &[Shape]) -> Result<(), String> {
         }
     }
     Ok(())
-}
-
-fn tabs(plan: &Plan) -> usize {
-    plan.ends.len() / 2
 }
 
 /// What one call takes.
@@ -179,10 +176,10 @@ pub fn call(words: [&str; 5], count: u64) -> Result<(), String> {
 }
 
 fn write(write: writer::Write, plan: &Plan, count: u64) {
-    let mut rows = vec![0; 3 * tabs(plan)];
+    let mut rows = vec![0; 3 * plan.tabs()];
     for _ in 0..count {
         let plan = black_box(plan);
-        black_box(write(plan.vertices, &plan.ends, &mut rows));
+        black_box(write(plan, &mut rows));
     }
 }
 
@@ -190,6 +187,6 @@ fn check(check: second::Check, plan: Plan, count: u64) {
     let case = weak_verdict(plan);
     for _ in 0..count {
         let case = black_box(&case);
-        black_box(check(case.vertices, &case.ends, case.kind, &case.list));
+        black_box(check(&case.plan, case.kind, &case.list));
     }
 }

@@ -1,17 +1,20 @@
 //! The answers of both checks to random verdicts, compared.
 
 use crate::damage::random_case;
-use crate::grow::Case;
+use crate::plan::Case;
 use crate::random::Random;
 use crate::second::Answer;
 use crate::texts::{self, random_texts};
 use crate::{archive, second};
 
+/// The numbers that are answered are below this.
+pub const ANSWERS: usize = 20;
+
 /// Compares so many answers, to lists and to texts; the first difference is an error.
 pub fn run(count: u64, seed: u64) -> Result<(), String> {
     let mut random = Random::new(seed);
-    let mut lists = [0u64; 18];
-    let mut texts = [0u64; 18];
+    let mut lists = [0u64; ANSWERS];
+    let mut texts = [0u64; ANSWERS];
     for _ in 0..count {
         let case = random_case(&mut random);
         let answer = same(&case)?;
@@ -29,9 +32,8 @@ pub fn run(count: u64, seed: u64) -> Result<(), String> {
 
 /// The answer that both checks give.
 pub fn same(case: &Case) -> Result<Answer, String> {
-    let (vertices, ends) = (case.vertices, &case.ends);
-    let proved = archive::check(vertices, ends, case.kind, &case.list);
-    let other = second::check(vertices, ends, case.kind, &case.list);
+    let proved = archive::check(&case.plan, case.kind, &case.list);
+    let other = second::check(&case.plan, case.kind, &case.list);
     if proved == other {
         return Ok(proved);
     }

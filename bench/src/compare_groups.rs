@@ -1,12 +1,13 @@
 //! The groups that both finders give on random plans, compared with trying every set of tabs, as lists and as texts.
 
-use crate::compare_writer::{require, writes};
+use crate::compare::ANSWERS;
+use crate::compare_writer::{drawing, require, writes};
 use crate::groups::Find;
+use crate::plan::Plan;
 use crate::plans::{random_larger, random_plan, space};
 use crate::random::Random;
 use crate::second::Answer;
-use crate::shapes::Plan;
-use crate::{archive, brute, groups, second, texts};
+use crate::{archive, brute, groups, texts};
 
 const FINDERS: [(&str, Find); 2] = [
     ("the proved one", archive::groups),
@@ -24,8 +25,8 @@ const SAY: u64 = 100_000;
 /// many are one group, have several, and have each piece alone.
 #[derive(Default)]
 struct Seen {
-    lists: [u64; 8],
-    texts: [u64; 8],
+    lists: [u64; ANSWERS],
+    texts: [u64; ANSWERS],
     tried: u64,
     groups: [u64; 3],
 }
@@ -41,7 +42,7 @@ pub fn run(count: u64, seed: u64) -> Result<(), String> {
         };
         let lent = space(&mut random, plan.vertices as usize);
         seen.compare(&plan, &lent)?;
-        let text = plan_text(&mut random, &plan);
+        let text = texts::random_plan(&mut random, &plan, 8);
         seen.compare_text(&mut random, &text)?;
         if done % SAY == 0 {
             eprintln!("{done} of {count} plans");
@@ -59,7 +60,7 @@ impl Seen {
         self.lists[expected.number as usize] += 1;
         for (name, find) in FINDERS {
             let mut table = lent.to_vec();
-            let told = find(plan.vertices, &plan.ends, &mut table);
+            let told = find(plan, &mut table);
             require(told == expected && table == wanted, || {
                 format!(
                     "{name}: {told:?} and {table:?}, expected {expected:?} and {wanted:?}, for {plan:?} and the lent numbers {lent:?}"
@@ -75,12 +76,12 @@ impl Seen {
     /// The answer, and the lent numbers afterwards: by trying every set of tabs, or from the second finder where that would take long.
     fn expected(&mut self, plan: &Plan, lent: &[u16]) -> (Answer, Vec<u16>) {
         let mut wanted = lent.to_vec();
-        if TRIED < plan.ends.len() / 2 || TRIED < plan.vertices as usize {
-            let answer = groups::groups(plan.vertices, &plan.ends, &mut wanted);
+        if TRIED < plan.tabs() || TRIED < plan.vertices as usize {
+            let answer = groups::groups(plan, &mut wanted);
             return (answer, wanted);
         }
         self.tried += 1;
-        let [number, place] = match brute::groups(plan.vertices, &plan.ends, lent.len()) {
+        let [number, place] = match brute::groups(drawing(plan), lent.len()) {
             Ok(lowest) => {
                 wanted[..lowest.len()].copy_from_slice(&lowest);
                 [0, 0]
@@ -90,20 +91,20 @@ impl Seen {
         (Answer { number, place }, wanted)
     }
 
-    /// The proved writer calls a plan firm exactly if there is one group.
+    /// The proved writer calls a plan firm exactly if there is one group of pieces that are kept.
     fn served(&mut self, plan: &Plan, table: &[u16]) -> Result<(), String> {
         let own = (0..plan.vertices)
             .zip(table)
             .filter(|(v, lowest)| v == *lowest);
-        let count = own.count();
+        let count = own.count() - plan.excluded.len();
         let kind = match count {
             1 => 0,
-            _ if count < table.len() => 1,
+            _ if count < table.len() - plan.excluded.len() => 1,
             _ => 2,
         };
         self.groups[kind] += 1;
-        let mut rows = vec![0; plan.ends.len() / 2 * 3];
-        let verdict = archive::verdict(plan.vertices, &plan.ends, &mut rows);
+        let mut rows = vec![0; plan.record()];
+        let verdict = archive::verdict(plan, &mut rows);
         require((verdict[0] == 0) == (count == 1), || {
             format!("{count} groups and the verdict {verdict:?}, for {plan:?}")
         })
@@ -119,7 +120,8 @@ impl Seen {
 
     fn print(&self) {
         println!("{:>15} {:>9} {:>9}", "answer", "lists", "texts");
-        for (number, (lists, texts)) in self.lists.iter().zip(self.texts).enumerate() {
+        for number in (0..=7).chain(18..=19) {
+            let (lists, texts) = (self.lists[number], self.texts[number]);
             println!("{number:>15} {lists:>9} {texts:>9}");
         }
         let [one, several, alone] = self.groups;
@@ -130,32 +132,22 @@ impl Seen {
     }
 }
 
-/// The text of a plan, some damaged.
-fn plan_text(random: &mut Random, plan: &Plan) -> Vec<u8> {
-    let mut text = texts::write(plan.vertices, &plan.ends, 2);
-    while random.once_in(8) {
-        texts::damage(random, &mut text);
-    }
-    text
-}
-
 /// The number that a plan text is answered by, and the text that belongs to it: of the refusal, or of the groups that the second finder gives.
 fn expected_text(plan: &[u8]) -> (u16, Vec<u8>) {
-    let read = texts::read_plan(plan);
-    let read =
-        read.and_then(|(vertices, ends)| second::admit(vertices, &ends).map(|()| (vertices, ends)));
-    let (vertices, ends) = match read {
+    let plan = match texts::read_plan(plan) {
         Ok(plan) => plan,
         Err(refused) => {
             let text = format!("{:>5}\n", refused.number);
             return (refused.number, text.into_bytes());
         }
     };
-    let mut table = vec![0; vertices as usize];
-    groups::groups(vertices, &ends, &mut table);
-    let lines = table.iter().enumerate();
-    let text: String = lines
-        .map(|(v, group)| format!("{v:>5}{group:>5}\n"))
-        .collect();
+    let mut table = vec![0; plan.vertices as usize];
+    groups::groups(&plan, &mut table);
+    let mut text = String::new();
+    for (v, group) in (0..plan.vertices).zip(table) {
+        if !plan.excluded.contains(&v) {
+            text += &format!("{v:>5}{group:>5}\n");
+        }
+    }
     (0, text.into_bytes())
 }

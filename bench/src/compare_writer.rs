@@ -1,22 +1,23 @@
 //! The verdicts of both writers on random plans, compared with trying every set of tabs, and judged by both checks.
 
-use crate::compare::{same, same_texts};
+use crate::brute::Drawing;
+use crate::compare::{ANSWERS, same, same_texts};
 use crate::damage::number;
-use crate::grow::Case;
+use crate::plan::{Case, Plan};
 use crate::plans::{Trial, random_trial};
 use crate::random::Random;
 use crate::writer::{Verdict, Write};
-use crate::{archive, brute, second, texts, writer};
+use crate::{archive, brute, texts, writer};
 
 /// How often each verdict was given, by its kind and the number behind it.
-type Counts = [[u64; 8]; 3];
+type Counts = [[u64; ANSWERS]; 3];
 
 /// The verdicts on plans as numbers and as texts, and the answers to verdicts with one number changed.
 #[derive(Default)]
 struct Seen {
     lists: Counts,
     texts: Counts,
-    changed: [u64; 18],
+    changed: [u64; ANSWERS],
 }
 
 const WRITERS: [(&str, Write); 2] = [
@@ -31,7 +32,7 @@ pub fn run(count: u64, seed: u64) -> Result<(), String> {
     for _ in 0..count {
         let trial = random_trial(&mut random);
         seen.compare(&mut random, &trial)?;
-        let plan = plan_text(&mut random, &trial);
+        let plan = plan_text(&mut random, &trial.plan);
         seen.compare_text(&mut random, &plan)?;
     }
     seen.print();
@@ -45,8 +46,7 @@ fn tally(counts: &mut Counts, [kind, count, ..]: Verdict) {
 
 impl Seen {
     fn compare(&mut self, random: &mut Random, trial: &Trial) -> Result<(), String> {
-        let plan = &trial.plan;
-        let expected = brute::verdict(plan.vertices, &plan.ends, trial.rows.len());
+        let expected = brute::verdict(drawing(&trial.plan), trial.rows.len());
         tally(&mut self.lists, expected);
         for (name, write) in WRITERS {
             let case = obeys(trial, write, expected);
@@ -70,11 +70,11 @@ impl Seen {
         let (lists, texts) = (&self.lists, &self.texts);
         println!("{:>15} {:>9} {:>9}", "verdict", "lists", "texts");
         println!("{:>15} {:>9} {:>9}", "firm", lists[0][0], texts[0][0]);
-        for (kind, name, numbers) in [(1, "weak", 0..=2), (2, "refused", 1..=7)] {
-            for n in numbers {
-                let name = format!("{name} {n}");
-                println!("{name:>15} {:>9} {:>9}", lists[kind][n], texts[kind][n]);
-            }
+        let weak = (0..=2).map(|n| (1, "weak", n));
+        let refused = (1..=7).chain(18..=19).map(|n| (2, "refused", n));
+        for (kind, name, n) in weak.chain(refused) {
+            let name = format!("{name} {n}");
+            println!("{name:>15} {:>9} {:>9}", lists[kind][n], texts[kind][n]);
         }
         println!("answers to the verdicts of both with one number changed:");
         for (number, count) in self
@@ -88,20 +88,29 @@ impl Seen {
     }
 }
 
+/// A plan as brute force takes it.
+pub fn drawing(plan: &Plan) -> Drawing<'_> {
+    Drawing {
+        pieces: plan.vertices,
+        ends: &plan.ends,
+        slugs: &plan.excluded,
+    }
+}
+
 pub fn require(holds: bool, why: impl FnOnce() -> String) -> Result<(), String> {
     if holds { Ok(()) } else { Err(why()) }
 }
 
 /// A writer gives the expected verdict and leaves all numbers but the record's as they were; the verdict passes both checks.
 pub fn obeys(trial: &Trial, write: Write, expected: Verdict) -> Result<Option<Case>, String> {
-    let (vertices, ends) = (trial.plan.vertices, &trial.plan.ends);
+    let plan = &trial.plan;
     let mut rows = trial.rows.clone();
-    let told = write(vertices, ends, &mut rows);
+    let told = write(plan, &mut rows);
     require(told == expected, || {
         format!("{told:?}, expected {expected:?}")
     })?;
     let [kind, count, a, b] = told;
-    let written = if kind == 0 { ends.len() / 2 * 3 } else { 0 };
+    let written = if kind == 0 { plan.record() } else { 0 };
     require(rows[written..] == trial.rows[written..], || {
         format!("{told:?} with other numbers changed: {rows:?}")
     })?;
@@ -114,12 +123,8 @@ pub fn obeys(trial: &Trial, write: Write, expected: Verdict) -> Result<Option<Ca
     } else {
         [a, b][..count as usize].to_vec()
     };
-    let case = Case {
-        vertices,
-        ends: ends.clone(),
-        kind,
-        list,
-    };
+    let plan = plan.clone();
+    let case = Case { plan, kind, list };
     let answer = same(&case)?;
     require(answer.number == 0, || {
         format!("the checks answer {answer:?} to {case:?}")
@@ -128,29 +133,25 @@ pub fn obeys(trial: &Trial, write: Write, expected: Verdict) -> Result<Option<Ca
 }
 
 /// The text of a plan, some damaged, but none with so many tabs that trying all sets of them would take long.
-fn plan_text(random: &mut Random, trial: &Trial) -> Vec<u8> {
-    let mut text = texts::write(trial.plan.vertices, &trial.plan.ends, 2);
-    while text.len() < 10_000 && random.once_in(8) {
-        texts::damage(random, &mut text);
+fn plan_text(random: &mut Random, plan: &Plan) -> Vec<u8> {
+    if plan.tabs() > 1000 {
+        return texts::write_plan(plan);
     }
-    text
+    texts::random_plan(random, plan, 8)
 }
 
 /// The verdict text that belongs to a plan text: of the refusal, or of the verdict that the proved writer gives as numbers.
 fn expected_text(plan: &[u8]) -> Result<(Verdict, Vec<u8>), String> {
-    let read = texts::read_plan(plan);
-    let read =
-        read.and_then(|(vertices, ends)| second::admit(vertices, &ends).map(|()| (vertices, ends)));
-    let (vertices, ends) = match read {
+    let plan = match texts::read_plan(plan) {
         Ok(plan) => plan,
         Err(refused) => {
             let text = format!("{:>5}{:>5}\n", 2, refused.number);
             return Ok(([2, refused.number, 0, 0], text.into_bytes()));
         }
     };
-    let mut rows = vec![0; ends.len() / 2 * 3];
-    let expected = brute::verdict(vertices, &ends, rows.len());
-    let told = archive::verdict(vertices, &ends, &mut rows);
+    let mut rows = vec![0; plan.record()];
+    let expected = brute::verdict(drawing(&plan), rows.len());
+    let told = archive::verdict(&plan, &mut rows);
     require(told == expected, || {
         format!("the proved writer: {told:?}, expected {expected:?}")
     })?;

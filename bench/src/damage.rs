@@ -1,9 +1,11 @@
 //! Random small verdicts: good ones, damaged ones and made-up ones.
 
-use crate::grow::{Case, Growth};
+use crate::grow::Growth;
+use crate::plan::{Case, Plan};
 use crate::random::Random;
+use crate::slugs;
 
-/// A random verdict about a random graph, most of 2 to 8 vertices.
+/// A random verdict about a random plan, most of 2 to 8 vertices that are kept; many have slugs.
 pub fn random_case(random: &mut Random) -> Case {
     let mut case = match random.below(8) {
         0 => scattered(random),
@@ -12,6 +14,11 @@ pub fn random_case(random: &mut Random) -> Case {
             record(random, most, from <= 3)
         }
     };
+    match random.below(6) {
+        0 | 1 => slugs::put_beside(random, &mut case),
+        2 => fall(random, &mut case),
+        _ => (),
+    }
     if random.once_in(4) {
         stroll(random, &mut case);
     }
@@ -66,8 +73,7 @@ fn scattered(random: &mut Random) -> Case {
         ends.extend(&pair[..2]);
     }
     let mut case = Case {
-        vertices: vertices as u16,
-        ends,
+        plan: Plan::whole(vertices as u16, ends),
         kind: 0,
         list: Vec::new(),
     };
@@ -75,36 +81,49 @@ fn scattered(random: &mut Random) -> Case {
     case
 }
 
-/// From some row on, other walks over the edges that are left, in steps that end at random.
+/// Some vertices become slugs; the rows of their edges go, as a rule.
+fn fall(random: &mut Random, case: &mut Case) {
+    slugs::choose(random, &mut case.plan);
+    if !random.once_in(8) {
+        let kept = |row: &&[u16]| case.plan.keeps(row[1] as usize);
+        let rows = case.list.chunks_exact(3).filter(kept);
+        case.list = rows.flatten().copied().collect();
+    }
+}
+
+/// From some row on, other walks over the edges that are left, in steps that end at random; seldom over those of slugs, too.
 fn stroll(random: &mut Random, case: &mut Case) {
     case.list
         .truncate(3 * random.below(case.list.len() / 3 + 1));
     let mut step = case.list.chunks_exact(3).last().map_or(0, |row| row[0] + 1);
-    let mut left = random.order(case.ends.len() / 2);
+    let mut left = random.order(case.plan.tabs());
     left.retain(|e| case.list.chunks_exact(3).all(|row| row[1] != *e));
+    if !random.once_in(8) {
+        left.retain(|e| case.plan.keeps(*e as usize));
+    }
     let mut at = None;
     while !left.is_empty() {
         let next = if random.once_in(3) { None } else { at };
-        let next = next.and_then(|v| left.iter().position(|&e| pair(&case.ends, e).contains(&v)));
+        let next = next.and_then(|v| left.iter().position(|&e| pair(&case.plan, e).contains(&v)));
         if next.is_none() && at.is_some() {
             step += 1;
             at = None;
         }
         let edge = left.remove(next.unwrap_or(0));
-        let [a, b] = pair(&case.ends, edge);
+        let [a, b] = pair(&case.plan, edge);
         let from = at.unwrap_or(if random.once_in(2) { a } else { b });
         case.list.extend([step, edge, from]);
         at = Some(if from == a { b } else { a });
     }
 }
 
-fn pair(ends: &[u16], edge: u16) -> [u16; 2] {
+fn pair(plan: &Plan, edge: u16) -> [u16; 2] {
     let at = 2 * edge as usize;
-    [ends[at], ends[at + 1]]
+    [plan.ends[at], plan.ends[at + 1]]
 }
 
 fn damage(random: &mut Random, case: &mut Case) {
-    match random.below(16) {
+    match random.below(19) {
         0 => kind(random, case),
         1 | 2 => weak(random, case),
         3 => refusal(random, case),
@@ -114,17 +133,18 @@ fn damage(random: &mut Random, case: &mut Case) {
         8 => repeat(random, case),
         9..=11 => shift(random, case),
         12 | 13 => end(random, case),
+        14 => slugs::spoil(random, &mut case.plan),
+        15 | 16 => of_slug(random, case),
         _ => number(random, case),
     }
 }
 
 /// A number that is likely to mean something, seldom any.
 fn likely(random: &mut Random, case: &Case) -> u16 {
-    let edges = case.ends.len() / 2;
     match random.below(8) {
         0 => random.below(65536) as u16,
-        1..=3 => random.below(case.vertices as usize + 1) as u16,
-        _ => random.below(edges + 1) as u16,
+        1..=3 => random.below(case.plan.vertices as usize + 1) as u16,
+        _ => random.below(case.plan.tabs() + 1) as u16,
     }
 }
 
@@ -144,8 +164,8 @@ fn kind(random: &mut Random, case: &mut Case) {
 fn weak(random: &mut Random, case: &mut Case) {
     case.kind = 1;
     if random.once_in(2) {
-        case.ends
-            .truncate(2 * random.below(case.ends.len() / 2 + 1));
+        let tabs = random.below(case.plan.tabs() + 1);
+        case.plan.ends.truncate(2 * tabs);
     }
     let count = random.below(8).min(random.below(4));
     case.list = (0..count).map(|_| likely(random, case)).collect();
@@ -154,20 +174,46 @@ fn weak(random: &mut Random, case: &mut Case) {
     }
 }
 
-/// One of the graph's own faults.
+/// One of the plan's own faults.
 fn refusal(random: &mut Random, case: &mut Case) {
+    let likely = likely(random, case);
+    let Plan { vertices, ends, .. } = &mut case.plan;
     match random.below(8) {
-        0 => case.ends.push(likely(random, case)),
-        1 => case.vertices = random.below(2) as u16,
-        2 => case.vertices = 1000 + random.below(3) as u16,
-        3 if random.once_in(50) => case.ends.resize(8000 + 2 * random.below(2), 1),
-        4 => case.vertices -= case.vertices.min(1),
-        5 => case.vertices += 1,
+        0 => ends.push(likely),
+        1 => *vertices = random.below(2) as u16,
+        2 => *vertices = 1000 + random.below(3) as u16,
+        3 if random.once_in(50) => ends.resize(8000 + 2 * random.below(2), 1),
+        4 => *vertices = vertices.saturating_sub(1),
+        5 => *vertices += 1,
         _ => {
-            if let Some(i) = place(random, case.ends.len()) {
-                case.ends[i] = likely(random, case);
+            if let Some(i) = place(random, ends.len()) {
+                ends[i] = likely;
             }
         }
+    }
+}
+
+/// A slug's edge in a row or in the list of a weak verdict, if there is any: in the place of another number, or before or behind all.
+fn of_slug(random: &mut Random, case: &mut Case) {
+    let of_slugs = (0..case.plan.tabs()).filter(|&e| !case.plan.keeps(e));
+    let of_slugs: Vec<usize> = of_slugs.collect();
+    let Some(i) = place(random, of_slugs.len()) else {
+        return;
+    };
+    let edge = of_slugs[i] as u16;
+    let from = pair(&case.plan, edge)[random.below(2)];
+    if random.once_in(4) {
+        case.kind = 1;
+        case.list = vec![edge];
+        if random.once_in(2) {
+            case.list.push(likely(random, case));
+            case.list.sort();
+        }
+    } else if let (0, Some(row)) = (case.kind, place(random, case.list.len() / 3)) {
+        case.list[3 * row + 1] = edge;
+        case.list[3 * row + 2] = from;
+    } else {
+        case.list.extend([likely(random, case), edge, from]);
     }
 }
 
@@ -222,13 +268,14 @@ fn shift(random: &mut Random, case: &mut Case) {
 
 /// An end of an edge moved to another vertex; the row that walks the edge may go along.
 fn end(random: &mut Random, case: &mut Case) {
-    if let Some(at) = place(random, case.ends.len()) {
-        let old = case.ends[at];
-        case.ends[at] = random.below(case.vertices.max(1) as usize) as u16;
+    let Plan { vertices, ends, .. } = &mut case.plan;
+    if let Some(at) = place(random, ends.len()) {
+        let old = ends[at];
+        ends[at] = random.below((*vertices).max(1) as usize) as u16;
         let edge = (at / 2) as u16;
         for row in case.list.chunks_exact_mut(3) {
             if row[1] == edge && row[2] == old {
-                row[2] = case.ends[at];
+                row[2] = ends[at];
             }
         }
     }

@@ -1,15 +1,7 @@
 //! Random 3-edge-connected graphs, grown together with their records by Mader's steps.
 
+use crate::plan::{Case, Plan};
 use crate::random::Random;
-
-/// A graph and a verdict about it.
-#[derive(Clone, Debug)]
-pub struct Case {
-    pub vertices: u16,
-    pub ends: Vec<u16>,
-    pub kind: u16,
-    pub list: Vec<u16>,
-}
 
 /// How a graph is grown.
 #[derive(Clone, Copy)]
@@ -162,8 +154,7 @@ impl Growth {
             }
         }
         Case {
-            vertices: self.vertices() as u16,
-            ends,
+            plan: Plan::whole(self.vertices() as u16, ends),
             kind: 0,
             list,
         }

@@ -3,14 +3,14 @@
 use crate::clock::{median, time};
 use crate::compare::same;
 use crate::firm_shapes::firm;
-use crate::grow::{Case, Family, grow};
+use crate::grow::{Family, grow};
 use crate::measure_shapes::table;
+use crate::plan::{Case, Plan};
 use crate::random::Random;
 use crate::second::Check;
-use crate::shapes::Plan;
 use crate::table::{head, number, row, whole};
 use crate::weak_shapes::weak;
-use crate::{archive, second, writer};
+use crate::{archive, measure_slugs, second, writer};
 use std::hint::black_box;
 use std::time::Duration;
 
@@ -25,13 +25,16 @@ const TABS: usize = 36_000;
 const SAMPLES: usize = 9;
 const TIME: Duration = Duration::from_millis(2);
 
-/// Prints three tables: median times of a check of one verdict, of firm ones and of weak ones by size, and of weak ones that are no cut.
+/// Prints four tables: median times of a check of one verdict, of firm ones and of weak ones by size, and of weak ones that are no cut; then
+/// what slugs cost.
 pub fn run() -> Result<(), String> {
     records()?;
     println!();
     weak_verdicts()?;
     println!();
-    no_cuts()
+    no_cuts()?;
+    println!();
+    measure_slugs::run()
 }
 
 const CHECKS: [Check; 2] = [archive::check, second::check];
@@ -43,7 +46,7 @@ fn medians(cases: &[Case]) -> [f64; 2] {
         for (check, times) in CHECKS.iter().zip(&mut times) {
             let all = time(TIME, || {
                 for case in black_box(cases) {
-                    black_box(check(case.vertices, &case.ends, case.kind, &case.list));
+                    black_box(check(&case.plan, case.kind, &case.list));
                 }
             });
             times.push(all / cases.len() as f64);
@@ -97,14 +100,10 @@ fn answers(case: &Case, number: u16) -> Result<(), String> {
 
 /// The weak verdict about a plan: its lowest cut.
 pub fn weak_verdict(plan: Plan) -> Case {
-    let mut rows = vec![0; plan.ends.len() / 2 * 3];
-    let [kind, count, first, last] = writer::verdict(plan.vertices, &plan.ends, &mut rows);
-    Case {
-        vertices: plan.vertices,
-        ends: plan.ends,
-        kind,
-        list: [first, last][..count as usize].to_vec(),
-    }
+    let mut rows = vec![0; plan.record()];
+    let [kind, count, first, last] = writer::verdict(&plan, &mut rows);
+    let list = [first, last][..count as usize].to_vec();
+    Case { plan, kind, list }
 }
 
 /// Weak verdicts that pass, each the lowest cut of its plan.
@@ -118,10 +117,9 @@ fn weak_verdicts() -> Result<(), String> {
 
 /// Weak verdicts about firm plans, with the first and the last tab: both are no cut.
 fn no_cuts() -> Result<(), String> {
-    let first_and_last = |Plan { vertices, ends }| Case {
-        vertices,
-        list: vec![0, (ends.len() / 2 - 1) as u16],
-        ends,
+    let first_and_last = |plan: Plan| Case {
+        list: vec![0, plan.tabs() as u16 - 1],
+        plan,
         kind: 1,
     };
     table("no cut", &firm(), |plans| {

@@ -4,8 +4,9 @@ use crate::clock::{median, now, time};
 use crate::group_shapes::grouped;
 use crate::groups::Find;
 use crate::measure_shapes::{Cell, TABS, Worst};
+use crate::plan::Plan;
 use crate::random::Random;
-use crate::shapes::{ORDERS, Plan, Shape};
+use crate::shapes::{ORDERS, Shape};
 use crate::table::{head, number, numbers, row, whole};
 use crate::{archive, groups};
 use std::hint::black_box;
@@ -75,7 +76,7 @@ fn sizes(random: &mut Random, shape: &Shape) -> Result<Vec<Sized>, String> {
     let mut sizes: Vec<Sized> = Vec::new();
     for size in SIZES {
         let plan = shape.plan(random, size, ORDERS[0]);
-        let (pieces, tabs) = (plan.vertices as usize, plan.ends.len() / 2);
+        let (pieces, tabs) = (plan.vertices as usize, plan.tabs());
         if sizes.last().is_some_and(|last| last.tabs() == tabs) {
             break;
         }
@@ -107,7 +108,7 @@ fn medians(plans: &[Plan]) -> [f64; 2] {
         for (find, times) in FINDERS.iter().zip(&mut times) {
             let all = time(TIME, || {
                 for plan in black_box(plans) {
-                    black_box(find(plan.vertices, &plan.ends, &mut table));
+                    black_box(find(plan, &mut table));
                 }
             });
             times.push(all / plans.len() as f64);
@@ -120,7 +121,7 @@ fn medians(plans: &[Plan]) -> [f64; 2] {
 fn agree(plan: &Plan) -> Result<(), String> {
     let told = FINDERS.map(|find| {
         let mut table = vec![0; plan.vertices as usize];
-        let answer = find(plan.vertices, &plan.ends, &mut table);
+        let answer = find(plan, &mut table);
         (answer, table)
     });
     if told[0] == told[1] && told[0].0.number == 0 {

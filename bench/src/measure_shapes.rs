@@ -1,8 +1,9 @@
 //! How much processor time a proved function takes on shapes beside the second one, and how that grows: for each tab, at three sizes, with the
 //! tabs numbered up, down and shuffled.
 
+use crate::plan::Plan;
 use crate::random::Random;
-use crate::shapes::{ORDERS, Order, Plan, Shape};
+use crate::shapes::{ORDERS, Order, Shape};
 use crate::table::{head, number, numbers, row, whole};
 
 const SIZES: [usize; 3] = [100, 1000, 4000];
@@ -78,7 +79,7 @@ pub fn table(
                 let plans = (0..TABS / size).map(|_| shape.plan(&mut random, size, order));
                 let plans: Vec<Plan> = plans.collect();
                 pieces = plans[0].vertices as usize;
-                let tabs = plans[0].ends.len() / 2;
+                let tabs = plans[0].tabs();
                 let times = measure(plans).map_err(|why| format!("{}: {why}", shape.name))?;
                 Ok(Cell { order, tabs, times })
             };

@@ -1,7 +1,8 @@
 //! How much processor time the exported functions take on texts, beside the same on numbers.
 
 use crate::clock::{median, time};
-use crate::grow::{Case, Family, grow};
+use crate::grow::{Family, grow};
+use crate::plan::Case;
 use crate::random::Random;
 use crate::table::{head, number, row};
 use crate::{archive, texts};
@@ -18,7 +19,7 @@ pub fn run() -> Result<(), String> {
     let case = grow(&mut Random::new(1), Family::Short, PIECES, TABS);
     let mut parted = case.clone();
     // all tabs between two pieces: many bodies, which the writer sees at once
-    parted.ends = [0, 1].repeat(TABS);
+    parted.plan.ends = [0, 1].repeat(TABS);
     head(&[
         "4,000 tabs",
         "on numbers, ms",
@@ -54,16 +55,11 @@ fn print(name: &str, [numbers, texts]: [f64; 2]) {
 
 fn check(name: &str, case: &Case) {
     let columns = if case.kind == 0 { 3 } else { 1 };
-    let plan = texts::write(case.vertices, &case.ends, 2);
+    let plan = texts::write_plan(&case.plan);
     let verdict = texts::write(case.kind, &case.list, columns);
     let on_numbers = || {
         let case = black_box(case);
-        black_box(archive::check(
-            case.vertices,
-            &case.ends,
-            case.kind,
-            &case.list,
-        ));
+        black_box(archive::check(&case.plan, case.kind, &case.list));
     };
     let on_texts = || {
         black_box(archive::check_texts(black_box(&plan), black_box(&verdict)));
@@ -72,12 +68,12 @@ fn check(name: &str, case: &Case) {
 }
 
 fn write(name: &str, case: &Case) {
-    let plan = texts::write(case.vertices, &case.ends, 2);
+    let plan = texts::write_plan(&case.plan);
     let mut rows = vec![0; 3 * TABS];
     let mut text = vec![0; 16 * TABS + 11];
     let on_numbers = || {
         let case = black_box(case);
-        black_box(archive::verdict(case.vertices, &case.ends, &mut rows));
+        black_box(archive::verdict(&case.plan, &mut rows));
     };
     let on_texts = || {
         black_box(archive::verdict_text(black_box(&plan), &mut text));
@@ -87,7 +83,7 @@ fn write(name: &str, case: &Case) {
 
 /// A plan text that is refused at its last byte: it is read once, and nothing is stored.
 fn unread(case: &Case) {
-    let mut plan = texts::write(case.vertices, &case.ends, 2);
+    let mut plan = texts::write_plan(&case.plan);
     *plan.last_mut().expect("a text has a last byte") = b' ';
     let verdict = texts::write(case.kind, &case.list, 3);
     let times: Vec<f64> = (0..SAMPLES)

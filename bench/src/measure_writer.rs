@@ -4,8 +4,8 @@ use crate::clock::{median, time};
 use crate::compare_writer::obeys;
 use crate::firm_shapes::firm;
 use crate::measure_shapes::table;
+use crate::plan::Plan;
 use crate::plans::Trial;
-use crate::shapes::Plan;
 use crate::weak_shapes::weak;
 use crate::writer::Write;
 use crate::{archive, writer};
@@ -36,14 +36,14 @@ pub fn run(name: Option<&str>) -> Result<(), String> {
 /// The median nanoseconds of one call of each writer: a sample goes over all plans, again and again.
 fn medians(plans: &[Plan]) -> [f64; 2] {
     let mut times = [Vec::new(), Vec::new()];
-    let most = plans.iter().map(|plan| plan.ends.len()).max();
-    let mut rows = vec![0; 3 * most.unwrap_or(0) / 2];
+    let most = plans.iter().map(Plan::tabs).max();
+    let mut rows = vec![0; 3 * most.unwrap_or(0)];
     for _ in 0..SAMPLES {
         for (write, times) in WRITERS.iter().zip(&mut times) {
             let all = time(TIME, || {
                 for plan in black_box(plans) {
-                    let rows = &mut rows[..3 * (plan.ends.len() / 2)];
-                    black_box(write(plan.vertices, &plan.ends, rows));
+                    let rows = &mut rows[..3 * plan.tabs()];
+                    black_box(write(plan, rows));
                 }
             });
             times.push(all / plans.len() as f64);
@@ -54,8 +54,8 @@ fn medians(plans: &[Plan]) -> [f64; 2] {
 
 /// Both writers give the same verdict, of this kind, and it passes both checks.
 fn agree(plan: &Plan, kind: u16) -> Result<(), String> {
-    let rows = vec![0; plan.ends.len() / 2 * 3];
-    let expected = writer::verdict(plan.vertices, &plan.ends, &mut rows.clone());
+    let rows = vec![0; plan.record()];
+    let expected = writer::verdict(plan, &mut rows.clone());
     let wrong = |why| format!("{why}, for {plan:?}");
     if expected[0] != kind {
         return Err(wrong(format!("{expected:?}")));

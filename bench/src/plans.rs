@@ -2,8 +2,9 @@
 //! written.
 
 use crate::damage::record;
+use crate::plan::Plan;
 use crate::random::Random;
-use crate::shapes::Plan;
+use crate::slugs;
 
 /// A plan and the space lent for its record, filled with any numbers.
 #[derive(Clone, Debug)]
@@ -17,11 +18,11 @@ type Tabs = Vec<[u16; 2]>;
 /// A random plan with space that may be too short or longer than needed.
 pub fn random_trial(random: &mut Random) -> Trial {
     let plan = random_plan(random);
-    let rows = space(random, plan.ends.len() / 2 * 3);
+    let rows = space(random, plan.record());
     Trial { plan, rows }
 }
 
-/// A random plan, most of 2 to 8 pieces.
+/// A random plan, most of 2 to 8 pieces that are kept; half of them have slugs.
 pub fn random_plan(random: &mut Random) -> Plan {
     let mut tabs = match random.below(20) {
         0 => scattered(random, 7, 14),
@@ -40,10 +41,20 @@ pub fn random_plan(random: &mut Random) -> Plan {
         change(random, &mut tabs);
     }
     let mut plan = mixed(random, &tabs);
+    slug(random, &mut plan);
     while random.once_in(12) {
         spoil(random, &mut plan);
     }
     plan
+}
+
+/// Half of the plans get slugs, beside their pieces or among them.
+fn slug(random: &mut Random, plan: &mut Plan) {
+    match random.below(6) {
+        0 | 1 => _ = slugs::put(random, plan),
+        2 => slugs::choose(random, plan),
+        _ => (),
+    }
 }
 
 /// A random plan of up to so many pieces, weak as a rule: tabs between any pieces, or small bodies that hang together.
@@ -55,7 +66,9 @@ pub fn random_larger(random: &mut Random, most: usize) -> Plan {
     while random.once_in(2) {
         change(random, &mut tabs);
     }
-    mixed(random, &tabs)
+    let mut plan = mixed(random, &tabs);
+    slug(random, &mut plan);
+    plan
 }
 
 /// Small bodies and single pieces until there are so many pieces, each put into a tab of those before, hung on them by some tabs, or both.
@@ -136,7 +149,7 @@ fn grown(random: &mut Random) -> Tabs {
     };
     let careless = random.once_in(6);
     let case = record(random, most, careless);
-    let pairs = case.ends.chunks_exact(2);
+    let pairs = case.plan.ends.chunks_exact(2);
     pairs.map(|pair| [pair[0], pair[1]]).collect()
 }
 
@@ -228,7 +241,7 @@ fn small(random: &mut Random) -> Tabs {
         1 => parallel(random),
         _ => {
             let case = record(random, 4, false);
-            let pairs = case.ends.chunks_exact(2);
+            let pairs = case.plan.ends.chunks_exact(2);
             pairs.map(|pair| [pair[0], pair[1]]).collect()
         }
     }
@@ -264,13 +277,13 @@ fn mixed(random: &mut Random, tabs: &Tabs) -> Plan {
         let tab = tabs[i as usize];
         ends.extend([tab[turn], tab[1 - turn]].map(|v| name[v as usize]));
     }
-    Plan { vertices, ends }
+    Plan::whole(vertices, ends)
 }
 
 /// One of the faults that a plan is refused for.
 fn spoil(random: &mut Random, plan: &mut Plan) {
     let (vertices, length) = (plan.vertices, plan.ends.len());
-    match random.below(6) {
+    match random.below(9) {
         0 => plan.ends.push(random.below(vertices as usize + 1) as u16),
         1 => plan.vertices = [0, 1, 1000, 1001, 65535][random.below(5)],
         2 if random.once_in(20) => crowd(random, plan),
@@ -282,6 +295,7 @@ fn spoil(random: &mut Random, plan: &mut Plan) {
             let at = random.below(length / 2) * 2;
             plan.ends[at] = plan.ends[at + 1];
         }
+        6..=8 => slugs::spoil(random, plan),
         _ => plan.vertices = vertices.saturating_add(1),
     }
 }

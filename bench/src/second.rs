@@ -1,4 +1,6 @@
-//! A second check of a verdict: simple, unproved, and written from document 01 alone.
+//! A second check of a verdict: simple, unproved, and written from document 01 and note 2 of document 02 alone.
+
+use crate::plan::Plan;
 
 const MAX_VERTICES: u16 = 1000;
 const MAX_EDGES: usize = 4000;
@@ -10,8 +12,8 @@ pub struct Answer {
     pub place: u16,
 }
 
-/// A check: from the vertices, the ends of the edges, the kind and the list of a verdict to the answer.
-pub type Check = fn(u16, &[u16], u16, &[u16]) -> Answer;
+/// A check: from the plan, the kind and the list of a verdict to the answer.
+pub type Check = fn(&Plan, u16, &[u16]) -> Answer;
 
 type Outcome = Result<(), Answer>;
 
@@ -24,33 +26,35 @@ fn require(holds: bool, number: u16, place: usize) -> Outcome {
     if holds { Ok(()) } else { refuse(number, place) }
 }
 
-/// The answer to a verdict, a kind and a list, about a graph.
-pub fn check(vertices: u16, ends: &[u16], kind: u16, list: &[u16]) -> Answer {
+/// The answer to a verdict, a kind and a list, about a plan.
+pub fn check(plan: &Plan, kind: u16, list: &[u16]) -> Answer {
     let passed = Answer {
         number: 0,
         place: 0,
     };
-    judge(vertices, ends, kind, list).err().unwrap_or(passed)
+    judge(plan, kind, list).err().unwrap_or(passed)
 }
 
-fn judge(vertices: u16, ends: &[u16], kind: u16, list: &[u16]) -> Outcome {
-    admit(vertices, ends)?;
+fn judge(plan: &Plan, kind: u16, list: &[u16]) -> Outcome {
+    admit(plan)?;
+    let graph = Graph::new(plan);
     match kind {
-        0 => firm(vertices, ends, list),
-        1 => weak(vertices, ends, list),
+        0 => firm(&graph, list),
+        1 => weak(&graph, list),
         _ => refuse(9, 0),
     }
 }
 
-/// The graph's own refusals, 1 to 5.
-pub fn admit(vertices: u16, ends: &[u16]) -> Outcome {
+/// The plan's own refusals: 1 to 5, then 18 and 19.
+pub fn admit(plan: &Plan) -> Outcome {
+    let (vertices, ends) = (plan.vertices, &plan.ends);
     require(ends.len().is_multiple_of(2), 1, 0)?;
     admit_counts(vertices, ends.len() / 2)?;
     for (edge, pair) in ends.chunks_exact(2).enumerate() {
         require(pair[0] < vertices && pair[1] < vertices, 4, edge)?;
         require(pair[0] != pair[1], 5, edge)?;
     }
-    Ok(())
+    admit_slugs(vertices, &plan.excluded)
 }
 
 /// 2 and 3.
@@ -59,23 +63,63 @@ pub fn admit_counts(vertices: u16, edges: usize) -> Outcome {
     require(edges <= MAX_EDGES, 3, 0)
 }
 
+/// 18, and then 19: slugs are vertices, ascending, and two vertices or more are kept.
+fn admit_slugs(vertices: u16, slugs: &[u16]) -> Outcome {
+    for (position, &slug) in slugs.iter().enumerate() {
+        let above = position == 0 || slugs[position - 1] < slug;
+        require(slug < vertices && above, 18, position)?;
+    }
+    require(slugs.len() + 2 <= vertices as usize, 19, 0)
+}
+
+/// The vertices that are kept and the edges between them, of a plan that is admitted.
+struct Graph<'a> {
+    ends: &'a [u16],
+    /// Whether each vertex is kept, and each edge.
+    vertices: Vec<bool>,
+    edges: Vec<bool>,
+}
+
+impl<'a> Graph<'a> {
+    fn new(plan: &'a Plan) -> Graph<'a> {
+        let mut vertices = vec![true; plan.vertices as usize];
+        for &slug in &plan.excluded {
+            vertices[slug as usize] = false;
+        }
+        let both = |pair: &[u16]| vertices[pair[0] as usize] && vertices[pair[1] as usize];
+        let edges = plan.ends.chunks_exact(2).map(both).collect();
+        Graph {
+            ends: &plan.ends,
+            vertices,
+            edges,
+        }
+    }
+
+    fn has(&self, edge: u16) -> bool {
+        self.edges.get(edge as usize) == Some(&true)
+    }
+}
+
+fn count(marks: &[bool]) -> usize {
+    marks.iter().filter(|&&mark| mark).count()
+}
+
 /// A weak list: at most two edges, ascending, without which the graph is not connected.
-fn weak(vertices: u16, ends: &[u16], list: &[u16]) -> Outcome {
+fn weak(graph: &Graph, list: &[u16]) -> Outcome {
     require(list.len() <= 2, 9, 0)?;
     for (position, &edge) in list.iter().enumerate() {
-        let known = (edge as usize) < ends.len() / 2;
         let above = position == 0 || list[position - 1] < edge;
-        require(known && above, 11, position)?;
+        require(graph.has(edge) && above, 11, position)?;
     }
-    require(components(vertices, ends, list) > 1, 17, 0)
+    require(components(graph, list) > 1, 17, 0)
 }
 
 /// How many components there are without some edges: each edge that joins two makes one fewer.
-fn components(vertices: u16, ends: &[u16], lost: &[u16]) -> usize {
-    let mut parent: Vec<u16> = (0..vertices).collect();
-    let mut count = vertices as usize;
-    for (edge, pair) in ends.chunks_exact(2).enumerate() {
-        if !lost.contains(&(edge as u16)) {
+fn components(graph: &Graph, lost: &[u16]) -> usize {
+    let mut parent: Vec<u16> = (0..graph.vertices.len() as u16).collect();
+    let mut count = count(&graph.vertices);
+    for (edge, pair) in graph.ends.chunks_exact(2).enumerate() {
+        if graph.edges[edge] && !lost.contains(&(edge as u16)) {
             let a = root(&mut parent, pair[0]);
             let b = root(&mut parent, pair[1]);
             if a != b {
@@ -112,10 +156,10 @@ fn row(numbers: &[u16]) -> Row {
 }
 
 /// A firm list: the rows in turn, each step when its last row is there, and the closing rule.
-fn firm(vertices: u16, ends: &[u16], list: &[u16]) -> Outcome {
-    require(list.len() == 3 * (ends.len() / 2), 9, 0)?;
+fn firm(graph: &Graph, list: &[u16]) -> Outcome {
+    require(list.len() == 3 * count(&graph.edges), 9, 0)?;
     let rows: Vec<Row> = list.chunks_exact(3).map(row).collect();
-    let mut build = Build::new(vertices, ends);
+    let mut build = Build::new(graph);
     for (place, row) in rows.iter().enumerate() {
         build.take(row, place)?;
         let next = rows.get(place + 1);
@@ -128,7 +172,7 @@ fn firm(vertices: u16, ends: &[u16], list: &[u16]) -> Outcome {
 
 /// What is built by the whole steps, and the walk of the step after them.
 struct Build<'a> {
-    ends: &'a [u16],
+    graph: &'a Graph<'a>,
     /// How many steps are whole.
     steps: u16,
     /// The step number of the last row.
@@ -149,16 +193,17 @@ struct Build<'a> {
 }
 
 impl<'a> Build<'a> {
-    fn new(vertices: u16, ends: &'a [u16]) -> Build<'a> {
+    fn new(graph: &'a Graph<'a>) -> Build<'a> {
+        let vertices = graph.vertices.len();
         Build {
-            ends,
+            graph,
             steps: 0,
             last: None,
-            used: vec![false; ends.len() / 2],
-            degree: vec![0; vertices as usize],
-            first: vec![[0; 2]; vertices as usize],
+            used: vec![false; graph.edges.len()],
+            degree: vec![0; vertices],
+            first: vec![[0; 2]; vertices],
             poles: [0; 2],
-            new: vec![0; vertices as usize],
+            new: vec![0; vertices],
             walk: Vec::new(),
             path: Vec::new(),
         }
@@ -166,7 +211,7 @@ impl<'a> Build<'a> {
 
     fn ends(&self, edge: u16) -> [u16; 2] {
         let at = 2 * edge as usize;
-        [self.ends[at], self.ends[at + 1]]
+        [self.graph.ends[at], self.graph.ends[at + 1]]
     }
 
     /// The other end of an edge.
@@ -195,7 +240,7 @@ impl<'a> Build<'a> {
     fn take(&mut self, row: &Row, place: usize) -> Outcome {
         require(self.counts(row.step), 10, place)?;
         let edge = row.edge as usize;
-        require(edge < self.used.len() && !self.used[edge], 11, place)?;
+        require(self.graph.has(row.edge) && !self.used[edge], 11, place)?;
         let comes = self.path.last().is_none_or(|&at| at == row.from);
         require(self.ends(row.edge).contains(&row.from) && comes, 12, place)?;
         self.last = Some(row.step);
@@ -289,9 +334,10 @@ impl<'a> Build<'a> {
         self.steps += 1;
     }
 
-    /// 16: three steps or more, and three edges or more at each vertex.
+    /// 16: three steps or more, and three edges or more at each vertex that is kept.
     fn close(&self) -> Outcome {
-        let all = self.degree.iter().all(|&degree| degree >= 3);
-        require(self.steps >= 3 && all, 16, 0)
+        let mut all = self.degree.iter().zip(&self.graph.vertices);
+        let closed = all.all(|(&degree, &kept)| degree >= 3 || !kept);
+        require(self.steps >= 3 && closed, 16, 0)
     }
 }

@@ -3,17 +3,11 @@
 
 use crate::firm_shapes::firm;
 use crate::grow::{Family, grow};
+use crate::plan::Plan;
 use crate::random::Random;
 use crate::weak_shapes::weak;
 
 pub const MAX_PIECES: usize = 1000;
-
-/// A graph without a verdict.
-#[derive(Clone, Debug)]
-pub struct Plan {
-    pub vertices: u16,
-    pub ends: Vec<u16>,
-}
 
 /// How the tabs of a shape are numbered: as they are drawn, from the last to the first, or at random.
 #[derive(Clone, Copy)]
@@ -86,8 +80,8 @@ impl Drawn {
         let case = grow(random, family, pieces, tabs);
         let tab = |pair: &[u16]| [pair[0] as usize, pair[1] as usize];
         Drawn {
-            pieces: case.vertices as usize,
-            tabs: case.ends.chunks_exact(2).map(tab).collect(),
+            pieces: case.plan.vertices as usize,
+            tabs: case.plan.ends.chunks_exact(2).map(tab).collect(),
         }
     }
 
@@ -115,10 +109,8 @@ impl Drawn {
                 tabs = places.iter().map(|&i| tabs[i as usize]).collect();
             }
         }
-        Plan {
-            vertices: self.pieces as u16,
-            ends: tabs.iter().flatten().map(|&v| v as u16).collect(),
-        }
+        let ends = tabs.iter().flatten().map(|&v| v as u16);
+        Plan::whole(self.pieces as u16, ends.collect())
     }
 }
 

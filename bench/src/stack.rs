@@ -2,16 +2,18 @@
 //!
 //! Each call is made on a stack of its own: a block of memory, painted before, to whose upper end the stack pointer is set for the
 //! call alone. What the call takes is the distance from there down to the lowest byte that has lost its paint. That includes the
-//! return address and what `memcpy` and `memset` of this machine's C library take, and nothing of the caller: all arguments go
-//! in registers. A byte that is written with the paint's own value would not show, so each call is made on two paints.
+//! arguments behind the sixth, which do not go in registers, the return address, and what `memcpy` and `memset` of this machine's C
+//! library take, and nothing else of the caller. A byte that is written with the paint's own value would not show, so each call is made on two paints.
 //! What a function sets aside below its lowest write does not show, and needs no memory.
 
 use crate::archive::{self, Exported};
 use crate::damage::number;
 use crate::group_shapes::grouped;
-use crate::grow::{Case, Family, grow};
+use crate::grow::{Family, grow};
+use crate::plan::{Case, Plan};
 use crate::random::Random;
-use crate::shapes::{ORDERS, Order, Plan, shapes};
+use crate::shapes::{ORDERS, Order, shapes};
+use crate::slugs;
 use crate::table::{head, row, whole};
 use crate::texts;
 use std::arch::asm;
@@ -24,6 +26,10 @@ const PIECES: usize = 1000;
 const TABS: usize = 4000;
 /// Damaged ones of each verdict and each plan.
 const DAMAGED: usize = 8;
+/// Slugs of a plan that has any; each has four tabs.
+const SLUGS: usize = 125;
+/// How many arguments go in registers.
+const REGISTERS: usize = 6;
 /// The block, in words of 16 bytes, and its two paints.
 const WORDS: usize = 1 << 14;
 const PAINTS: [u128; 2] = [
@@ -68,13 +74,18 @@ fn asked(name: &str) -> Result<usize, String> {
     bytes.ok_or(format!("no header says how much stack {name} takes"))
 }
 
-/// The deepest use of each function over firm, weak, refused, damaged and rejected inputs of 1,000 pieces and 4,000 tabs.
+/// The deepest use of each function over firm, weak, refused, damaged and rejected inputs of 1,000 pieces and 4,000 tabs, without slugs and with.
 fn measure() -> Result<Vec<Use>, String> {
     let mut random = Random::new(1);
     let mut stack = Stack::new();
     for family in [Family::Short, Family::Long, Family::Far] {
         let case = grow(&mut random, family, PIECES, TABS);
         stack.verdicts(&mut random, &case)?;
+        let mut kept = grow(&mut random, family, PIECES - SLUGS, TABS - 4 * SLUGS);
+        slugs::put_many(&mut random, &mut kept, SLUGS as u16);
+        stack.verdicts(&mut random, &kept)?;
+        stack.plans(&mut random, &kept.plan)?;
+        stack.plan_groups(&mut random, &kept.plan)?;
     }
     for shape in shapes() {
         for order in ORDERS {
@@ -109,14 +120,14 @@ impl Stack {
     }
 
     /// Makes a call on each paint and keeps what it took, if that is the most so far.
-    fn call(&mut self, which: Exported, words: [usize; 6]) -> Result<u64, String> {
+    fn call(&mut self, which: Exported, words: &[usize]) -> Result<u64, String> {
         let (address, _) = archive::EXPORTED[which as usize];
         let mut told = [0; 2];
         for (paint, told) in PAINTS.into_iter().zip(&mut told) {
             self.block.fill(paint);
-            let top = self.block.as_mut_ptr_range().end;
+            let top = self.arguments(words);
             // SAFETY: the words are what the function asks for, and the block is not used meanwhile but as its stack.
-            *told = unsafe { on_stack(top, address, words) };
+            *told = unsafe { on_stack(top, address, in_registers(words)) };
             let bytes = self.taken(paint)?;
             let deepest = &mut self.uses[which as usize].bytes;
             *deepest = bytes.max(*deepest);
@@ -126,6 +137,20 @@ impl Stack {
             return Err(format!("two answers to one input: {told:?}"));
         }
         Ok(told[0])
+    }
+
+    /// Puts the words behind the sixth at the end of the block; there are at most two. What they leave of it is the stack below them.
+    fn arguments(&mut self, words: &[usize]) -> *mut u128 {
+        let behind = words.get(REGISTERS..).unwrap_or(&[]);
+        if let Some(last) = self.block.last_mut().filter(|_| !behind.is_empty()) {
+            *last = 0;
+            for (i, &word) in behind.iter().enumerate() {
+                *last |= (word as u128) << (64 * i);
+            }
+        }
+        let range = self.block.as_mut_ptr_range();
+        let used = behind.len().div_ceil(2);
+        range.end.wrapping_sub(used)
     }
 
     /// How many bytes there are from the lowest one that has lost its paint to the end of the block.
@@ -142,24 +167,17 @@ impl Stack {
         Ok((WORDS - kept) * 16 - more.count())
     }
 
-    fn check(&mut self, case: &Case) -> Result<(), String> {
-        let Case {
-            vertices,
-            ends,
-            kind,
-            list,
-        } = case;
-        let (pieces, kind) = (*vertices as usize, *kind as usize);
-        let [ends, count] = [ends.as_ptr() as usize, ends.len()];
-        let [list, length] = [list.as_ptr() as usize, list.len()];
-        self.call(Exported::Check, [pieces, ends, count, kind, list, length])?;
-        Ok(())
+    fn check(&mut self, case: &Case) -> Result<u64, String> {
+        let mut words = plan_words(&case.plan);
+        let list = &case.list;
+        words.extend([case.kind as usize, list.as_ptr() as usize, list.len()]);
+        self.call(Exported::Check, &words)
     }
 
     fn check_texts(&mut self, plan: &[u8], verdict: &[u8]) -> Result<(), String> {
         let [text, length] = [verdict.as_ptr() as usize, verdict.len()];
-        let words = [plan.as_ptr() as usize, plan.len(), text, length, 0, 0];
-        self.call(Exported::CheckTexts, words)?;
+        let words = [plan.as_ptr() as usize, plan.len(), text, length];
+        self.call(Exported::CheckTexts, &words)?;
         Ok(())
     }
 
@@ -179,7 +197,7 @@ impl Stack {
             texts::damage(random, &mut plan);
             self.check_texts(&plan, &verdict)?;
         }
-        let last = (case.ends.len() / 2) as u16 - 1;
+        let last = case.plan.tabs() as u16 - 1;
         for kind in 0..4 {
             for list in [vec![], vec![last], vec![0, last], vec![last, 0, 0]] {
                 let case = case.clone();
@@ -197,30 +215,28 @@ impl Stack {
     }
 
     fn verdict(&mut self, plan: &Plan, rows: &mut [u16]) -> Result<u64, String> {
-        let [ends, count] = [plan.ends.as_ptr() as usize, plan.ends.len()];
-        let [list, length] = [rows.as_mut_ptr() as usize, rows.len()];
-        let words = [plan.vertices as usize, ends, count, list, length, 0];
-        self.call(Exported::Verdict, words)
+        let mut words = plan_words(plan);
+        words.extend([rows.as_mut_ptr() as usize, rows.len()]);
+        self.call(Exported::Verdict, &words)
     }
 
     fn verdict_text(&mut self, plan: &[u8], text: &mut [u8]) -> Result<usize, String> {
         let [written, length] = [text.as_mut_ptr() as usize, text.len()];
-        let words = [plan.as_ptr() as usize, plan.len(), written, length, 0, 0];
-        Ok(self.call(Exported::VerdictText, words)? as usize)
+        let words = [plan.as_ptr() as usize, plan.len(), written, length];
+        Ok(self.call(Exported::VerdictText, &words)? as usize)
     }
 
     fn groups(&mut self, plan: &Plan, table: &mut [u16]) -> Result<(), String> {
-        let [ends, count] = [plan.ends.as_ptr() as usize, plan.ends.len()];
-        let [list, length] = [table.as_mut_ptr() as usize, table.len()];
-        let words = [plan.vertices as usize, ends, count, list, length, 0];
-        self.call(Exported::Groups, words)?;
+        let mut words = plan_words(plan);
+        words.extend([table.as_mut_ptr() as usize, table.len()]);
+        self.call(Exported::Groups, &words)?;
         Ok(())
     }
 
     fn groups_text(&mut self, plan: &[u8], text: &mut [u8]) -> Result<usize, String> {
         let [written, length] = [text.as_mut_ptr() as usize, text.len()];
-        let words = [plan.as_ptr() as usize, plan.len(), written, length, 0, 0];
-        Ok(self.call(Exported::GroupsText, words)? as usize)
+        let words = [plan.as_ptr() as usize, plan.len(), written, length];
+        Ok(self.call(Exported::GroupsText, &words)? as usize)
     }
 
     /// The groups of a plan as it is, with too little space, refused and damaged, as numbers and as texts.
@@ -228,16 +244,14 @@ impl Stack {
         let mut table = vec![0; plan.vertices as usize];
         self.groups(plan, &mut table)?;
         self.groups(plan, &mut table[1..])?;
-        let text = texts::write(plan.vertices, &plan.ends, 2);
+        let text = texts::write_plan(plan);
         let mut written = vec![0; 11 * table.len()];
         let length = self.groups_text(&text, &mut written)?;
         self.groups_text(&text, &mut written[..length - 1])?;
         for _ in 0..DAMAGED {
-            let mut damaged = plan.clone();
-            let at = random.below(plan.ends.len());
-            damaged.ends[at] = random.below(PIECES + 1) as u16;
+            let damaged = damaged(random, plan);
             self.groups(&damaged, &mut table)?;
-            let mut text = texts::write(damaged.vertices, &damaged.ends, 2);
+            let mut text = texts::write_plan(&damaged);
             texts::damage(random, &mut text);
             self.groups_text(&text, &mut written)?;
         }
@@ -246,31 +260,30 @@ impl Stack {
 
     /// A plan as it is, with too little space, refused and damaged, and the check of what is written, as numbers and as texts.
     fn plans(&mut self, random: &mut Random, plan: &Plan) -> Result<(), String> {
-        let tabs = plan.ends.len() / 2;
-        let mut rows = vec![0; tabs * 3];
+        let tabs = plan.tabs();
+        let mut rows = vec![0; plan.record()];
         let told = self.verdict(plan, &mut rows)?;
         let [kind, count, first, second] = [48, 32, 16, 0].map(|bits| (told >> bits) as u16);
         let cut = [first, second][..(count as usize).min(2)].to_vec();
-        let (vertices, ends) = (plan.vertices, plan.ends.clone());
         let list = if kind == 0 { rows.clone() } else { cut };
-        self.check(&Case {
-            vertices,
-            ends,
+        let case = Case {
+            plan: plan.clone(),
             kind,
             list,
-        })?;
+        };
+        if self.check(&case)? != 0 {
+            return Err(format!("the verdict does not pass: {case:?}"));
+        }
         self.verdict(plan, &mut rows[1..])?;
-        let text = texts::write(plan.vertices, &plan.ends, 2);
+        let text = texts::write_plan(plan);
         let mut written = vec![0; 16 * tabs + 11];
         let length = self.verdict_text(&text, &mut written)?;
         self.check_texts(&text, &written[..length])?;
         self.verdict_text(&text, &mut written[..length - 1])?;
         for _ in 0..DAMAGED {
-            let mut damaged = plan.clone();
-            let at = random.below(2 * tabs);
-            damaged.ends[at] = random.below(PIECES + 1) as u16;
+            let damaged = damaged(random, plan);
             self.verdict(&damaged, &mut rows)?;
-            let mut text = texts::write(damaged.vertices, &damaged.ends, 2);
+            let mut text = texts::write_plan(&damaged);
             self.verdict_text(&text, &mut written)?;
             texts::damage(random, &mut text);
             self.verdict_text(&text, &mut written)?;
@@ -279,20 +292,49 @@ impl Stack {
     }
 }
 
+/// A plan with an end or its slugs changed.
+fn damaged(random: &mut Random, plan: &Plan) -> Plan {
+    let mut damaged = plan.clone();
+    if random.once_in(4) {
+        slugs::spoil(random, &mut damaged);
+    } else {
+        let at = random.below(plan.ends.len());
+        damaged.ends[at] = random.below(PIECES + 1) as u16;
+    }
+    damaged
+}
+
 /// The texts of a plan and of a verdict, also of one that has none.
 fn texts_of(case: &Case) -> [Vec<u8>; 2] {
     let columns = if case.kind == 0 { 3 } else { 1 };
     [
-        texts::write(case.vertices, &case.ends, 2),
+        texts::write_plan(&case.plan),
         texts::write(case.kind, &case.list, columns),
     ]
 }
 
-/// Calls a function with these words as its arguments, on the stack that ends at `top`.
+/// A plan as the first arguments of a function.
+fn plan_words(plan: &Plan) -> Vec<usize> {
+    let (ends, slugs) = (&plan.ends, &plan.excluded);
+    vec![
+        plan.vertices as usize,
+        ends.as_ptr() as usize,
+        ends.len(),
+        slugs.as_ptr() as usize,
+        slugs.len(),
+    ]
+}
+
+/// The first arguments; those that are not there are 0.
+fn in_registers(words: &[usize]) -> [usize; REGISTERS] {
+    std::array::from_fn(|i| words.get(i).copied().unwrap_or(0))
+}
+
+/// Calls a function with these words as its first arguments, on the stack that ends at `top`; the other arguments stand there.
 ///
 /// # Safety
 /// The function must take the words as its arguments, and the block below `top` must be large enough and its own for the call.
-unsafe fn on_stack(top: *mut u128, function: *const (), words: [usize; 6]) -> u64 {
+unsafe fn on_stack(top: *mut u128, function: *const (), words: [usize; REGISTERS]) -> u64 {
     let told;
     // SAFETY: r12 keeps the stack pointer, as the convention has the function preserve it; all that it may change is named.
     unsafe {

@@ -1,6 +1,6 @@
-//! A second reading of plan and verdict texts, written from document 01 alone, and random texts to read.
+//! A second reading of plan and verdict texts, written from document 01 and note 2 of document 02 alone, and random texts to read.
 
-use crate::grow::Case;
+use crate::plan::{Case, Plan};
 use crate::random::Random;
 use crate::second::{self, Answer};
 
@@ -12,10 +12,9 @@ pub fn check(plan: &[u8], verdict: &[u8]) -> Answer {
 }
 
 fn judge(plan: &[u8], verdict: &[u8]) -> Result<Answer, Answer> {
-    let (vertices, ends) = read_plan(plan)?;
-    second::admit(vertices, &ends)?;
+    let plan = read_plan(plan)?;
     let (kind, list) = read_verdict(verdict)?;
-    Ok(second::check(vertices, &ends, kind, &list))
+    Ok(second::check(&plan, kind, &list))
 }
 
 fn refused(number: u16) -> Answer {
@@ -57,12 +56,39 @@ fn header(text: &[u8]) -> Option<(u16, u16, &[u8])> {
     Some((numbers[0], numbers[1], rest))
 }
 
-/// The plan of a text, if it is in the form and 2 and 3 do not apply.
-pub fn read_plan(text: &[u8]) -> Result<(u16, Vec<u16>), Answer> {
-    let (vertices, edges, rest) = header(text).ok_or(refused(7))?;
+/// The pieces, the tabs and the slugs of a plan's first line, and the text behind it: two columns where there is no slug, else three.
+fn plan_header(text: &[u8]) -> Option<(u16, u16, u16, &[u8])> {
+    if let Some((vertices, edges, rest)) = header(text) {
+        return Some((vertices, edges, 0, rest));
+    }
+    let (first, rest) = text.split_at_checked(3 * WIDTH + 1)?;
+    let numbers = lines(first, 1, 3)?;
+    let (vertices, slugs) = (numbers[0], numbers[2]);
+    let fits = 0 < slugs && slugs <= vertices;
+    fits.then_some((vertices, numbers[1], slugs, rest))
+}
+
+/// The numbers of the lines of tabs and of those of slugs.
+fn plan_lines(text: &[u8], edges: u16, slugs: u16) -> Option<[Vec<u16>; 2]> {
+    let (tabs, behind) = text.split_at_checked(edges as usize * (2 * WIDTH + 1))?;
+    Some([
+        lines(tabs, edges as usize, 2)?,
+        lines(behind, slugs as usize, 1)?,
+    ])
+}
+
+/// The plan of a text, if it is in the form and admitted.
+pub fn read_plan(text: &[u8]) -> Result<Plan, Answer> {
+    let (vertices, edges, slugs, rest) = plan_header(text).ok_or(refused(7))?;
     second::admit_counts(vertices, edges as usize)?;
-    let ends = lines(rest, edges as usize, 2).ok_or(refused(7))?;
-    Ok((vertices, ends))
+    let [ends, excluded] = plan_lines(rest, edges, slugs).ok_or(refused(7))?;
+    let plan = Plan {
+        vertices,
+        ends,
+        excluded,
+    };
+    second::admit(&plan)?;
+    Ok(plan)
 }
 
 fn read_verdict(text: &[u8]) -> Result<(u16, Vec<u16>), Answer> {
@@ -70,7 +96,7 @@ fn read_verdict(text: &[u8]) -> Result<(u16, Vec<u16>), Answer> {
     let (rows, columns) = match (kind, count) {
         (0, 0..=4000) => (count, 3),
         (1, 0..=2) => (count, 1),
-        (2, 1..=7) => (0, 1),
+        (2, 1..=7 | 18 | 19) => (0, 1),
         _ => return Err(refused(8)),
     };
     let list = lines(rest, rows as usize, columns).ok_or(refused(8))?;
@@ -80,19 +106,92 @@ fn read_verdict(text: &[u8]) -> Result<(u16, Vec<u16>), Answer> {
 /// The texts of a case, some of them damaged.
 pub fn random_texts(random: &mut Random, case: &Case) -> [Vec<u8>; 2] {
     let columns = if case.kind == 0 { 3 } else { 1 };
-    let mut plan = write(case.vertices, &case.ends, 2);
+    let plan = random_plan(random, &case.plan, 4);
     let mut verdict = write(case.kind, &case.list, columns);
     if random.once_in(8) {
-        verdict = write(2, &[], 1);
-        verdict[2 * WIDTH - 1] = b'0' + random.below(10) as u8;
-    }
-    while random.once_in(4) {
-        damage(random, &mut plan);
+        verdict = format!("{:>5}{:>5}\n", 2, random.below(22)).into_bytes();
     }
     while random.once_in(4) {
         damage(random, &mut verdict);
     }
     [plan, verdict]
+}
+
+/// The text of a plan; one of so many has a byte changed, one of twice so many its lines.
+pub fn random_plan(random: &mut Random, plan: &Plan, times: usize) -> Vec<u8> {
+    let mut lines = plan_rows(plan);
+    while random.once_in(2 * times) {
+        change(random, &mut lines, plan);
+    }
+    let mut text = text_of(&lines);
+    while random.once_in(times) {
+        damage(random, &mut text);
+    }
+    text
+}
+
+/// The text of a plan, also of one that has none: an end too many stands alone on its line.
+pub fn write_plan(plan: &Plan) -> Vec<u8> {
+    text_of(&plan_rows(plan))
+}
+
+/// The numbers of each line.
+type Rows = Vec<Vec<u32>>;
+
+fn plan_rows(plan: &Plan) -> Rows {
+    let tabs = plan.ends.chunks(2);
+    let counts = [plan.vertices as usize, tabs.len(), plan.excluded.len()];
+    let columns = if counts[2] == 0 { 2 } else { 3 };
+    let mut rows = vec![counts[..columns].iter().map(|&n| n as u32).collect()];
+    let numbers = |row: &[u16]| row.iter().map(|&n| n as u32).collect();
+    rows.extend(tabs.chain(plan.excluded.chunks(1)).map(numbers));
+    rows
+}
+
+fn text_of(rows: &Rows) -> Vec<u8> {
+    let mut text = String::new();
+    for row in rows {
+        row.iter()
+            .for_each(|number| text += &format!("{number:>5}"));
+        text += "\n";
+    }
+    text.into_bytes()
+}
+
+/// A third column that the form does not have or that tells a wrong count, lines too few or too many or in other places, a line with another
+/// number of columns, or a number above 65,535 that looks like the right one in sixteen bits.
+fn change(random: &mut Random, rows: &mut Rows, plan: &Plan) {
+    let at = random.below(rows.len()).max(random.below(rows.len()));
+    match random.below(12) {
+        0 => third(rows, 0),
+        1 => third(rows, plan.vertices as u32 + 1 + random.below(3) as u32),
+        2 => rows[0].truncate(2),
+        3 => third(rows, plan.excluded.len() as u32 + 1),
+        4 => third(rows, plan.excluded.len().saturating_sub(1) as u32),
+        5 => rows[0].push(random.below(3) as u32),
+        6 => rows[at].push(random.below(plan.vertices as usize + 1) as u32),
+        7 if rows.len() > 1 => _ = rows.remove(at),
+        8 => rows.push(vec![random.below(plan.vertices as usize + 1) as u32]),
+        9 => {
+            let behind = plan.excluded.len().min(rows.len() - 1);
+            rows[1..].rotate_right(behind);
+        }
+        10 => _ = rows[at].pop(),
+        _ => {
+            let column = random.below(rows[at].len().max(1));
+            rows[at]
+                .iter_mut()
+                .skip(column)
+                .take(1)
+                .for_each(|n| *n += 65536);
+        }
+    }
+}
+
+/// A header with this third column.
+fn third(rows: &mut Rows, count: u32) {
+    rows[0].truncate(2);
+    rows[0].push(count);
 }
 
 /// A header with a number and the count of the lines, then the lines.

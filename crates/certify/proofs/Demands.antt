@@ -1,12 +1,13 @@
 -- The three demands on check and writer (01), in their order, for every plan and every list of numbers that anyone offers. Nothing here
 -- speaks of a mark, a search or a row in turn: `ThreeEdgeConnected` is document 003's, `Builds` is 01's "builds the plan by Mader's steps",
 -- `Cut` 01's weak list (two tabs at most, ascending, the plan's, that part the sheet), `LowestCut` the fewest and lowest; `judge` is what
--- the contract of the check says that it answers, `Answered` the contract of the writer.
+-- the contract of the check says that it answers, `Answered` the contract of the writer. A plan carries its slugs (02); its tabs are the kept
+-- ones, its pieces the kept ones: `graph p` has no others.
 use mathlib.Core.Path.{_≡_, refl, ap, _∙_}
 use mathlib.Core.Logic.{_⊎_, inl, inr, _↔_}
 use mathlib.Core.List.{List}
 use mathlib.Core.Option.{Option, none, some}
-use Prim.Native.Nat.{ℕ, _*_, _/_, _≤_, _<_}
+use Prim.Native.Nat.{ℕ, _*_, _≤_, _<_}
 use native.Mathlib.Omega.{arith}
 use native.Mathlib.Decide.{ℕ-discrete}
 use lib.ListN.{length, take}
@@ -14,10 +15,10 @@ use Rattle.connectivity.specs.Plan.{Plan, graph, Limits}
 use Rattle.connectivity.specs.Reach.{ThreeEdgeConnected}
 use Rattle.connectivity.specs.Cut.{Cut, LowestCut, lowestCut}
 use Rattle.connectivity.specs.Mader.{Builds}
-use Rattle.connectivity.specs.Admission.{Admitted, answer, passed, refusal, admission}
+use Rattle.connectivity.specs.Admission.{keptEdges, Admitted, answer, passed, refusal, admission}
 use Rattle.connectivity.specs.Verdict.{verdictHanded}
 use Rattle.connectivity.specs.Judge.{judge}
-use Rattle.connectivity.proofs.Admission.{admitted-edges, admitted-vertex}
+use Rattle.connectivity.proofs.Kept.{two-kept}
 use Rattle.connectivity.proofs.LowestCut.{lowest-cut, three-edge-connected}
 use Rattle.connectivity.proofs.Judge as judged
 use Rattle.connectivity.proofs.Verdict.{verdict-refused, verdict-short, verdict-firm, verdict-weak}
@@ -43,10 +44,10 @@ module _ {most : Limits} {p : Plan} where
     unfolding verdictHanded
     writer-refused h = c .answer ∙ ap verdictHanded (verdict-refused most p (length before) h)
 
-    -- then 6 where fewer than three numbers for each tab are lent
-    pub writer-short : Admitted most p → length before < 3 * (length (p .ends) / 2) → handed found ≡ refusal (answer 6 0)
+    -- then 6 where fewer than three numbers for each kept tab are lent
+    pub writer-short : Admitted most p → length before < 3 * keptEdges p → handed found ≡ refusal (answer 6 0)
     unfolding verdictHanded
-    writer-short a h = c .answer ∙ ap verdictHanded (verdict-short a (length before) (omega (arith, h, admitted-edges a)))
+    writer-short a h = c .answer ∙ ap verdictHanded (verdict-short a (length before) h)
 
     pub writer-unchanged : (found .outcome ≡ Firm → ⊥) → after ≡ before
     writer-unchanged h = c .kept .unchanged (λ v. h (firm-told c v))
@@ -60,8 +61,8 @@ module _ {most : Limits} {p : Plan} (a : Admitted most p) where
   -- Demand 2. The verdict is firm exactly when the plan is 3-edge-connected, otherwise weak, naming the fewest tabs whose loss parts the
   -- sheet, the lowest such set. (That texts survive writing and reading: `text/proofs/RoundTrip`.)
 
-  module _ {before after : List ℕ} {found : Finding} (room : 3 * (length (p .ends) / 2) ≤ length before) (c : Answered most p before after found) where
-    -- where three numbers for each tab are lent, the writer answers firm or weak
+  module _ {before after : List ℕ} {found : Finding} (room : 3 * keptEdges p ≤ length before) (c : Answered most p before after found) where
+    -- where three numbers for each kept tab are lent, the writer answers firm or weak
     pub answers : (found .outcome ≡ Firm) ⊎ (found .outcome ≡ Weak)
     answers = go (found .outcome) refl
       where
@@ -72,11 +73,11 @@ module _ {most : Limits} {p : Plan} (a : Admitted most p) where
 
     pub ours-firm : (found .outcome ≡ Firm) ↔ ThreeEdgeConnected (graph p)
     ours-firm =
-        let v = verdict-firm a (length before) (omega (arith, room, admitted-edges a)) in
+        let v = verdict-firm a (length before) room in
         (λ q. v .0 (found-firm a room c q), λ t. firm-told c (v .1 t))
 
     pub ours-weak : found .outcome ≡ Weak → LowestCut (graph p) (named (found .cut))
-    ours-weak q = verdict-weak a (length before) (omega (arith, room, admitted-edges a)) (named (found .cut)) .0 (found-weak a room c q .1)
+    ours-weak q = verdict-weak a (length before) room (named (found .cut)) .0 (found-weak a room c q .1)
 
   -- Demand 3. Which verdicts pass, whatever kind and numbers anyone offers.
 
@@ -104,7 +105,7 @@ module _ {most : Limits} {p : Plan} (a : Admitted most p) where
   some-passes = go (lowestCut (graph p)) refl
     where
       go : (o : Option (List ℕ)) → lowestCut (graph p) ≡ o → ((rows : List ℕ) × Passes 0 rows) ⊎ ((tabs : List ℕ) × Passes 1 tabs)
-      go none q = inl (firm-some .1 (three-edge-connected 0 1 (admitted-vertex a 0 (omega (arith, a .two))) (admitted-vertex a 1 (omega (arith, a .two))) (λ z. omega (arith, z)) .0 q))
+      go none q = let t = two-kept a in inl (firm-some .1 (three-edge-connected (t .low) (t .other) (t .lowest .vertex) (t .vertex) (λ z. omega (arith, z, t .above)) .0 q))
       go (some cut) q = inr (cut, weak-list cut .1 (lowest-cut q .cut))
 
   pub never-both : (rows tabs : List ℕ) → Passes 0 rows → Passes 1 tabs → ⊥
@@ -115,8 +116,8 @@ module _ {most : Limits} {p : Plan} (a : Admitted most p) where
   weak-some = (λ q. judged.weak-not-three most p (q .0) (q .1), λ h. elim some-passes [ inl q ↦ absurd (h (firm-some .0 q)) | inr q ↦ q ])
 
   -- our writer always writes one that passes
-  module _ {before after : List ℕ} {found : Finding} (room : 3 * (length (p .ends) / 2) ≤ length before) (c : Answered most p before after found) where
-    pub record-passes : found .outcome ≡ Firm → Passes 0 (take (3 * (length (p .ends) / 2)) after)
+  module _ {before after : List ℕ} {found : Finding} (room : 3 * keptEdges p ≤ length before) (c : Answered most p before after found) where
+    pub record-passes : found .outcome ≡ Firm → Passes 0 (take (3 * keptEdges p) after)
     record-passes q = c .kept .passes (found-firm a room c q)
 
     pub tabs-pass : found .outcome ≡ Weak → Passes 1 (named (found .cut))

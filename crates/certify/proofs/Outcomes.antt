@@ -2,14 +2,13 @@
 use mathlib.Core.Path.{_≡_, refl, sym, ap, _∙_}
 use mathlib.Core.List.{List, [], _∷_}
 use mathlib.Core.Option.{Option, none, some}
-use Prim.Native.Nat.{ℕ, _*_, _/_, _≤_}
+use Prim.Native.Nat.{ℕ, _*_, _≤_}
 use native.Mathlib.Omega.{arith}
 use lib.ListN.{length, getD, take}
 use Rattle.connectivity.specs.Plan.{Plan, graph, Limits}
 use Rattle.connectivity.specs.Cut.{lowestCut}
-use Rattle.connectivity.specs.Admission.{Handed, served, refusal, Admitted}
+use Rattle.connectivity.specs.Admission.{Handed, served, refusal, keptEdges, Admitted}
 use Rattle.connectivity.specs.Verdict as meaning
-use Rattle.connectivity.proofs.Admission.{admitted-edges}
 use Rattle.connectivity.proofs.Verdict.{reaches, verdict-weak}
 use Rattle.graph.specs.Admission.{answerOf}
 use Rattle.graph.specs.declared.Answer.{Answer}
@@ -77,19 +76,19 @@ pub firm-told : {most : Limits} {p : Plan} {before after : List ℕ} {f : Findin
 unfolding meaning.verdictHanded
 firm-told {f = f} c v = firm-back (f .outcome) (f .cut) (c .answer ∙ ap meaning.verdictHanded v)
 
--- of an admitted plan, where the lent record has three numbers for each edge
-module _ {most : Limits} {p : Plan} {before after : List ℕ} {f : Finding} (a : Admitted most p) (room : 3 * (length (p .ends) / 2) ≤ length before)
+-- of an admitted plan, where the lent record has three numbers for each edge that is kept
+module _ {most : Limits} {p : Plan} {before after : List ℕ} {f : Finding} (a : Admitted most p) (room : 3 * keptEdges p ≤ length before)
     (c : Answered most p before after f) where
   abbrev found : meaning.Verdict
   found = meaning.verdict most p (length before)
 
   pub never-refused : {x : Answer} → f .outcome ≡ Refused x → ⊥
   never-refused q = unrefused (lowestCut (graph p))
-      ((rw q at (c .answer)) ∙ ap meaning.verdictHanded (reaches a (length before) (omega (arith, room, admitted-edges a))))
+      ((rw q at (c .answer)) ∙ ap meaning.verdictHanded (reaches a (length before) room))
 
   pub found-firm : f .outcome ≡ Firm → found ≡ meaning.firm
   found-firm q = firm-only found (rw q at (c .answer))
 
   pub found-weak : f .outcome ≡ Weak → (f .cut .count ≤ 2) × (found ≡ meaning.weak (named (f .cut)))
   found-weak q = weak-only (f .cut) found
-      (λ cut v. verdict-weak a (length before) (omega (arith, room, admitted-edges a)) cut .0 v .cut .small) (rw q at (c .answer))
+      (λ cut v. verdict-weak a (length before) room cut .0 v .cut .small) (rw q at (c .answer))

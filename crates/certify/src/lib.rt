@@ -18,11 +18,12 @@ pub struct Finding {
     pub cut: Lowest,
 }
 
-// The plan's own 1 to 5; 6 unless `rows` has three numbers for each edge; then weak, or firm with the record at the front of `rows`.
-pub fn verdict(vertices: u16, ends: &[u16], rows: &mut [u16]) -> Finding
-    ensures { λ r. ⌜ Answered limits (plan vertices (now (ends .entry))) (now (rows .entry)) (now (rows .exit)) r ⌝ }
+// The plan's own refusals; 6 unless `rows` has three numbers for each edge that is kept; then weak, or firm with the record at the front of
+// `rows`.
+pub fn verdict(vertices: u16, ends: &[u16], excluded: &[u16], rows: &mut [u16]) -> Finding
+    ensures { λ r. ⌜ Answered limits (plan vertices (now (ends .entry)) (now (excluded .entry))) (now (rows .entry)) (now (rows .exit)) r ⌝ }
 {
-    let found = record::write_record(vertices, ends, rows);
+    let found = record::write_record(vertices, ends, excluded, rows);
     match found {
         Lightest::Refused(answer) => said(Outcome::Refused(answer)),
         Lightest::Cut(cut) => Finding {

@@ -3,14 +3,13 @@ use crate::plan::get;
 use crate::random::below;
 use crate::random::draw;
 use crate::random::later;
-use crate::second::at;
 
-// There are ten ways of changing it; this is none.
-pub const NONE: u16 = 10;
+// There are eleven ways of changing it; this is none.
+pub const NONE: u16 = 11;
 
 // How many random numbers are drawn: the way, the row, and one or two more.
 pub(crate) fn draws_of(how: u16) -> u16 {
-    if how < 3 {
+    if how < 3 || how == 10 {
         4
     } else if how < NONE {
         3
@@ -26,23 +25,29 @@ pub struct Sizes {
     pub length: usize,
 }
 
-// Those of a plan's record, or one vertex more, another kind, or one number less.
-pub(crate) fn resized(vertices: u16, edges: u16, how: u16, seed: u32) -> Sizes {
+// Those of a plan's record, or one vertex more, another kind, one number less, or as many as for all edges that are listed.
+pub(crate) fn resized(vertices: u16, edges: u16, listed: u16, how: u16, seed: u32) -> Sizes {
     let mut sizes = Sizes {
         vertices: vertices,
         kind: 0,
         length: 3 * (edges as usize),
     };
     if how == 8 {
-        if vertices < 9 {
+        if vertices < 13 {
             sizes.vertices = vertices + 1;
         }
     }
     if how == 9 {
-        if below(seed, 2) == 0 {
-            sizes.kind = 2;
-        } else if 0 < edges {
-            sizes.length = 3 * (edges as usize) - 1;
+        match below(seed, 3) {
+            0 => {
+                sizes.kind = 2;
+            }
+            1 => {
+                sizes.length = 3 * (listed as usize);
+            }
+            _ => if 0 < edges {
+                sizes.length = 3 * (edges as usize) - 1;
+            },
         }
     }
     sizes
@@ -62,7 +67,7 @@ pub(crate) fn weak_list(edges: u16, seed: u32) -> [u16; 4] {
 // The record of a plan with `edges` edges, with one change in a row or from a row on.
 pub(crate) fn changed(
     record: &[u16; 48],
-    ends: &[u16],
+    ends: &[u16; 48],
     edges: u16,
     how: u16,
     seed: u32,
@@ -76,7 +81,7 @@ pub(crate) fn changed(
 }
 
 // What stands at place i then.
-fn entry(record: &[u16; 48], ends: &[u16], edges: u16, how: u16, seed: u32, i: usize) -> u16 {
+fn entry(record: &[u16; 48], ends: &[u16; 48], edges: u16, how: u16, seed: u32, i: usize) -> u16 {
     let x = draw(seed, 2, edges);
     let third = later(seed, 3);
     match how {
@@ -84,6 +89,7 @@ fn entry(record: &[u16; 48], ends: &[u16], edges: u16, how: u16, seed: u32, i: u
         3 | 4 => get(record, exchanged(i, x, below(third, 14), edges)),
         5 | 6 => other_end(record, ends, i, x),
         7 => step(get(record, i), i, x, below(third, 2)),
+        10 => other_edge(get(record, i), ends, i, x, draw(third, 1, 16)),
         _ => get(record, i),
     }
 }
@@ -117,7 +123,7 @@ fn exchanged(i: usize, x: u16, y: u16, edges: u16) -> usize {
 }
 
 // Row x is walked from its other end.
-fn other_end(record: &[u16; 48], ends: &[u16], i: usize, x: u16) -> u16 {
+fn other_end(record: &[u16; 48], ends: &[u16; 48], i: usize, x: u16) -> u16 {
     if i == 3 * (x as usize) + 2 {
         end_not(ends, get(record, i - 1), get(record, i))
     } else {
@@ -126,10 +132,21 @@ fn other_end(record: &[u16; 48], ends: &[u16], i: usize, x: u16) -> u16 {
 }
 
 // The first end of an edge that is not v.
-fn end_not(ends: &[u16], e: u16, v: u16) -> u16 {
+fn end_not(ends: &[u16; 48], e: u16, v: u16) -> u16 {
     let i = 2 * (e as usize);
-    let first = at(ends, i);
-    if first == v { at(ends, i + 1) } else { first }
+    let first = get(ends, i);
+    if first == v { get(ends, i + 1) } else { first }
+}
+
+// Row x is of edge e, and walked from its first end.
+fn other_edge(old: u16, ends: &[u16; 48], i: usize, x: u16, e: u16) -> u16 {
+    if i == 3 * (x as usize) + 1 {
+        e
+    } else if i == 3 * (x as usize) + 2 {
+        get(ends, 2 * (e as usize))
+    } else {
+        old
+    }
 }
 
 // From row x on each step is one more, or one less.

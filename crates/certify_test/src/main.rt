@@ -21,20 +21,23 @@ const CHANGES: u16 = 6;
 const UNTOUCHED: u16 = 54321;
 
 // A run over the plans of all shapes, as far as it has come, is a list of numbers. For one shape: from 0 on the plans that are firm, weak
-// with 0, 1 and 2 edges, and refused; the fingerprints of the verdicts, and of the records and the answers of the check.
-const VERDICTS: usize = 5;
+// with 0, 1 and 2 edges, and refused; those with excluded vertices that are not refused; the fingerprints of the verdicts, and of the records and
+// the answers of the check.
+const EXCLUDING: usize = 5;
 
-const RECORDS: usize = 6;
+const VERDICTS: usize = 6;
+
+const RECORDS: usize = 7;
 
 // The shape, and the plan of the shape.
-const SHAPE: usize = 7;
+const SHAPE: usize = 8;
 
-const PLAN: usize = 8;
+const PLAN: usize = 9;
 
-// For all shapes: how often the check gave each of 18 answers, and the differences.
+// For all shapes: how often the check gave each of 20 answers, and the differences.
 const ANSWERS: usize = 10;
 
-const DIFFERENCES: usize = 28;
+const DIFFERENCES: usize = 30;
 
 // The parts of the text behind the names of the shapes: a shape's line, and the last lines.
 const LINE: u32 = 8;
@@ -55,7 +58,7 @@ const ANSWER: u32 = 13;
 // Writes one of the parts of a text, which '|' separates. Each '#' in it stands for the next of the numbers.
 fn say(part: u32, numbers: &[u32; 32], first: usize) {
     let text: &[u8] =
-        b"few pieces, many tabs|rings with doubled sides|bodies joined at one piece|parallel tabs|already parted|grown by ears|any|damaged|: firm #, weak with 0, 1, 2 tabs # # #, refused #; fingerprints of the verdicts #, of the records and answers #\n|answers of the check to records, changed records and random weak lists\n 0: #\n 1: #\n 2: #\n 3: #\n 4: #\n 5: #\n 6: #\n 7: #\n 8: #\n 9: #\n 10: #\n 11: #\n 12: #\n 13: #\n 14: #\n 15: #\n 16: #\n 17: #\ndifferences #\n|shape #, plan #: the verdict\n|shape #, plan #: rows that are no record are touched\n|shape #, plan #: the verdict does not pass\n|shape #, plan #: the answer of the check\n";
+        b"few pieces, many tabs|rings with doubled sides|bodies joined at one piece|parallel tabs|already parted|grown by ears|any|damaged|: firm #, weak with 0, 1, 2 tabs # # #, refused #; with slugs #; fingerprints of the verdicts #, of the records and answers #\n|answers of the check to records, changed records and random weak lists\n 0: #\n 1: #\n 2: #\n 3: #\n 4: #\n 5: #\n 6: #\n 7: #\n 8: #\n 9: #\n 10: #\n 11: #\n 12: #\n 13: #\n 14: #\n 15: #\n 16: #\n 17: #\n 18: #\n 19: #\ndifferences #\n|shape #, plan #: the verdict\n|shape #, plan #: rows that are no record are touched\n|shape #, plan #: the verdict does not pass\n|shape #, plan #: the answer of the check\n";
     let mut seen: u32 = 0;
     let mut n = first;
     let mut i = 0;
@@ -115,6 +118,13 @@ fn front(list: &[u16; 48], n: usize) -> &[u16] {
     &all[0..n]
 }
 
+// The excluded vertices of a plan.
+fn excluded(plan: Plan, sheet: &[u16; 48]) -> &[u16] {
+    let all: &[u16] = sheet;
+    let end = plan::EXCLUDED + plan::excluded(plan);
+    &all[plan::EXCLUDED..end]
+}
+
 // A fingerprint with one number more.
 fn hashed(hash: u32, x: u16) -> u32 {
     (((hash as u64) * 16777619 + (x as u64) + 1) % 4294967296) as u32
@@ -143,12 +153,18 @@ fn kept(rows: &[u16; 48], start: usize) -> bool {
 }
 
 // The writer's verdict on a plan, in the second implementation's terms.
-fn written(plan: Plan, ends: &[u16], rows: &mut [u16]) -> [u16; 6] {
+fn written(plan: Plan, sheet: &[u16; 48], rows: &mut [u16]) -> [u16; 6] {
     let space = plan.space;
     if rows.len() < space {
         return [second::REFUSED, 0, 0, 0, 0, 0];
     }
-    told(certify::verdict(plan.vertices, ends, &mut rows[..space]))
+    let ends = front(sheet, plan.length);
+    told(certify::verdict(
+        plan.vertices,
+        ends,
+        excluded(plan, sheet),
+        &mut rows[..space],
+    ))
 }
 
 fn told(finding: Finding) -> [u16; 6] {
@@ -180,9 +196,12 @@ fn same(a: [u16; 6], b: [u16; 6]) -> bool {
 }
 
 // Counts a verdict.
-fn noted(run: &mut [u32; 32], verdict: [u16; 6]) {
+fn noted(run: &mut [u32; 32], verdict: [u16; 6], is_excluding: bool) {
     run[VERDICTS] = hashed_list(run[VERDICTS], &verdict);
     counted(run, column(verdict[0], verdict[3]));
+    if is_excluding && verdict[0] != second::REFUSED {
+        counted(run, EXCLUDING);
+    }
 }
 
 // Where a verdict of a kind is counted.
@@ -195,10 +214,18 @@ fn column(kind: u16, count: u16) -> usize {
 }
 
 // The answers of both checks to a verdict.
-fn compared(run: &mut [u32; 32], vertices: u16, ends: &[u16], kind: u16, list: &[u16]) {
-    let answer = verify::check(vertices, ends, kind, list);
+fn compared(
+    run: &mut [u32; 32],
+    vertices: u16,
+    ends: &[u16],
+    excluded: &[u16],
+    kind: u16,
+    list: &[u16],
+) {
+    let answer = verify::check(vertices, ends, excluded, kind, list);
     answered(run, answer.number, answer.place);
-    if second::told(answer.number, answer.place) != second::check(vertices, ends, kind, list) {
+    let due = second::check(vertices, ends, excluded, kind, list);
+    if second::told(answer.number, answer.place) != due {
         differs(run, ANSWER);
     }
 }
@@ -206,7 +233,7 @@ fn compared(run: &mut [u32; 32], vertices: u16, ends: &[u16], kind: u16, list: &
 // Counts an answer of the check.
 fn answered(run: &mut [u32; 32], number: u16, place: u16) {
     run[RECORDS] = hashed(hashed(run[RECORDS], number), place);
-    if number < 18 {
+    if number < 20 {
         counted(run, ANSWERS + (number as usize));
     }
 }
@@ -214,111 +241,126 @@ fn answered(run: &mut [u32; 32], number: u16, place: u16) {
 // One plan. The seed comes back as it is then, here and in what follows.
 fn one(run: &mut [u32; 32], shape: u8, seed: u32) -> u32 {
     let plan = plan::of_shape(seed, shape);
-    let mut ends = [0; 48];
-    plan::placed(plan, &mut ends);
-    tested(run, shape, plan, front(&ends, plan.length))
+    let mut sheet = [0; 48];
+    plan::placed(plan, &mut sheet);
+    tested(run, shape, plan, &sheet)
 }
 
 // Both verdicts on a plan, what the writer's claims, and changed verdicts for the check.
-fn tested(run: &mut [u32; 32], shape: u8, plan: Plan, ends: &[u16]) -> u32 {
+fn tested(run: &mut [u32; 32], shape: u8, plan: Plan, sheet: &[u16; 48]) -> u32 {
     let mut now = plan;
-    now.seed = judged(run, plan, ends);
+    now.seed = judged(run, plan, sheet);
     if shape == plan::GROWN {
-        let s = grown(run, now, ends);
+        let s = grown(run, now, sheet);
         now.seed = s;
     }
-    let s = tried_weak(run, now, ends);
+    let s = tried_weak(run, now, sheet);
     now.seed = s;
-    tried_weak(run, now, ends)
+    tried_weak(run, now, sheet)
 }
 
-fn judged(run: &mut [u32; 32], plan: Plan, ends: &[u16]) -> u32 {
+fn judged(run: &mut [u32; 32], plan: Plan, sheet: &[u16; 48]) -> u32 {
     let mut rows = [UNTOUCHED; 48];
-    let verdict = written(plan, ends, &mut rows);
-    noted(run, verdict);
-    differs(run, fault(plan, ends, verdict, &rows));
+    let verdict = written(plan, sheet, &mut rows);
+    noted(run, verdict, plan.kept < plan.named);
+    differs(run, fault(plan, sheet, verdict, &rows));
     if verdict[0] == second::FIRM {
-        firm(run, plan, ends, &rows)
+        firm(run, plan, sheet, &rows)
     } else {
         plan.seed
     }
 }
 
 // A record of the writer.
-fn firm(run: &mut [u32; 32], plan: Plan, ends: &[u16], rows: &[u16; 48]) -> u32 {
-    run[RECORDS] = hashed_list(run[RECORDS], front(rows, 3 * (plan.edges as usize)));
-    tried(run, plan, ends, rows)
+fn firm(run: &mut [u32; 32], plan: Plan, sheet: &[u16; 48], rows: &[u16; 48]) -> u32 {
+    run[RECORDS] = hashed_list(run[RECORDS], front(rows, 3 * (plan.kept_edges as usize)));
+    tried(run, plan, sheet, rows)
 }
 
 // The record of the walks of which the plan was made.
-fn grown(run: &mut [u32; 32], plan: Plan, ends: &[u16]) -> u32 {
+fn grown(run: &mut [u32; 32], plan: Plan, sheet: &[u16; 48]) -> u32 {
     let mut rows = [0; 48];
     plan::walked(plan, &mut rows);
-    tried(run, plan, ends, &rows)
+    tried(run, plan, sheet, &rows)
 }
 
 // Whether the verdict is another, rows that are no record are touched, or the check does not pass it.
-fn fault(plan: Plan, ends: &[u16], verdict: [u16; 6], rows: &[u16; 48]) -> u32 {
+fn fault(plan: Plan, sheet: &[u16; 48], verdict: [u16; 6], rows: &[u16; 48]) -> u32 {
     let length = if verdict[0] == second::FIRM {
-        3 * (plan.edges as usize)
+        3 * (plan.kept_edges as usize)
     } else {
         0
     };
-    if !same(verdict, second::verdict(plan.vertices, ends, plan.space)) {
+    if !same(verdict, due(plan, sheet)) {
         VERDICT
     } else if !kept(rows, length) {
         TOUCHED
-    } else if passes(plan.vertices, ends, &verdict, front(rows, length)) {
+    } else if passes(plan, sheet, &verdict, front(rows, length)) {
         NOTHING
     } else {
         REJECTED
     }
 }
 
+// The verdict of the second implementation.
+fn due(plan: Plan, sheet: &[u16; 48]) -> [u16; 6] {
+    let ends = front(sheet, plan.length);
+    second::verdict(plan.vertices, ends, excluded(plan, sheet), plan.space)
+}
+
 // The check answers 0 and 0 to the record or the cut.
-fn passes(vertices: u16, ends: &[u16], verdict: &[u16; 6], record: &[u16]) -> bool {
+fn passes(plan: Plan, sheet: &[u16; 48], verdict: &[u16; 6], record: &[u16]) -> bool {
     let kind = verdict[0];
     let count = verdict[3];
     if kind == second::FIRM {
-        return accepted(vertices, ends, kind, record);
+        return accepted(plan, sheet, kind, record);
     }
     let all: &[u16] = verdict;
     if kind == second::WEAK {
         if count < 3 {
             let end = 4 + (count as usize);
-            return accepted(vertices, ends, kind, &all[4..end]);
+            return accepted(plan, sheet, kind, &all[4..end]);
         }
     }
     kind == second::REFUSED
 }
 
-fn accepted(vertices: u16, ends: &[u16], kind: u16, list: &[u16]) -> bool {
-    let answer = verify::check(vertices, ends, kind, list);
+fn accepted(plan: Plan, sheet: &[u16; 48], kind: u16, list: &[u16]) -> bool {
+    let ends = front(sheet, plan.length);
+    let answer = verify::check(plan.vertices, ends, excluded(plan, sheet), kind, list);
     second::told(answer.number, answer.place) == 0
 }
 
 // A record as it is, and some times with one change.
-fn tried(run: &mut [u32; 32], plan: Plan, ends: &[u16], rows: &[u16; 48]) -> u32 {
+fn tried(run: &mut [u32; 32], plan: Plan, sheet: &[u16; 48], rows: &[u16; 48]) -> u32 {
     let mut now = plan;
     let mut how = change::NONE;
     let mut i: u16 = 0;
     while i <= CHANGES {
-        let seed = tried_changed(run, now, ends, rows, how);
-        how = draw(seed, 1, 10);
+        let seed = tried_changed(run, now, sheet, rows, how);
+        how = draw(seed, 1, change::NONE);
         now.seed = seed;
         i += 1;
     }
     now.seed
 }
 
-fn tried_changed(run: &mut [u32; 32], plan: Plan, ends: &[u16], rows: &[u16; 48], how: u16) -> u32 {
+fn tried_changed(
+    run: &mut [u32; 32],
+    plan: Plan,
+    sheet: &[u16; 48],
+    rows: &[u16; 48],
+    how: u16,
+) -> u32 {
     let mut list = [0; 48];
-    change::changed(rows, ends, plan.edges, how, plan.seed, &mut list);
-    let sizes = change::resized(plan.vertices, plan.edges, how, later(plan.seed, 3));
+    let edges = plan.kept_edges;
+    change::changed(rows, sheet, edges, how, plan.seed, &mut list);
+    let sizes = change::resized(plan.vertices, edges, plan.edges, how, later(plan.seed, 3));
     compared(
         run,
         sizes.vertices,
-        ends,
+        front(sheet, plan.length),
+        excluded(plan, sheet),
         sizes.kind,
         front(&list, sizes.length),
     );
@@ -326,10 +368,17 @@ fn tried_changed(run: &mut [u32; 32], plan: Plan, ends: &[u16], rows: &[u16; 48]
 }
 
 // A weak list of up to three random numbers, of which the largest is no edge.
-fn tried_weak(run: &mut [u32; 32], plan: Plan, ends: &[u16]) -> u32 {
+fn tried_weak(run: &mut [u32; 32], plan: Plan, sheet: &[u16; 48]) -> u32 {
     let list = change::weak_list(plan.edges, plan.seed);
     let length = draw(plan.seed, 4, 4) as usize;
-    compared(run, plan.vertices, ends, second::WEAK, &list[0..length]);
+    compared(
+        run,
+        plan.vertices,
+        front(sheet, plan.length),
+        excluded(plan, sheet),
+        second::WEAK,
+        &list[0..length],
+    );
     later(plan.seed, 4)
 }
 

@@ -1,7 +1,9 @@
-// Random plans of some shapes, of at most 8 vertices and 14 edges, with the rows of the walks that they were made of.
+// Random plans of some shapes, of at most 8 vertices and 14 edges, with the rows of the walks that they were made of; beside these, up to 4
+// excluded vertices and edges that end there, at most 16 edges in all.
 use crate::random::below;
 use crate::random::draw;
 use crate::random::later;
+ghost use Prim.Native.Nat.{_≤_};
 
 // Few vertices and many edges.
 const DENSE: u8 = 0;
@@ -28,9 +30,13 @@ pub const SHAPES: u8 = 8;
 
 const MAX_EDGES: u16 = 14;
 
-// A plan. Of each edge, in the order of the walks, `tails`, `heads` and `steps` have four bits: the two vertices and the step. The
+const MAX_LISTED: u16 = 16;
+
+// A plan. Of each edge, in the order of the walks, `tails`, `heads` and `steps` have four bits: the two vertices and the step. The first `kept`
+// vertices and the first `kept_edges` edges are kept: the other vertices are excluded, and every other edge ends at such a one. The
 // `named` vertices and the edges get new numbers, from the seeds `names` and `places`. `length` ends are handed over, and `space` numbers for
-// the record; the end at `large` is too large, and edge `twice` has the same vertex twice, if there are such an end and edge.
+// the record. Ends and excluded vertices stand in one list (`placed`), in which the number at `large` is too large, that at `low` is 0, and those
+// at twice `twice` and behind it are the same, if they are handed over.
 pub struct Plan {
     pub seed: u32,
     pub tails: u64,
@@ -39,21 +45,27 @@ pub struct Plan {
     pub step: u16,
     pub vertices: u16,
     pub edges: u16,
+    pub kept: u16,
+    pub kept_edges: u16,
     pub named: u16,
     pub names: u32,
     pub places: u32,
     pub length: usize,
     pub space: usize,
     pub large: u16,
+    pub low: u16,
     pub twice: u16,
 }
 
-// No end and no edge.
+// No place in the list.
 const NONE: u16 = 48;
+
+// Where the excluded vertices begin there.
+pub const EXCLUDED: usize = 32;
 
 // A random plan of a shape.
 pub(crate) fn of_shape(seed: u32, shape: u8) -> Plan {
-    let plan = numbered(filled(shape, seed));
+    let plan = numbered(widened(filled(shape, seed)));
     if shape == DAMAGED {
         damaged(plan)
     } else {
@@ -71,12 +83,15 @@ fn bare(vertices: u16, seed: u32) -> Plan {
         step: 0,
         vertices: vertices,
         edges: 0,
+        kept: 0,
+        kept_edges: 0,
         named: 0,
         names: 0,
         places: 0,
         length: 0,
         space: 0,
         large: NONE,
+        low: NONE,
         twice: NONE,
     }
 }
@@ -212,12 +227,12 @@ fn walk(plan: Plan, a: u16, b: u16, inner: u16) -> Plan {
     let mut i: u16 = 0;
     while i < inner {
         let v = more.vertices;
-        more = edge(more, from, v);
+        more = edge(more, from, v, MAX_EDGES);
         more.vertices = v % 8 + 1;
         from = v;
         i += 1;
     }
-    more = edge(more, from, b);
+    more = edge(more, from, b, MAX_EDGES);
     more.step = plan.step % MAX_EDGES + 1;
     more
 }
@@ -231,16 +246,50 @@ fn fits(plan: Plan, closed: bool, inner: u16) -> bool {
     }
 }
 
-// One more edge from a to b, where there is room.
-fn edge(plan: Plan, a: u16, b: u16) -> Plan {
+// One more edge from a to b, where there are fewer than the most.
+fn edge(plan: Plan, a: u16, b: u16, most: u16) -> Plan {
     let mut more = plan;
     let e = plan.edges;
-    if e < MAX_EDGES {
+    if e < most {
         more.tails = with(plan.tails, e, a);
         more.heads = with(plan.heads, e, b);
         more.steps = with(plan.steps, e, plan.step);
         more.edges = e + 1;
     }
+    more
+}
+
+// What was made is kept; beside it, in half of the plans, some excluded vertices and edges from them.
+fn widened(plan: Plan) -> Plan {
+    let mut more = plan;
+    let count = excess(draw(plan.seed, 1, 8));
+    let turns = draw(plan.seed, 2, 8);
+    more.kept = plan.vertices;
+    more.kept_edges = plan.edges;
+    more.vertices = plan.vertices % 9 + count % 5;
+    more.seed = later(plan.seed, 2);
+    let mut i: u16 = 0;
+    while i < turns {
+        more = tied(more, count);
+        i += 1;
+    }
+    more
+}
+
+// How many vertices are excluded: none for half of the numbers below 8.
+fn excess(x: u16) -> u16 {
+    if x < 4 { 0 } else { x - 3 }
+}
+
+// An edge from one of the excluded vertices to any other vertex, where there is room.
+fn tied(plan: Plan, count: u16) -> Plan {
+    let mut more = plan;
+    let a = plan.kept % 9 + draw(plan.seed, 1, count) % 5;
+    let b = draw(plan.seed, 2, plan.vertices);
+    if count != 0 && a != b {
+        more = edge(plan, a, b, MAX_LISTED);
+    }
+    more.seed = later(plan.seed, 2);
     more
 }
 
@@ -271,7 +320,7 @@ fn numbered(plan: Plan) -> Plan {
     more.places = later(plan.seed, plan.vertices);
     more.seed = later(later(later(more.places, edges), edges), 1);
     more.length = 2 * (edges as usize);
-    more.space = 3 * (edges as usize) + (below(more.seed, 5) as usize);
+    more.space = 3 * (plan.kept_edges as usize) + (below(more.seed, 5) as usize);
     more
 }
 
@@ -325,17 +374,51 @@ fn spot_of(plan: Plan, edge: u16) -> Spot {
     }
 }
 
-// The ends of a plan.
-pub(crate) fn placed(plan: Plan, ends: &mut [u16; 48]) {
+// The ends of a plan, and from place EXCLUDED on its excluded vertices.
+pub(crate) fn placed(plan: Plan, sheet: &mut [u16; 48]) {
     let mut e: u16 = 0;
     while e < plan.edges {
         let at = spot_of(plan, e);
         let i = 2 * (at.place as usize) | (at.turned as usize);
-        put(ends, i, name(plan, digit(plan.tails, e)));
-        put(ends, i ^ 1, name(plan, digit(plan.heads, e)));
+        put(sheet, i, name(plan, digit(plan.tails, e)));
+        put(sheet, i ^ 1, name(plan, digit(plan.heads, e)));
         e += 1;
     }
-    spoiled(plan, ends);
+    listed(fallen(plan), sheet);
+    spoiled(plan, sheet);
+}
+
+// How many vertices are excluded.
+pub(crate) fn excluded(plan: Plan) -> usize
+    ensures { λ r. ⌜ r ≤ 16 ⌝ }
+{
+    if plan.kept < plan.named {
+        ((plan.named - plan.kept) % 16) as usize
+    } else {
+        0
+    }
+}
+
+// The new numbers of the excluded vertices, as a set.
+fn fallen(plan: Plan) -> u32 {
+    let mut set: u32 = 0;
+    let mut v = plan.kept;
+    while v < plan.named {
+        set = set | (1 << ((name(plan, v) % 16) as u32));
+        v += 1;
+    }
+    set
+}
+
+// A set in ascending order.
+fn listed(set: u32, sheet: &mut [u16; 48]) {
+    let mut rest = set;
+    let mut i = EXCLUDED;
+    while i < 48 {
+        sheet[i] = (u32::trailing_zeros(rest) % 64) as u16;
+        rest = rest & std::num::wrapping_sub_u32(rest, 1);
+        i += 1;
+    }
 }
 
 fn put(list: &mut [u16; 48], i: usize, x: u16) {
@@ -367,20 +450,30 @@ fn entry(plan: Plan, i: u16) -> u16 {
     }
 }
 
-// An end that is too large, and an edge that has the same vertex twice.
-fn spoiled(plan: Plan, ends: &mut [u16; 48]) {
-    put(ends, plan.large as usize, plan.vertices);
-    let i = 2 * (plan.twice as usize);
-    let a = get(ends, i);
-    put(ends, i + 1, a);
+// A number that is too large, one that is 0, and one that is that before it.
+fn spoiled(plan: Plan, sheet: &mut [u16; 48]) {
+    written(sheet, plan.large, plan.vertices);
+    written(sheet, plan.low, 0);
+    repeated(sheet, plan.twice);
 }
 
-// One damage, or two: one end less, another number of vertices, an end or an edge that is wrong or both, or too little space.
+fn written(sheet: &mut [u16; 48], i: u16, x: u16) {
+    put(sheet, i as usize, x);
+}
+
+fn repeated(sheet: &mut [u16; 48], pair: u16) {
+    let i = 2 * (pair as usize);
+    let a = get(sheet, i);
+    put(sheet, i + 1, a);
+}
+
+// One damage, or two: one end less, another number of vertices, an end or an edge that is wrong or both, too little space, or the list of
+// excluded vertices.
 fn damaged(plan: Plan) -> Plan {
     let seed = later(plan.seed, 2);
     let mut bad = plan;
     bad.seed = seed;
-    match draw(plan.seed, 1, 7) {
+    match draw(plan.seed, 1, 12) {
         0 => if 0 < plan.length {
             bad.length = plan.length - 1;
         },
@@ -401,10 +494,40 @@ fn damaged(plan: Plan) -> Plan {
             bad.twice = draw(seed, 1, MAX_EDGES);
             bad.seed = later(seed, 1);
         }
-        6 => if 0 < plan.edges {
-            bad.space = 3 * (plan.edges as usize) - 1;
+        6 => if 0 < plan.kept_edges {
+            bad.space = 3 * (plan.kept_edges as usize) - 1;
         },
-        _ => {}
+        how => {
+            bad = unlisted(bad, how);
+        }
+    }
+    bad
+}
+
+// An excluded vertex that is none; one twice; one that is not above the one before, alone, with an edge that is wrong, or with no vertex that is
+// kept; one vertex that is kept, or none.
+fn unlisted(plan: Plan, how: u16) -> Plan {
+    let mut bad = plan;
+    let place = below(plan.seed, 3);
+    match how {
+        7 => {
+            bad.large = 32 + place % 3;
+        }
+        8 => {
+            bad.twice = 16 + place % 2;
+        }
+        9 => {
+            bad.low = 33 + place % 3;
+        }
+        10 => {
+            bad.low = 33 + place % 3;
+            bad.twice = draw(plan.seed, 1, MAX_EDGES);
+            bad.seed = later(plan.seed, 1);
+        }
+        _ => {
+            bad.low = 33 + place % 3 * 5;
+            bad.kept = below(plan.seed, 2);
+        }
     }
     bad
 }

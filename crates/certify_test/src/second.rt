@@ -1,5 +1,6 @@
-// A second, simple implementation of the verdict and of the check, read from document 01 alone: it tries every set of edges, and counts
-// everything anew at each step. It is meant for graphs of at most 16 vertices and 16 edges: a set of them is a number with a bit for each.
+// A second, simple implementation of the verdict and of the check, read from documents 01 and 02 alone: it tries every set of edges, and counts
+// everything anew at each step. It is meant for plans of at most 16 vertices and 16 edges: a set of them is a number with a bit for each. `kept`
+// is the set of vertices that are not excluded.
 
 // No edge, no vertex.
 pub const NONE: u16 = 65535;
@@ -9,9 +10,6 @@ pub const FIRM: u16 = 0;
 pub const WEAK: u16 = 1;
 
 pub const REFUSED: u16 = 2;
-
-// All edges.
-const ALL: u32 = 4294967295;
 
 // The parts of a row.
 const STEP: usize = 0;
@@ -35,6 +33,19 @@ fn one(x: u16) -> u32 {
     if x < 16 { 1 << (x as u32) } else { 0 }
 }
 
+// The set of those below n.
+fn all(n: u16) -> u32 {
+    if n < 16 {
+        std::num::wrapping_sub_u32(one(n), 1)
+    } else {
+        65535
+    }
+}
+
+fn count(set: u32) -> u16 {
+    (u32::count_ones(set) % 64) as u16
+}
+
 // The two ends of an edge.
 fn both(ends: &[u16], e: u16) -> u32 {
     one(at(ends, 2 * (e as usize))) | one(at(ends, 2 * (e as usize) + 1))
@@ -45,16 +56,19 @@ fn edges_of(ends: &[u16]) -> u16 {
     if n < 65536 { n as u16 } else { NONE }
 }
 
-// The plan's own refusal, 1 to 5, or 0.
-fn refusal(vertices: u16, ends: &[u16]) -> u32 {
+// The plan's own refusal, 1 to 5, 18 or 19, or 0.
+fn refusal(vertices: u16, ends: &[u16], excluded: &[u16]) -> u32 {
+    let wrong = misfit(vertices, ends);
     if ends.len() % 2 == 1 {
         told(1, 0)
     } else if vertices < 2 || 1000 < vertices {
         told(2, 0)
     } else if 8000 < ends.len() {
         told(3, 0)
+    } else if wrong != 0 {
+        wrong
     } else {
-        misfit(vertices, ends)
+        unlisted(vertices, excluded)
     }
 }
 
@@ -83,6 +97,44 @@ fn edge_number(vertices: u16, ends: &[u16], e: u16) -> u16 {
     } else {
         0
     }
+}
+
+// 18 at the first excluded vertex that is none, or not above the one before; or 19, or 0.
+fn unlisted(vertices: u16, excluded: &[u16]) -> u32 {
+    let mut least: u32 = 0;
+    let mut k = 0;
+    while k < excluded.len() {
+        let v = at(excluded, k);
+        if vertices <= v || behind(v) <= least {
+            return told(18, (k % 65536) as u16);
+        }
+        least = behind(v);
+        k += 1;
+    }
+    if count(kept(vertices, excluded)) < 2 {
+        told(19, 0)
+    } else {
+        0
+    }
+}
+
+fn behind(x: u16) -> u32 {
+    (x as u32) + 1
+}
+
+fn kept(vertices: u16, excluded: &[u16]) -> u32 {
+    let mut set = all(vertices);
+    let mut k = 0;
+    while k < excluded.len() {
+        set = set & !one(at(excluded, k));
+        k += 1;
+    }
+    set
+}
+
+// The edges that are kept: those of no excluded vertex.
+fn kept_edges(kept: u32, ends: &[u16]) -> u32 {
+    all(edges_of(ends)) & !edges_at(ends, !kept)
 }
 
 // The vertices that are reached from some over these edges, past no barred vertex: passes until nothing changes, which 16 vertices have
@@ -124,17 +176,18 @@ fn crossed(both: u32, barred: u32, set: u32) -> u32 {
     }
 }
 
-// Whether the graph without some edges is not connected.
-fn parts(vertices: u16, ends: &[u16], gone: u32) -> bool {
-    u32::count_ones(reached(ends, !gone, 0, one(0))) < (vertices as u32)
+// Whether the graph without some edges is not connected: its lowest vertex does not reach all.
+fn parts(kept: u32, ends: &[u16], gone: u32) -> bool {
+    let first = kept & std::num::wrapping_sub_u32(0, kept);
+    reached(ends, !gone, !kept, first) != kept
 }
 
-// The lowest edge, from e on, that parts the graph together with those that are gone, or NONE.
-fn lowest(vertices: u16, ends: &[u16], gone: u32, e: u16) -> u16 {
+// The lowest edge, from e on, that parts the graph together with those that are gone, which alone don't, or NONE.
+fn lowest(kept: u32, ends: &[u16], gone: u32, e: u16) -> u16 {
     let edges = edges_of(ends);
     let mut b: u16 = e;
     while b < edges {
-        if parts(vertices, ends, gone | one(b)) {
+        if parts(kept, ends, gone | one(b)) {
             return b;
         }
         b += 1;
@@ -143,11 +196,11 @@ fn lowest(vertices: u16, ends: &[u16], gone: u32, e: u16) -> u16 {
 }
 
 // Weak with the lowest pair that parts the graph, or firm.
-fn pair(vertices: u16, ends: &[u16]) -> [u16; 6] {
+fn pair(kept: u32, ends: &[u16]) -> [u16; 6] {
     let edges = edges_of(ends);
     let mut a: u16 = 0;
     while a < edges {
-        let b = lowest(vertices, ends, one(a), a + 1);
+        let b = lowest(kept, ends, one(a), a + 1);
         if b != NONE {
             return [WEAK, 0, 0, 2, a, b];
         }
@@ -158,86 +211,89 @@ fn pair(vertices: u16, ends: &[u16]) -> [u16; 6] {
 
 // The verdict on a plan, where `space` numbers are lent for the record: its kind, a refusal's number and place, a weak one's count and
 // edges.
-pub(crate) fn verdict(vertices: u16, ends: &[u16], space: usize) -> [u16; 6] {
-    let own = refusal(vertices, ends);
+pub(crate) fn verdict(vertices: u16, ends: &[u16], excluded: &[u16], space: usize) -> [u16; 6] {
+    let own = refusal(vertices, ends, excluded);
+    let kept = kept(vertices, excluded);
     if own != 0 {
         [REFUSED, (own / 65536) as u16, (own % 65536) as u16, 0, 0, 0]
-    } else if space < 3 * (edges_of(ends) as usize) {
+    } else if space < 3 * (count(kept_edges(kept, ends)) as usize) {
         [REFUSED, 6, 0, 0, 0, 0]
-    } else if parts(vertices, ends, 0) {
+    } else if parts(kept, ends, 0) {
         [WEAK, 0, 0, 0, 0, 0]
     } else {
-        cut(vertices, ends)
+        cut(kept, ends)
     }
 }
 
 // Weak with the lowest edge that parts the graph, or with the lowest pair, or firm.
-fn cut(vertices: u16, ends: &[u16]) -> [u16; 6] {
-    let e = lowest(vertices, ends, 0, 0);
+fn cut(kept: u32, ends: &[u16]) -> [u16; 6] {
+    let e = lowest(kept, ends, 0, 0);
     if e != NONE {
         [WEAK, 0, 0, 1, e, 0]
     } else {
-        pair(vertices, ends)
+        pair(kept, ends)
     }
 }
 
 // The answer to a verdict.
-pub(crate) fn check(vertices: u16, ends: &[u16], kind: u16, list: &[u16]) -> u32 {
-    let own = refusal(vertices, ends);
+pub(crate) fn check(vertices: u16, ends: &[u16], excluded: &[u16], kind: u16, list: &[u16]) -> u32 {
+    let own = refusal(vertices, ends, excluded);
+    let kept = kept(vertices, excluded);
     if own != 0 {
         own
     } else if kind == FIRM {
-        check_firm(vertices, ends, list)
+        check_firm(kept, ends, list)
     } else if kind == WEAK {
-        check_weak(vertices, ends, list)
+        check_weak(kept, ends, list)
     } else {
         told(9, 0)
     }
 }
 
-fn check_weak(vertices: u16, ends: &[u16], list: &[u16]) -> u32 {
-    let place = disorder(list, edges_of(ends));
+fn check_weak(kept: u32, ends: &[u16], list: &[u16]) -> u32 {
+    let place = disorder(list, kept_edges(kept, ends));
     if 2 < list.len() {
         told(9, 0)
     } else if place < 2 {
         told(11, place)
-    } else if parts(vertices, ends, one(at(list, 0)) | one(at(list, 1))) {
+    } else if parts(kept, ends, one(at(list, 0)) | one(at(list, 1))) {
         0
     } else {
         told(17, 0)
     }
 }
 
-// The first place of a list of up to two edges that has none, or not one above the one before; or 2.
-fn disorder(list: &[u16], edges: u16) -> u16 {
+// The first place of a list of up to two that has none of these edges, or not one above the one before; or 2.
+fn disorder(list: &[u16], edges: u32) -> u16 {
     let a = at(list, 0);
     let b = at(list, 1);
     let n = list.len();
     if n < 1 {
         2
-    } else if edges <= a {
+    } else if edges & one(a) == 0 {
         0
-    } else if 1 < n && (edges <= b || b <= a) {
+    } else if 1 < n && (edges & one(b) == 0 || b <= a) {
         1
     } else {
         2
     }
 }
 
-fn check_firm(vertices: u16, ends: &[u16], list: &[u16]) -> u32 {
-    let edges = edges_of(ends);
-    if list.len() != 3 * (edges as usize) {
+fn check_firm(kept: u32, ends: &[u16], list: &[u16]) -> u32 {
+    let edges = kept_edges(kept, ends);
+    let rows = count(edges);
+    if list.len() != 3 * (rows as usize) {
         return told(9, 0);
     }
     let mut r: u16 = 0;
-    while r < edges {
-        let number = row_number(ends, list, r, r + 1);
+    while r < rows {
+        let number = row_number(ends, edges, list, r, r + 1);
         if number != 0 {
             return told(number, r);
         }
         r += 1;
     }
-    if closes(vertices, ends, list) {
+    if closes(kept, ends, edges, list) {
         0
     } else {
         told(16, 0)
@@ -284,12 +340,12 @@ fn far(ends: &[u16], list: &[u16], r: u16) -> u32 {
 }
 
 // 10 to 15 for row r, or 0; `next` is the row behind it.
-fn row_number(ends: &[u16], list: &[u16], r: u16, next: u16) -> u16 {
+fn row_number(ends: &[u16], edges: u32, list: &[u16], r: u16, next: u16) -> u16 {
     if !counts(list, r) {
         return 10;
     }
     let e = cell(list, r, EDGE);
-    if edges_of(ends) <= e {
+    if edges & one(e) == 0 {
         return 11;
     }
     if column(list, EDGE, 0, r) & one(e) != 0 {
@@ -426,7 +482,6 @@ fn edges_at(ends: &[u16], v: u32) -> u32 {
 }
 
 // Three steps or more, and three edges or more at each vertex.
-fn closes(vertices: u16, ends: &[u16], list: &[u16]) -> bool {
-    column(list, STEP, 0, edges_of(ends)) & one(2) != 0
-        && u32::count_ones(of_degree(ends, ALL, 3)) == (vertices as u32)
+fn closes(kept: u32, ends: &[u16], edges: u32, list: &[u16]) -> bool {
+    column(list, STEP, 0, edges_of(ends)) & one(2) != 0 && of_degree(ends, edges, 3) == kept
 }

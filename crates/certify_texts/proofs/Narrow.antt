@@ -3,7 +3,7 @@
 use mathlib.Core.Path.{_≡_}
 use mathlib.Core.Bool.{true}
 use mathlib.Core.List.{List}
-use Prim.Native.Nat.{ℕ, _≤_}
+use Prim.Native.Nat.{ℕ, _+_, _≤_}
 use native.Mathlib.Omega.{arith}
 use lib.ListN.{length, getD, take}
 use Rattle.connectivity.specs.Plan.{Plan, limits}
@@ -21,7 +21,7 @@ use Rattle.certify_texts.specs.Says.{WritesFor}
 use Rattle.certify_texts.proofs.Passing as passing
 
 -- 01, demand 2: every admitted plan and every verdict with a text form survives writing and reading
-pub plan-kept : (p : Plan) (space : ℕ) → Admitted limits p → length (p .ends) ≤ space → readPlan five largest limits (planText five p) space ≡ PlanReading.read p
+pub plan-kept : (p : Plan) (space : ℕ) → Admitted limits p → length (p .ends) + length (p .excluded) ≤ space → readPlan five largest limits (planText five p) space ≡ PlanReading.read p
 unfolding worths
 plan-kept = round.plan-kept 5 largest (omega arith) limits (omega arith) (omega arith)
 

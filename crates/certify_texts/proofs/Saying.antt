@@ -2,16 +2,16 @@
 -- that passes.
 use mathlib.Core.Path.{_≡_, sym, ap, subst, _∙_}
 use mathlib.Core.List.{List, [], _∷_}
-use Prim.Native.Nat.{ℕ, _*_, _/_, _≤_}
+use Prim.Native.Nat.{ℕ, _*_, _≤_}
 use native.Mathlib.Omega.{arith}
 use lib.ListN.{length, take}
 use Rattle.connectivity.specs.Plan.{Plan, Limits}
-use Rattle.connectivity.specs.Admission.{Admitted, Answer}
+use Rattle.connectivity.specs.Admission.{Answer, keptEdges, Admitted}
 use Rattle.connectivity.specs.Verdict as meaning
-use Rattle.connectivity.proofs.Admission.{admitted-edges}
 use Rattle.connectivity.proofs.Verdict.{reaches}
 use Rattle.graph.specs.Admission.{toldBy}
 use Rattle.graph.specs.declared.Answer as declared
+use Rattle.graph.proofs.Barring.{edges-few}
 use Rattle.text.specs.Plan.{PlanReading}
 use Rattle.text_write.specs.Entry as written
 use Rattle.text_write.specs.Entry.{sizeOf}
@@ -34,13 +34,13 @@ says-refused {ws = ws} {limits = limits} {before = before} {after = after} {r = 
   written = subst (λ (x : declared.Answer). written.WritesVerdict ws limits 2 (x .number ∷ []) before after r) e w;
 }
 
--- an admitted one is weak or firm, whatever the space above three numbers for each edge
+-- an admitted one is weak or firm, whatever the space above three numbers for each edge that is kept
 module _ {limits : Limits} {p : Plan} {before after : List ℕ} {f : Finding} (a : Admitted limits p) (long : length before ≡ 3 * limits .edges) (c : Answered limits p before after f) where
-  room : 3 * (length (p .ends) / 2) ≤ length before
-  room = omega (arith, a .edges, long)
+  room : 3 * keptEdges p ≤ length before
+  room = omega (arith, a .edges, edges-few p, long)
 
-  same : meaning.verdict limits p (3 * (length (p .ends) / 2)) ≡ meaning.verdict limits p (length before)
-  same = reaches a (3 * (length (p .ends) / 2)) (omega (arith, admitted-edges a)) ∙ sym (reaches a (length before) (omega (arith, room, admitted-edges a)))
+  same : meaning.verdict limits p (3 * keptEdges p) ≡ meaning.verdict limits p (length before)
+  same = reaches a (3 * keptEdges p) (omega arith) ∙ sym (reaches a (length before) room)
 
   pub never-refused : {x : declared.Answer} {P : Type 0} → f .outcome ≡ Refused x → P
   never-refused q = absurd (outcomes.never-refused a room c q)
@@ -48,7 +48,7 @@ module _ {limits : Limits} {p : Plan} {before after : List ℕ} {f : Finding} (a
   pub says-weak : f .outcome ≡ Weak → (f .cut .count ≤ 2) × SaysOf limits p 1 (named (f .cut))
   says-weak q = let (few, v) = outcomes.found-weak a room c q in (few, weak (same ∙ v))
 
-  pub says-firm : f .outcome ≡ Firm → SaysOf limits p 0 (take (3 * (length (p .ends) / 2)) after)
+  pub says-firm : f .outcome ≡ Firm → SaysOf limits p 0 (take (3 * keptEdges p) after)
   says-firm q = let v = outcomes.found-firm a room c q in firm (same ∙ v) (c .kept .passes v)
 
 -- to C: the same in one number, and how many bytes were written

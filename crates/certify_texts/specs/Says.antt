@@ -1,10 +1,9 @@
 -- Which verdict is written for a plan text, and where its text then stands.
 use mathlib.Core.Path.{_≡_}
 use mathlib.Core.List.{List, [], _∷_}
-use Prim.Native.Nat.{ℕ, _*_, _/_}
-use lib.ListN.{length}
+use Prim.Native.Nat.{ℕ, _*_}
 use Rattle.connectivity.specs.Plan.{Plan, Limits}
-use Rattle.connectivity.specs.Admission.{Answer, passed}
+use Rattle.connectivity.specs.Admission.{Answer, passed, keptEdges}
 use Rattle.connectivity.specs.Judge.{judge}
 use Rattle.connectivity.specs.Verdict as meaning
 use Rattle.text.specs.Plan.{PlanReading}
@@ -14,8 +13,8 @@ use Rattle.verify_texts.specs.Texts.{planIn}
 
 -- 01: kind 1 with the tabs of a weak plan, kind 0 with a record that passes of a firm one
 pub data SaysOf (limits : Limits) (p : Plan) : ℕ → List ℕ → Type 0 where
-  weak : {cut : List ℕ} → meaning.verdict limits p (3 * (length (p .ends) / 2)) ≡ meaning.weak cut → SaysOf limits p 1 cut
-  firm : {list : List ℕ} → meaning.verdict limits p (3 * (length (p .ends) / 2)) ≡ meaning.firm → judge limits p 0 list ≡ passed → SaysOf limits p 0 list
+  weak : {cut : List ℕ} → meaning.verdict limits p (3 * keptEdges p) ≡ meaning.weak cut → SaysOf limits p 1 cut
+  firm : {list : List ℕ} → meaning.verdict limits p (3 * keptEdges p) ≡ meaning.firm → judge limits p 0 list ≡ passed → SaysOf limits p 0 list
 
 -- In what follows `ws` are the worths of a column's digits and `most` is the largest value.
 

@@ -12,10 +12,15 @@ ghost use Rattle.certify_texts.specs.Packed.{four, packed, Packed, TextS
 
 // The verdict on a plan; a firm one's record stands at the front of `rows`.
 #[no_mangle]
-pub extern "C" fn hearthtansy_verdict(vertices: u16, ends: &[u16], rows: &mut [u16]) -> u64
-    ensures { λ r. ⌜ Packed limits (plan vertices (now (ends .entry))) (now (rows .entry)) (now (rows .exit)) r ⌝ }
+pub extern "C" fn hearthtansy_verdict(
+    vertices: u16,
+    ends: &[u16],
+    excluded: &[u16],
+    rows: &mut [u16],
+) -> u64
+    ensures { λ r. ⌜ Packed limits (plan vertices (now (ends .entry)) (now (excluded .entry))) (now (rows .entry)) (now (rows .exit)) r ⌝ }
 {
-    pack(certify::verdict(vertices, ends, rows))
+    pack(certify::verdict(vertices, ends, excluded, rows))
 }
 
 // The verdict text of a plan text; how many bytes it has, or 0 where `text` is shorter.

@@ -4,12 +4,14 @@ use cuts::lowest::Lowest;
 use graph::Admission;
 use graph::Graph;
 use text_write::Written;
+ghost use mathlib.Core.Path.{_≡_};
 ghost use mathlib.Core.List.{[], _∷_};
 ghost use Prim.Native.Nat.{_≤_};
 ghost use Rattle.connectivity.specs.Plan.{plan, limits};
-ghost use Rattle.connectivity.specs.Admission.{Admitted};
+ghost use Rattle.connectivity.specs.Admission.{keptEdges, Admitted};
 ghost use Rattle.text.specs.Column.{five, largest};
 ghost use Rattle.text_write.specs.Entry.{WritesVerdict};
+ghost use Rattle.verify_texts.specs.Table.{Holds, planOf};
 ghost use Rattle.certify.specs.Answered.{named};
 ghost use Rattle.certify_texts.specs.Says.{WritesFor, WritesOf};
 
@@ -19,14 +21,11 @@ pub mod export; // export.rt: the writer for C
 pub fn verdict_text(plan: &[u8], bytes: &mut [u8]) -> Written
     ensures { λ r. ⌜ WritesFor five largest limits (now (plan .entry)) (now (bytes .entry)) (now (bytes .exit)) r ⌝ }
 {
-    let mut ends = [0u16; 2 * Graph::MAX_EDGES];
-    let read = text_read::read_plan(plan, &mut ends);
+    let mut table = [0u16; 2 * Graph::MAX_EDGES + Graph::MAX_VERTICES];
+    let read = text_read::read_plan(plan, &mut table);
     match read {
         Admission::Refused(answer) => write_refusal(answer.number, bytes),
-        Admission::Admitted(graph) => {
-            let size = 2 * graph.edges as usize;
-            write_admitted(graph.vertices, &ends[..size], bytes)
-        }
+        Admission::Admitted(graph) => write_read(graph, &table, bytes),
     }
 }
 
@@ -37,19 +36,41 @@ fn write_refusal(number: u16, bytes: &mut [u8]) -> Written
     text_write::write_verdict(2, &list, bytes)
 }
 
-// The verdict text of a plan that has been read.
-fn write_admitted(vertices: u16, ends: &[u16], bytes: &mut [u8]) -> Written
-    requires { ⌜ Admitted limits (plan vertices (now ends)) ⌝ }
-    ensures { λ r. ⌜ WritesOf five limits (plan vertices (now (ends .entry))) (now (bytes .entry)) (now (bytes .exit)) r ⌝ }
+// The verdict text of the plan in a table that was filled.
+fn write_read(counts: Graph, table: &[u16], bytes: &mut [u8]) -> Written
+    requires { ⌜ Holds counts (now table) × Admitted limits (planOf counts (now table)) ⌝ }
+    ensures { λ r. ⌜ WritesOf five limits (planOf counts (now (table .entry))) (now (bytes .entry)) (now (bytes .exit)) r ⌝ }
+{
+    let size = 2 * counts.edges as usize;
+    let end = size + (counts.vertices - counts.kept_vertices) as usize;
+    write_admitted(
+        counts.vertices,
+        &table[..size],
+        &table[size..end],
+        counts.kept_edges,
+        bytes,
+    )
+}
+
+// The same by the plan's parts, of which `kept` edges are kept.
+fn write_admitted(
+    vertices: u16,
+    ends: &[u16],
+    excluded: &[u16],
+    kept: u16,
+    bytes: &mut [u8],
+) -> Written
+    requires { ⌜ Admitted limits (plan vertices (now ends) (now excluded)) × (kept ≡ keptEdges (plan vertices (now ends) (now excluded))) ⌝ }
+    ensures { λ r. ⌜ WritesOf five limits (plan vertices (now (ends .entry)) (now (excluded .entry))) (now (bytes .entry)) (now (bytes .exit)) r ⌝ }
 {
     let mut rows = [0u16; 3 * Graph::MAX_EDGES];
-    let found = certify::verdict(vertices, ends, &mut rows);
+    let found = certify::verdict(vertices, ends, excluded, &mut rows);
     let outcome = found.outcome;
     match outcome {
         Outcome::Refused(answer) => write_refusal(answer.number, bytes),
         Outcome::Weak => write_weak(found.cut, bytes),
         Outcome::Firm => {
-            let size = 3 * (ends.len() / 2);
+            let size = 3 * kept as usize;
             text_write::write_verdict(0, &rows[..size], bytes)
         }
     }

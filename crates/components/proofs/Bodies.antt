@@ -17,6 +17,7 @@ use Rattle.connectivity.proofs.Reach.{joins-sym, reach-sym, reach-trans, closed
 use Rattle.graph.specs.Marks.{read}
 use Rattle.graph.proofs.Joined.{joins-below}
 use Rattle.depth.specs.Depth.{rootMark}
+use Rattle.depth.specs.Forest.{RootsLow}
 use Rattle.labels.specs.Answered.{ForestOf}
 use Rattle.components.specs.Stars.{Grouping}
 use Rattle.components.specs.Bodies.{RootOf, Rooting, Bodied}
@@ -79,7 +80,7 @@ module _ (p : Plan) {k : ℕ} {first order table₀ table : List ℕ} (f : Fores
 
 -- The bodies.
 
-module _ (p : Plan) {root : ℕ} {first order table₀ table : List ℕ} (f : ForestOf p first order) (s : Rooting (p .vertices) (p .vertices) root first order table₀ table) where
+module _ (p : Plan) {root : ℕ} {first order table₀ table : List ℕ} (f : ForestOf p first order) (low : RootsLow (p .vertices) (read first) (read order)) (s : Rooting (p .vertices) (p .vertices) root first order table₀ table) where
   abbrev n : ℕ
   n = p .vertices
 
@@ -119,8 +120,8 @@ module _ (p : Plan) {root : ℕ} {first order table₀ table : List ℕ} (f : Fo
 
   joined-same : (e u v : ℕ) → Joins g e u v → getD table u 0 ≡ getD table v 0
   joined-same e u v w =
-      let x = rooted u (joins-below n (p .ends) e v u (joins-sym w)) in
-      let y = rooted v (joins-below n (p .ends) e u v w) in
+      let x = rooted u (joins-below p (joins-sym w)) in
+      let y = rooted v (joins-below p w) in
       let k : Joins g e (at (x .0)) (at (y .0)) = rw (x .2, y .2) w in
       elim (decLt (x .0) (y .0)) [
         | yes l ↦ one-body e (x .0) (y .0) l (y .1) k (x .3) (y .3)
@@ -143,7 +144,7 @@ module _ (p : Plan) {root : ℕ} {first order table₀ table : List ℕ} (f : Fo
       own : (v : ℕ) → v < n → getD table v 0 ≤ v
       own v l = let x = rooted v l in let o = x .3 in elim (ℕ-discrete (o .place) (x .0)) [
         | yes q ↦ omega (arith, sym (o .there) ∙ ap at q ∙ x .2)
-        | no q ↦ omega (arith, f .low (o .place) (x .0) (omega (arith, o .before)) (x .1) (o .root), o .there, x .2)
+        | no q ↦ omega (arith, low (o .place) (x .0) (omega (arith, o .before)) (x .1) (o .root), o .there, x .2)
       ]
 
       fixed : (v : ℕ) → v < n → getD table (getD table v 0) 0 ≡ getD table v 0

@@ -10,7 +10,7 @@ use lib.Dec.{eqb}
 use borrow.Author.Tests.{eq-eqb, ne-eqb}
 use Rattle.connectivity.specs.Graph.{Graph, Vertex, Edge, Joins}
 use Rattle.connectivity.specs.Reach.{Reach, here, over, Without}
-use Rattle.connectivity.proofs.Reach.{reach-sym, reach-trans, reach-less}
+use Rattle.connectivity.proofs.Reach.{reach-sym, reach-trans, reach-less, reach-edges}
 use Rattle.labels.proofs.CutLabels.{unlike, left-right}
 use Rattle.labels.specs.Label.{Keeps}
 use Rattle.components.specs.Pair.{CutPair}
@@ -65,6 +65,10 @@ pair-sym c = record {
 
 pub pair-differ : {g : Graph} {e d : ℕ} → CutPair g e d → e ≡ d → ⊥
 pair-differ c p = c .parts (λ x y r. reach-twice p (c .without-one x y r))
+
+-- what is no edge parts nothing
+pub keeps-none : {g : Graph} {e : ℕ} → (Edge g e → ⊥) → Keeps g (e ∷ [])
+keeps-none {g} n x y r = reach-edges (λ d u v j l i. n (subst (Edge g) (eq-of-singleton i) (j .edge))) r
 
 -- Cut pairs with an edge in common.
 

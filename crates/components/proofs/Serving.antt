@@ -5,27 +5,29 @@ use mathlib.Core.List.{List}
 use Prim.Native.Nat.{ℕ, _*_, _/_, _≤_, _<_}
 use native.Mathlib.Omega.{arith}
 use native.Mathlib.Decide.{decLt}
-use lib.Dec.{T, ltb, leb}
+use lib.Dec.{ltb, leb}
 use lib.ListN.{length, drop, replicate, length-replicate}
 use borrow.Author.Tests.{lt-ltb, le-ltb}
-use Rattle.connectivity.specs.Plan.{Plan, graph, Limits}
+use Rattle.connectivity.specs.Plan.{Plan, graph, listed, Limits}
 use Rattle.connectivity.specs.Component.{components}
-use Rattle.connectivity.specs.Admission.{Answer, Handed, passed, Admitted}
+use Rattle.connectivity.specs.Admission.{Admitted}
 use Rattle.connectivity.proofs.Lists.{decides-le, T-true, T-false}
-use Rattle.connectivity.proofs.Admission.{admitted-vertex}
-use Rattle.connectivity.proofs.Component.{component-found, component-unique, components-length, components-at}
+use Rattle.connectivity.proofs.Kept.{bound-is}
+use Rattle.connectivity.proofs.Component.{components-length, components-at}
 use Rattle.graph.specs.declared.Answer as code
 use Rattle.graph.specs.Admission.{toldBy, lent}
-use Rattle.graph.proofs.Joined.{bound-is}
-use Rattle.graph.proofs.Lent.{lent-enough}
-use Rattle.graph.proofs.Tally.{zeros}
+use Rattle.graph.specs.Excluded.{Masked}
+use Rattle.graph.specs.Marks.{read}
 use Rattle.graph.proofs.Telling.{told-admitted, told-room}
 use Rattle.incidence.specs.Tables.{Front, incidentTable, beginsTable}
 use Rattle.incidence.proofs.Front.{front}
-use Rattle.labels.specs.Answered.{ForestOf, Tables, tables, handed, enough}
+use Rattle.depth.specs.Forest.{RootsLow}
+use Rattle.labels.specs.Answered.{ForestOf, Tables, tables}
 use Rattle.labels.specs.Answered as labelling
-use Rattle.labels.specs.declared.Labelling.{Labelling}
-use Rattle.labels.proofs.LongEnough.{ample-is}
+use Rattle.labels.specs.Labels.{Masks}
+use Rattle.labels.proofs.LongEnough.{AmpleFor}
+use Rattle.labels.proofs.Answers.{answers-zero}
+use Rattle.labels.proofs.Masks.{masks-live, masks-masking, masked-made}
 use Rattle.components.specs.Answered.{Answered}
 use Rattle.components.specs.Bodies.{Ordered, Bodied}
 use Rattle.components.specs.Stars.{Singles, Stars, Working, Worked}
@@ -35,21 +37,27 @@ use Rattle.components.proofs.Turning.{working-setting, worked-more}
 
 -- The cuts.
 
-module _ {most : Limits} {p : Plan} {incident begins first labels table : List ℕ} (s : Stage most p incident begins first labels table) where
-  pub stage-working : Working most p incident begins first labels (replicate (most .edges) 0) table
+module _ {most : Limits} {p : Plan} {incident begins first labels table claimed : List ℕ} (s : Stage most p incident begins first labels table)
+    (z : Masked most (p .ends) (p .excluded) (replicate (most .edges) 0) claimed) where
+  -- the edges of excluded vertices are claimed from the start
+  m : Masks p claimed
+  m = masked-made (s .tabled .admitted) z
+
+  pub stage-working : Working most p incident begins first labels claimed table
   stage-working = record {
     tabled = s .tabled;
     first-room = s .first-room;
     labels-room = s .labels-room;
     balanced = s .balanced;
-    claimed-room = omega (arith, s .tabled .admitted .edges, length-replicate {A = ℕ} (most .edges) 0);
+    claimed-room = m .room;
+    masking = masks-masking m;
     table-room = s .table-room;
   }
 
-  pub stage-singles : Singles (graph p) (p .vertices) (length (p .ends) / 2) 0 (replicate (most .edges) 0) table
-  stage-singles = singles-start (working-setting stage-working) (replicate (most .edges) 0) table (s .groups) (λ x l. zeros (most .edges) x)
+  pub stage-singles : Singles (graph p) (p .vertices) (length (p .ends) / 2) 0 claimed table
+  stage-singles = singles-start (working-setting stage-working) claimed table (s .groups) (masks-live m)
 
-  pub stage-found : {claimed₁ table₁ claimed₂ table₂ : List ℕ} → Worked (p .vertices) (replicate (most .edges) 0) table claimed₁ table₁
+  pub stage-found : {claimed₁ table₁ claimed₂ table₂ : List ℕ} → Worked (p .vertices) claimed table claimed₁ table₁
       → Stars (graph p) (p .vertices) (length (p .ends) / 2) (length (p .ends) / 2) 0 claimed₂ table₂ × Worked (p .vertices) claimed₁ table₁ claimed₂ table₂ → Found p table table₂
   stage-found a b = record { kept = worked-more a (b .1) .kept; each = stars-component (working-setting stage-working) (b .0) }
 
@@ -64,8 +72,8 @@ module _ {most : Limits} {p : Plan} (a : Admitted most p) where
   long : (k : ℕ) → length (replicate {A = ℕ} k 0) ≡ k
   long k = length-replicate {A = ℕ} k 0
 
-  roomy : T (enough p made)
-  roomy = ample-is p made .test (record {
+  roomy : AmpleFor p made
+  roomy = record {
     groups = omega (arith, a .edges, long (2 * most .edges));
     beginnings = omega (arith, a .vertices, long (most .vertices));
     edge-marks = omega (arith, a .edges, long (most .edges));
@@ -76,12 +84,11 @@ module _ {most : Limits} {p : Plan} (a : Admitted most p) where
       edges = omega (arith, a .edges, long (most .edges));
       vertices = omega (arith, a .vertices, long (most .vertices));
     };
-  })
+  }
 
-  module _ {incident begins dead first order cursor labels sums : List ℕ} {r : Labelling} (s : labelling.Answered most p made (tables incident begins dead first order cursor labels sums) r) where
-    served : (handed r) .reply ≡ passed
-    unfolding labelling.labelling
-    served = ap (λ (h : Handed). h .reply) (s .answer) ∙ rw (lent-enough (enough p made) a roomy)
+  module _ {incident begins dead first order cursor labels sums : List ℕ} {r : code.Answer} (s : labelling.Answered most p made (tables incident begins dead first order cursor labels sums) r) where
+    served : r .number ≡ 0
+    served = answers-zero s a roomy
 
     first-long : length first ≡ most .vertices
     first-long = s .spanned served .first-kept .long ∙ long (most .vertices)
@@ -91,6 +98,9 @@ module _ {most : Limits} {p : Plan} (a : Admitted most p) where
 
     pub labelled-forest : ForestOf p first order
     labelled-forest = s .spanned served .forest
+
+    pub labelled-low : RootsLow (p .vertices) (read first) (read order)
+    labelled-low = s .spanned served .low
 
     pub labelled-ordered : {table : List ℕ} → p .vertices ≤ length table → Ordered (p .vertices) first order table
     labelled-ordered r = record {
@@ -104,9 +114,9 @@ module _ {most : Limits} {p : Plan} (a : Admitted most p) where
     labelled-stage r b = let l = s .laid served in record {
       tabled = record {
         admitted = a;
-        incident-rest = drop (length (incidentTable (graph p))) (made .incident);
+        incident-rest = drop (length (incidentTable (listed p))) (made .incident);
         incident-is = l .incident-front;
-        begins-rest = drop (length (beginsTable (graph p))) (made .begins);
+        begins-rest = drop (length (beginsTable (listed p))) (made .begins);
         begins-is = l .begins-front;
       };
       first-room = omega (arith, first-long, a .vertices);
@@ -122,14 +132,10 @@ module _ {most : Limits} {p : Plan} (a : Admitted most p) where
     long = f .kept .long ∙ b .kept .long;
     rest = λ k l. f .kept .rest k l ∙ b .kept .rest k l;
   }))
-      (λ v l. let h : v < p .vertices = omega (arith, size) in
-      component-unique (f .each v h) (component-found (graph p) (admitted-vertex a v h)) ∙ sym (components-at (graph p) v (rw bound h)))
+      (λ v l. let h : v < p .vertices = omega (arith, size) in f .each v h ∙ sym (components-at (graph p) v (rw (bound-is p) h)))
     where
-      bound : graph p .bound ≡ p .vertices
-      bound = bound-is (p .vertices) (p .ends)
-
       size : length (components (graph p)) ≡ p .vertices
-      size = components-length (graph p) ∙ bound
+      size = components-length (graph p) ∙ bound-is p
 
 -- The answer.
 

@@ -3,13 +3,13 @@ use mathlib.Core.Path.{_≡_, refl, sym, ap, _∙_, subst}
 use mathlib.Core.List.{List, [], _∷_}
 use Prim.Native.Nat.{ℕ, _+_, _-_, _/_, _≤_, _<_}
 use native.Mathlib.Omega.{arith}
+use native.Mathlib.Decide.{ℕ-discrete}
 use lib.ListN.{length, getD, length-set}
+use lib.Seq.{getD-set-other}
 use Rattle.connectivity.specs.Plan.{Plan, graph, Limits}
 use Rattle.connectivity.specs.Graph.{Graph, Edge}
-use Rattle.connectivity.specs.Admission.{Admitted}
-use Rattle.connectivity.proofs.Admission.{admitted-vertex}
+use Rattle.connectivity.proofs.Kept.{vertex-size, edge-size}
 use Rattle.graph.specs.Marks.{read}
-use Rattle.graph.proofs.Joined.{vertex-below}
 use Rattle.incidence.specs.Parts.{Kept}
 use Rattle.labels.specs.Label.{Keeps}
 use Rattle.labels.proofs.CutLabels.{no-loops}
@@ -18,7 +18,7 @@ use Rattle.chains.proofs.Lowest.{named-some}
 use Rattle.cuts.specs.Alike.{Chaining}
 use Rattle.components.specs.Pair.{LowestPair}
 use Rattle.components.specs.Stars.{Attempt, joined, parted, Turn, other, taken, tried, Singles, Stars, Working, Worked}
-use Rattle.components.proofs.Starring.{Setting, singles-pass, singles-try, star-skip, star-claimed, star-try, star-end}
+use Rattle.components.proofs.Starring.{Setting, singles-pass, singles-claimed, singles-try, star-skip, star-claimed, star-try, star-end}
 
 -- What is left of the tables.
 
@@ -26,23 +26,25 @@ attempt-kept : {g : Graph} {n : ℕ} {cut : List ℕ} {d : ℕ} {table₀ table 
 attempt-kept (joined same root far j w) = record { long = ap length same; rest = λ k l. ap (λ (t : List ℕ). getD t k 0) same }
 attempt-kept (parted long root far j ne side tells p) = record { long = long; rest = p .rest }
 
-turn-kept : {g : Graph} {n label e d : ℕ} {labels claimed₀ table₀ claimed table : List ℕ} → Turn g n label e d labels claimed₀ table₀ claimed table → (length claimed ≡ length claimed₀) × Kept n table₀ table
-turn-kept (other ne p q) = (ap length p, record { long = ap length q; rest = λ k l. ap (λ (t : List ℕ). getD t k 0) q })
-turn-kept (taken ne p q) = (ap length p, record { long = ap length q; rest = λ k l. ap (λ (t : List ℕ). getD t k 0) q })
-turn-kept {d = d} {claimed₀ = claimed₀} (tried {r} z p a) = (ap length p ∙ length-set claimed₀ d r, attempt-kept a)
-
 pub worked-same : {n : ℕ} {claimed table : List ℕ} → Worked n claimed table claimed table
-worked-same = record { claimed-long = refl; kept = record { long = refl; rest = λ k l. refl } }
+worked-same = record { claimed-long = refl; claims = λ x z. z; kept = record { long = refl; rest = λ k l. refl } }
 
 pub worked-more : {n : ℕ} {claimed₀ table₀ claimed₁ table₁ claimed table : List ℕ} → Worked n claimed₀ table₀ claimed₁ table₁ → Worked n claimed₁ table₁ claimed table
     → Worked n claimed₀ table₀ claimed table
 worked-more a b = record {
   claimed-long = b .claimed-long ∙ a .claimed-long;
+  claims = λ x z. a .claims x (b .claims x z);
   kept = record { long = b .kept .long ∙ a .kept .long; rest = λ k l. b .kept .rest k l ∙ a .kept .rest k l };
 }
 
 pub worked-turn : {g : Graph} {n label e d : ℕ} {labels claimed₀ table₀ claimed table : List ℕ} → Turn g n label e d labels claimed₀ table₀ claimed table → Worked n claimed₀ table₀ claimed table
-worked-turn t = let k = turn-kept t in record { claimed-long = k .0; kept = k .1 }
+worked-turn (other ne p q) = rw (p, q) worked-same
+worked-turn (taken ne p q) = rw (p, q) worked-same
+worked-turn {d = d} {claimed₀ = claimed₀} (tried {r} z p a) = record {
+  claimed-long = ap length p ∙ length-set claimed₀ d r;
+  claims = λ x y. elim (ℕ-discrete x d) [ yes q ↦ rw q z | no q ↦ sym (ap (λ (l : List ℕ). getD l x 0) p ∙ getD-set-other claimed₀ d x r 0 q) ∙ y ];
+  kept = attempt-kept a;
+}
 
 module _ {most : Limits} {p : Plan} {incident begins first labels claimed₀ table₀ : List ℕ} (s : Working most p incident begins first labels claimed₀ table₀) where
   pub working-on : {claimed table : List ℕ} → Worked (p .vertices) claimed₀ table₀ claimed table → Working most p incident begins first labels claimed table
@@ -52,43 +54,32 @@ module _ {most : Limits} {p : Plan} {incident begins first labels claimed₀ tab
     labels-room = s .labels-room;
     balanced = s .balanced;
     claimed-room = omega (arith, s .claimed-room, w .claimed-long);
+    masking = λ x l z. s .masking x l (w .claims x z);
     table-room = omega (arith, s .table-room, w .kept .long);
   }
 
-  abbrev a : Admitted most p
-  a = s .tabled .admitted
-
   pub working-setting : Setting (graph p) (p .vertices) (length (p .ends) / 2) (read labels)
-  unfolding graph
   working-setting = record {
-    vertex = admitted-vertex a;
-    below = λ v h. vertex-below (p .vertices) (p .ends) v h;
-    edge = edge;
-    inside = inside;
-    loops = no-loops a;
+    below = λ v. vertex-size p;
+    inside = λ e. edge-size p;
+    loops = no-loops (s .tabled .admitted);
     balanced = s .balanced;
   }
-    where
-      edge : (e : ℕ) → e < length (p .ends) / 2 → Edge (graph p) e
-      edge e l = record { below = l; left = admitted-vertex a _ (a .fit e l .left); right = admitted-vertex a _ (a .fit e l .right) }
-
-      inside : (e : ℕ) → Edge (graph p) e → e < length (p .ends) / 2
-      inside e h = h .below
 
 -- What a turn makes of the claims and the groups.
 
 module _ {g : Graph} {n m : ℕ} {labels : List ℕ} (t : Setting g n m (read labels)) {k : ℕ} (h : k < m) {claimed table claimed′ table′ : List ℕ} (room : m ≤ length claimed) where
   pub singles-turn : Singles g n m k claimed table → Turn g n 0 k k labels claimed table claimed′ table′ → Singles g n m (k + 1) claimed′ table′
   singles-turn s (other ne p q) = rw (p, q) (singles-pass t h s ne)
-  singles-turn s (taken ne p q) = absurd (ne (s .fresh k (omega arith) h))
+  singles-turn s (taken ne p q) = rw (p, q) (singles-claimed t h s ne)
   singles-turn s (tried z p a) = rw p (singles-try t h s (omega arith) a)
 
   -- the edge that is looked at is not claimed itself
-  module _ (keeps : Keeps g (k ∷ [])) (low : LowestPair g k k) {d : ℕ} (l : k < d) (b : d < m) where
+  module _ (edge : Edge g k) (keeps : Keeps g (k ∷ [])) (low : LowestPair g k k) {d : ℕ} (l : k < d) (b : d < m) where
     pub star-turn : Stars g n m k d claimed table → Turn g n (getD labels k 0) k d labels claimed table claimed′ table′ → Stars g n m k (d + 1) claimed′ table′
     star-turn s (other ne p q) = rw (p, q) (star-skip t h d (d + 1) (λ x o i e j w. let z : x ≡ d = omega arith in ne (ap (read labels) (sym z) ∙ sym w)) s)
     star-turn s (taken ne p q) = rw (p, q) (star-claimed t h l b s ne)
-    star-turn s (tried z p a) = rw p (star-try t h l b s (omega arith) z keeps low a)
+    star-turn s (tried z p a) = rw p (star-try t h l b s (omega arith) z edge keeps low a)
 
 -- The way along a chain.
 
@@ -125,10 +116,10 @@ module _ {g : Graph} {n m : ℕ} {labels next : List ℕ} (t : Setting g n m (re
         (record { inside = l .inside; on = λ o. l .on o ∙ w .on some; above = omega (arith, l .low, chain-above) }, skip (x - 1) (getD next (x - 1) 0) (w .on some) l s)
 
     -- a turn with the edge that x names
-    pub chain-turn : {claimed table claimed′ table′ : List ℕ} → m ≤ length claimed → Keeps g (e ∷ []) → LowestPair g e e → Stars g n m e (named m x) claimed table
+    pub chain-turn : {claimed table claimed′ table′ : List ℕ} → m ≤ length claimed → Edge g e → Keeps g (e ∷ []) → LowestPair g e e → Stars g n m e (named m x) claimed table
         → Turn g n (getD labels e 0) e (x - 1) labels claimed table claimed′ table′ → OnChain key m e (getD next (x - 1) 0) × Stars g n m e (named m (getD next (x - 1) 0)) claimed′ table′
-    chain-turn {claimed} {table} room keeps low s a =
-        chain-next (star-turn t h room keeps low chain-above (omega (arith, w .inside)) (subst (λ (y : ℕ). Stars g n m e y claimed table) chain-at s) a)
+    chain-turn {claimed} {table} room edge keeps low s a =
+        chain-next (star-turn t h room edge keeps low chain-above (omega (arith, w .inside)) (subst (λ (y : ℕ). Stars g n m e y claimed table) chain-at s) a)
 
     -- the way ends
     pub chain-less : m - named m (getD next (x - 1) 0) < m - named m x

@@ -1,13 +1,12 @@
 -- What the parts of a try promise one another, and what the cuts are tried over.
 use mathlib.Core.Path.{_≡_}
 use mathlib.Core.Bool.{cond}
-use mathlib.Core.Logic.{_⊎_}
 use mathlib.Core.List.{List}
 use Prim.Native.Nat.{ℕ, _+_, _*_, _/_, _≤_, _<_}
 use lib.Dec.{eqb}
 use lib.ListN.{length, getD}
 use Rattle.connectivity.specs.Plan.{Plan, graph, Limits}
-use Rattle.connectivity.specs.Component.{Component}
+use Rattle.connectivity.specs.Component.{componentOf}
 use Rattle.graph.specs.Marks.{read}
 use Rattle.incidence.specs.Tables.{Tabled}
 use Rattle.incidence.specs.Parts.{Kept}
@@ -15,10 +14,7 @@ use Rattle.labels.specs.Label.{Balanced}
 use Rattle.components.specs.Splitting.{unseen, Parted}
 use Rattle.components.specs.Stars.{Grouping}
 
--- an end of d, and the one that is not v
-abbrev pub EndOf : List ℕ → ℕ → ℕ → Type 0
-EndOf ends d v = (v ≡ getD ends (2 * d) 0) ⊎ (v ≡ getD ends (2 * d + 1) 0)
-
+-- the end of d that is not v
 abbrev pub farEnd : List ℕ → ℕ → ℕ → ℕ
 farEnd ends d v = cond (eqb (getD ends (2 * d) 0) v) (getD ends (2 * d + 1) 0) (getD ends (2 * d) 0)
 
@@ -36,7 +32,7 @@ pub record Stage (most : Limits) (p : Plan) (incident begins first labels table 
   pub table-room : p .vertices ≤ length table
   pub groups : Grouping (graph p) (p .vertices) (read table)
 
--- each vertex has the lowest of its group; what lies behind the vertices' places stays
+-- each vertex has the lowest of its group, an excluded one itself; what lies behind the vertices' places stays
 pub record Found (p : Plan) (table₀ table : List ℕ) : Type 0 where
   pub kept : Kept (p .vertices) table₀ table
-  pub each : (v : ℕ) → v < p .vertices → Component (graph p) v (getD table v 0)
+  pub each : (v : ℕ) → v < p .vertices → getD table v 0 ≡ componentOf (graph p) v

@@ -13,24 +13,24 @@ mod pairs; // pairs.rt: the cuts of one edge and of two that have to be tried
 mod split; // split.rt: groups in a table, and how they are taken apart
 mod tries; // tries.rt: one cut tried by a search
 
-// The plan's own 1 to 5; 6 where `table` has fewer numbers than there are vertices. Else for each vertex the lowest one that holds together
-// with it.
-pub fn find(vertices: u16, ends: &[u16], table: &mut [u16]) -> Answer
-    ensures { λ r. ⌜ Answered limits (plan vertices (now (ends .entry))) (now (table .entry)) (now (table .exit)) r ⌝ }
+// The plan's own refusals; 6 where `table` has fewer numbers than there are vertices. Else for each vertex the lowest one that holds together
+// with it, and for an excluded one itself.
+pub fn find(vertices: u16, ends: &[u16], excluded: &[u16], table: &mut [u16]) -> Answer
+    ensures { λ r. ⌜ Answered limits (plan vertices (now (ends .entry)) (now (excluded .entry))) (now (table .entry)) (now (table .exit)) r ⌝ }
 {
     let short = table.len() < vertices as usize;
-    let answer = graph::refusal(vertices, ends, short);
+    let answer = graph::refusal(vertices, ends, excluded, short);
     let number = answer.number;
     if number == 0 {
-        fill(vertices, ends, table);
+        fill(vertices, ends, excluded, table);
     }
     answer
 }
 
 // The same of an admitted plan and a table that is long enough.
-fn fill(vertices: u16, ends: &[u16], table: &mut [u16])
-    requires { ⌜ Admitted limits (plan vertices (now ends)) × (vertices ≤ length (now table)) ⌝ }
-    ensures { λ _. ⌜ Front (components (graph (plan vertices (now (ends .entry))))) (now (table .entry)) (now (table .exit)) ⌝ }
+fn fill(vertices: u16, ends: &[u16], excluded: &[u16], table: &mut [u16])
+    requires { ⌜ Admitted limits (plan vertices (now ends) (now excluded)) × (vertices ≤ length (now table)) ⌝ }
+    ensures { λ _. ⌜ Front (components (graph (plan vertices (now (ends .entry)) (now (excluded .entry))))) (now (table .entry)) (now (table .exit)) ⌝ }
 {
     let mut incident = [0u16; 2 * Graph::MAX_EDGES];
     let mut begins = [0u16; Graph::MAX_VERTICES];
@@ -43,6 +43,7 @@ fn fill(vertices: u16, ends: &[u16], table: &mut [u16])
     labels::label(
         vertices,
         ends,
+        excluded,
         &mut incident,
         &mut begins,
         &mut dead,
@@ -53,5 +54,14 @@ fn fill(vertices: u16, ends: &[u16], table: &mut [u16])
         &mut sums,
     );
     split::bodies(vertices, &first, &order, table);
-    pairs::part(vertices, ends, &incident, &begins, &first, &labels, table);
+    pairs::part(
+        vertices,
+        ends,
+        excluded,
+        &incident,
+        &begins,
+        &first,
+        &labels,
+        table,
+    );
 }

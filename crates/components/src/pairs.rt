@@ -15,26 +15,30 @@ ghost use Rattle.components.specs.Tries.{Stage, Found};
 // How many chains there are for edges with like labels. More would be shorter, and take more of the stack.
 const HEADS: usize = 1024;
 
-// Takes the bodies apart by every cut of one edge or two that has to be tried.
+// Takes the bodies apart by every cut of one edge or two that has to be tried. The edges of excluded vertices count as claimed from the start, so
+// that none of them is.
 pub(crate) fn part(
     vertices: u16,
     ends: &[u16],
+    excluded: &[u16],
     incident: &[u16],
     begins: &[u16],
     first: &[u16],
     labels: &[u64],
     table: &mut [u16],
 )
-    requires { ⌜ Stage limits (plan vertices (now ends)) (now incident) (now begins) (now first) (now labels) (now table) ⌝ }
-    ensures { λ _. ⌜ Found (plan vertices (now (ends .entry))) (now (table .entry)) (now (table .exit)) ⌝ }
+    requires { ⌜ Stage limits (plan vertices (now ends) (now excluded)) (now incident) (now begins) (now first) (now labels) (now table) ⌝ }
+    ensures { λ _. ⌜ Found (plan vertices (now (ends .entry)) (now (excluded .entry))) (now (table .entry)) (now (table .exit)) ⌝ }
 {
     let mut claimed = [0u8; Graph::MAX_EDGES];
+    graph::excluded::mask(ends, excluded, &mut claimed);
     let mut next = [0u16; Graph::MAX_EDGES];
     let edges = (ends.len() / 2) as u16;
     chain(edges, labels, &mut next);
     singles(
         vertices,
         ends,
+        excluded,
         incident,
         begins,
         first,
@@ -46,6 +50,7 @@ pub(crate) fn part(
     stars(
         vertices,
         ends,
+        excluded,
         incident,
         begins,
         first,
@@ -70,6 +75,7 @@ fn chain(edges: u16, labels: &[u64], next: &mut [u16])
 fn singles(
     vertices: u16,
     ends: &[u16],
+    excluded: &[u16],
     incident: &[u16],
     begins: &[u16],
     first: &[u16],
@@ -78,14 +84,15 @@ fn singles(
     claimed: &mut [u8],
     table: &mut [u16],
 )
-    requires { ⌜ (edges ≡ length (now ends) / 2) × Working limits (plan vertices (now ends)) (now incident) (now begins) (now first) (now labels) (now claimed) (now table) × Singles (graph (plan vertices (now ends))) vertices (length (now ends) / 2) 0 (now claimed) (now table) ⌝ }
-    ensures { λ _. ⌜ Singles (graph (plan vertices (now (ends .entry)))) vertices (length (now (ends .entry)) / 2) (length (now (ends .entry)) / 2) (now (claimed .exit)) (now (table .exit)) × Worked vertices (now (claimed .entry)) (now (table .entry)) (now (claimed .exit)) (now (table .exit)) ⌝ }
+    requires { ⌜ (edges ≡ length (now ends) / 2) × Working limits (plan vertices (now ends) (now excluded)) (now incident) (now begins) (now first) (now labels) (now claimed) (now table) × Singles (graph (plan vertices (now ends) (now excluded))) vertices (length (now ends) / 2) 0 (now claimed) (now table) ⌝ }
+    ensures { λ _. ⌜ Singles (graph (plan vertices (now (ends .entry)) (now (excluded .entry)))) vertices (length (now (ends .entry)) / 2) (length (now (ends .entry)) / 2) (now (claimed .exit)) (now (table .exit)) × Worked vertices (now (claimed .entry)) (now (table .entry)) (now (claimed .exit)) (now (table .exit)) ⌝ }
 {
     let mut e = 0;
     while e < edges {
         turn(
             vertices,
             ends,
+            excluded,
             incident,
             begins,
             first,
@@ -104,6 +111,7 @@ fn singles(
 fn stars(
     vertices: u16,
     ends: &[u16],
+    excluded: &[u16],
     incident: &[u16],
     begins: &[u16],
     first: &[u16],
@@ -113,14 +121,15 @@ fn stars(
     claimed: &mut [u8],
     table: &mut [u16],
 )
-    requires { ⌜ (edges ≡ length (now ends) / 2) × Working limits (plan vertices (now ends)) (now incident) (now begins) (now first) (now labels) (now claimed) (now table) × Chaining (length (now ends) / 2) (now labels) (now next) × Stars (graph (plan vertices (now ends))) vertices (length (now ends) / 2) 0 0 (now claimed) (now table) ⌝ }
-    ensures { λ _. ⌜ Stars (graph (plan vertices (now (ends .entry)))) vertices (length (now (ends .entry)) / 2) (length (now (ends .entry)) / 2) 0 (now (claimed .exit)) (now (table .exit)) × Worked vertices (now (claimed .entry)) (now (table .entry)) (now (claimed .exit)) (now (table .exit)) ⌝ }
+    requires { ⌜ (edges ≡ length (now ends) / 2) × Working limits (plan vertices (now ends) (now excluded)) (now incident) (now begins) (now first) (now labels) (now claimed) (now table) × Chaining (length (now ends) / 2) (now labels) (now next) × Stars (graph (plan vertices (now ends) (now excluded))) vertices (length (now ends) / 2) 0 0 (now claimed) (now table) ⌝ }
+    ensures { λ _. ⌜ Stars (graph (plan vertices (now (ends .entry)) (now (excluded .entry)))) vertices (length (now (ends .entry)) / 2) (length (now (ends .entry)) / 2) 0 (now (claimed .exit)) (now (table .exit)) × Worked vertices (now (claimed .entry)) (now (table .entry)) (now (claimed .exit)) (now (table .exit)) ⌝ }
 {
     let mut e = 0;
     while e < edges {
         star(
             vertices,
             ends,
+            excluded,
             incident,
             begins,
             first,
@@ -138,6 +147,7 @@ fn stars(
 fn star(
     vertices: u16,
     ends: &[u16],
+    excluded: &[u16],
     incident: &[u16],
     begins: &[u16],
     first: &[u16],
@@ -147,8 +157,8 @@ fn star(
     claimed: &mut [u8],
     table: &mut [u16],
 )
-    requires { ⌜ (e < length (now ends) / 2) × Working limits (plan vertices (now ends)) (now incident) (now begins) (now first) (now labels) (now claimed) (now table) × Chaining (length (now ends) / 2) (now labels) (now next) × Stars (graph (plan vertices (now ends))) vertices (length (now ends) / 2) e 0 (now claimed) (now table) ⌝ }
-    ensures { λ _. ⌜ Stars (graph (plan vertices (now (ends .entry)))) vertices (length (now (ends .entry)) / 2) (e + 1) 0 (now (claimed .exit)) (now (table .exit)) × Worked vertices (now (claimed .entry)) (now (table .entry)) (now (claimed .exit)) (now (table .exit)) ⌝ }
+    requires { ⌜ (e < length (now ends) / 2) × Working limits (plan vertices (now ends) (now excluded)) (now incident) (now begins) (now first) (now labels) (now claimed) (now table) × Chaining (length (now ends) / 2) (now labels) (now next) × Stars (graph (plan vertices (now ends) (now excluded))) vertices (length (now ends) / 2) e 0 (now claimed) (now table) ⌝ }
+    ensures { λ _. ⌜ Stars (graph (plan vertices (now (ends .entry)) (now (excluded .entry)))) vertices (length (now (ends .entry)) / 2) (e + 1) 0 (now (claimed .exit)) (now (table .exit)) × Worked vertices (now (claimed .entry)) (now (table .entry)) (now (claimed .exit)) (now (table .exit)) ⌝ }
 {
     if claimed[e as usize] != 0 {
         return;
@@ -160,6 +170,7 @@ fn star(
         turn(
             vertices,
             ends,
+            excluded,
             incident,
             begins,
             first,
@@ -178,6 +189,7 @@ fn star(
 fn turn(
     vertices: u16,
     ends: &[u16],
+    excluded: &[u16],
     incident: &[u16],
     begins: &[u16],
     first: &[u16],
@@ -188,8 +200,8 @@ fn turn(
     claimed: &mut [u8],
     table: &mut [u16],
 )
-    requires { ⌜ (e < length (now ends) / 2) × (d < length (now ends) / 2) × Working limits (plan vertices (now ends)) (now incident) (now begins) (now first) (now labels) (now claimed) (now table) × Classes vertices (read (now table)) ⌝ }
-    ensures { λ _. ⌜ Turn (graph (plan vertices (now (ends .entry)))) vertices label e d (now (labels .entry)) (now (claimed .entry)) (now (table .entry)) (now (claimed .exit)) (now (table .exit)) ⌝ }
+    requires { ⌜ (e < length (now ends) / 2) × (d < length (now ends) / 2) × Working limits (plan vertices (now ends) (now excluded)) (now incident) (now begins) (now first) (now labels) (now claimed) (now table) × Classes vertices (read (now table)) ⌝ }
+    ensures { λ _. ⌜ Turn (graph (plan vertices (now (ends .entry)) (now (excluded .entry)))) vertices label e d (now (labels .entry)) (now (claimed .entry)) (now (table .entry)) (now (claimed .exit)) (now (table .exit)) ⌝ }
 {
     let at = d as usize;
     if labels[at] != label {
@@ -198,5 +210,15 @@ fn turn(
     if claimed[at] != 0 {
         return;
     }
-    claimed[at] = tries::attempt(vertices, ends, incident, begins, first, e, d, table);
+    claimed[at] = tries::attempt(
+        vertices,
+        ends,
+        excluded,
+        incident,
+        begins,
+        first,
+        e,
+        d,
+        table,
+    );
 }

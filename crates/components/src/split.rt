@@ -7,16 +7,17 @@ ghost use lib.Dec.{eqb};
 ghost use lib.ListN.{length, getD};
 ghost use Rattle.connectivity.specs.Plan.{plan};
 ghost use Rattle.depth.specs.Depth.{rootMark};
+ghost use Rattle.depth.specs.Forest.{RootsLow};
 ghost use Rattle.graph.specs.Marks.{read};
 ghost use Rattle.graph.specs.Tells.{Tells};
 ghost use Rattle.labels.specs.Answered.{ForestOf};
 ghost use Rattle.components.specs.Bodies.{Ordered, Bodied};
 ghost use Rattle.components.specs.Splitting.{unseen, Parted, Placing};
 
-// The bodies, from a spanning forest: the root of each tree is the lowest vertex of its body.
+// The bodies, from a spanning forest: the root of each tree is the lowest vertex of its body. An excluded vertex is in a group alone.
 pub(crate) fn bodies(vertices: u16, first: &[u16], order: &[u16], table: &mut [u16])
     requires { ⌜ Ordered vertices (now first) (now order) (now table) ⌝ }
-    ensures { λ _. ⌜ ((ends : List ℕ) → ForestOf (plan vertices ends) (now (first .entry)) (now (order .entry)) → Bodied (plan vertices ends) (now (table .entry)) (now (table .exit))) ⌝ }
+    ensures { λ _. ⌜ ((ends excluded : List ℕ) → ForestOf (plan vertices ends excluded) (now (first .entry)) (now (order .entry)) → RootsLow vertices (read (now (first .entry))) (read (now (order .entry))) → Bodied (plan vertices ends excluded) (now (table .entry)) (now (table .exit))) ⌝ }
 {
     let mut root = 0;
     let mut k = 0;

@@ -7,20 +7,22 @@ ghost use mathlib.Core.List.{[], _∷_};
 ghost use Prim.Native.Nat.{ℕ, _/_, _<_, _≤_};
 ghost use lib.ListN.{length, getD, set};
 ghost use Rattle.connectivity.specs.Plan.{plan, graph, limits};
+ghost use Rattle.connectivity.specs.Graph.{Vertex, Edge};
 ghost use Rattle.connectivity.specs.Reach.{Reach, Without};
 ghost use Rattle.graph.specs.Marks.{read};
 ghost use Rattle.graph.specs.Tells.{Tells};
 ghost use Rattle.incidence.specs.Tables.{Tabled};
-ghost use Rattle.cuts.specs.Tries.{EndsBelow};
+ghost use Rattle.cuts.specs.Tries.{EndOf, EndsBelow};
 ghost use Rattle.components.specs.Splitting.{Classes, unseen};
 ghost use Rattle.components.specs.Stars.{Attempt};
-ghost use Rattle.components.specs.Tries.{EndOf, farEnd, PartedAt};
+ghost use Rattle.components.specs.Tries.{farEnd, PartedAt};
 
 // Searches from an end of d without e and d. Where that does not come to its other end, the groups are taken apart by what was seen, and the
 // answer is 1; else 0.
 pub(crate) fn attempt(
     vertices: u16,
     ends: &[u16],
+    excluded: &[u16],
     incident: &[u16],
     begins: &[u16],
     first: &[u16],
@@ -28,20 +30,32 @@ pub(crate) fn attempt(
     d: u16,
     table: &mut [u16],
 ) -> u8
-    requires { ⌜ Tabled limits (plan vertices (now ends)) (now incident) (now begins) × (vertices ≤ length (now first)) × (e < length (now ends) / 2) × (d < length (now ends) / 2) × (vertices ≤ length (now table)) × Classes vertices (read (now table)) ⌝ }
-    ensures { λ r. ⌜ Attempt (graph (plan vertices (now (ends .entry)))) vertices (e ∷ (d ∷ [])) d (now (table .entry)) (now (table .exit)) r ⌝ }
+    requires { ⌜ Tabled limits (plan vertices (now ends) (now excluded)) (now incident) (now begins) × (vertices ≤ length (now first)) × (e < length (now ends) / 2) × Edge (graph (plan vertices (now ends) (now excluded))) d × (vertices ≤ length (now table)) × Classes vertices (read (now table)) ⌝ }
+    ensures { λ r. ⌜ Attempt (graph (plan vertices (now (ends .entry)) (now (excluded .entry)))) vertices (e ∷ (d ∷ [])) d (now (table .entry)) (now (table .exit)) r ⌝ }
 {
     let root = lower_end(ends, first, d);
     let far = far_end(ends, d, root);
     let mut marks = [0u16; Graph::MAX_VERTICES];
-    search(vertices, ends, incident, begins, e, d, root, &mut marks);
+    search(
+        vertices,
+        ends,
+        excluded,
+        incident,
+        begins,
+        e,
+        d,
+        root,
+        &mut marks,
+    );
     part(vertices, far, &marks, table)
 }
 
-// The search from `root` without e and d: marks what it sees. It has tables of its own: to clear them costs less than a search.
+// The search from `root` without e and d: marks what it sees, which is no excluded vertex. It has tables of its own: to clear them costs less than
+// a search.
 fn search(
     vertices: u16,
     ends: &[u16],
+    excluded: &[u16],
     incident: &[u16],
     begins: &[u16],
     e: u16,
@@ -49,10 +63,11 @@ fn search(
     root: u16,
     marks: &mut [u16],
 )
-    requires { ⌜ Tabled limits (plan vertices (now ends)) (now incident) (now begins) × (e < length (now ends) / 2) × (d < length (now ends) / 2) × (root < vertices) × (vertices ≤ length (now marks)) × ((v : ℕ) → v < vertices → getD (now marks) v 0 ≡ 0) ⌝ }
-    ensures { λ _. ⌜ ((v : ℕ) → v < vertices → Tells (not (unseen (now (marks .exit)) v)) (Reach (graph (plan vertices (now (ends .entry)))) (Without (e ∷ (d ∷ []))) root v)) ⌝ }
+    requires { ⌜ Tabled limits (plan vertices (now ends) (now excluded)) (now incident) (now begins) × (e < length (now ends) / 2) × (d < length (now ends) / 2) × Vertex (graph (plan vertices (now ends) (now excluded))) root × (vertices ≤ length (now marks)) × ((v : ℕ) → v < vertices → getD (now marks) v 0 ≡ 0) ⌝ }
+    ensures { λ _. ⌜ ((v : ℕ) → v < vertices → Tells (not (unseen (now (marks .exit)) v)) (Reach (graph (plan vertices (now (ends .entry)) (now (excluded .entry)))) (Without (e ∷ (d ∷ []))) root v)) ⌝ }
 {
     let mut dead = [0u8; Graph::MAX_EDGES];
+    graph::excluded::mask(ends, excluded, &mut dead);
     mark(e, d, &mut dead);
     let mut order = [0u16; Graph::MAX_VERTICES];
     let mut cursor = [0u16; Graph::MAX_VERTICES];

@@ -1,4 +1,4 @@
--- How long the text of the groups is: a line of two columns for each vertex, so that space for these is enough and 6 never occurs.
+-- How long the text of the groups is: a line of two columns for each vertex that is kept, so that space for these is enough and 6 never occurs.
 use mathlib.Core.Path.{_≡_, refl, ap, _∙_}
 use mathlib.Core.List.{List, [], _∷_}
 use Prim.Native.Nat.{ℕ, _*_, _≤_}
@@ -8,8 +8,8 @@ use lib.ListN.{length, length-append}
 use Rattle.connectivity.specs.Plan.{Plan, graph, Limits}
 use Rattle.connectivity.specs.Graph.{Graph, vertices}
 use Rattle.connectivity.specs.Component.{componentOf}
-use Rattle.connectivity.proofs.Lists.{length-range}
-use Rattle.connectivity.proofs.Admission.{plan-vertices}
+use Rattle.connectivity.specs.Admission.{keptVertices}
+use Rattle.connectivity.proofs.Kept.{admitted-count}
 use Rattle.text.specs.Column.{line, lineSize}
 use Rattle.text.specs.Plan.{PlanReading, Writing}
 use Rattle.text.proofs.Laws.{length-line}
@@ -30,9 +30,9 @@ length-groups ws g (v ∷ l) =
     omega (arith, length-append (line ws pair) (groupLines ws g l), length-line ws pair, length-groups ws g l, suc-mul (length l) (lineSize ws 2))
 
 -- of a plan
-pub length-text : (ws : List ℕ) (p : Plan) → length (groupsText ws (graph p)) ≡ p .vertices * lineSize ws 2
+pub length-text : (ws : List ℕ) (p : Plan) → length (groupsText ws (graph p)) ≡ keptVertices p * lineSize ws 2
 unfolding groupsText
-length-text ws p = length-groups ws (graph p) (vertices (graph p)) ∙ ap (λ (m : ℕ). m * lineSize ws 2) (ap length (plan-vertices p) ∙ length-range 0 (p .vertices))
+length-text ws p = length-groups ws (graph p) (vertices (graph p))
 
 module _ (ws : List ℕ) (most : ℕ) (limits : Limits) (one : 1 ≤ limits .vertices) (plan : List ℕ) where
   abbrev text : List ℕ
@@ -44,7 +44,10 @@ module _ (ws : List ℕ) (most : ℕ) (limits : Limits) (one : 1 ≤ limits .ver
     where
       go : (x : PlanReading) → planIn ws most limits plan ≡ x → length (textOf ws x) ≤ limits .vertices * lineSize ws 2
       go (PlanReading.refused a) q = omega (arith, length-line ws (a .number ∷ []), mul-le-mul-right (lineSize ws 2) one)
-      go (PlanReading.read p) q = omega (arith, length-text ws p, mul-le-mul-right (lineSize ws 2) (planned ws most limits plan q .vertices))
+      go (PlanReading.read p) q =
+          let a = planned ws most limits plan q in
+          let few : keptVertices p ≤ limits .vertices = omega (arith, admitted-count a, a .vertices) in
+          omega (arith, length-text ws p, mul-le-mul-right (lineSize ws 2) few)
 
   -- 6 never occurs
   pub enough : (space : ℕ) → limits .vertices * lineSize ws 2 ≤ space → writeGroups ws most limits plan space ≡ Writing.written text

@@ -1,45 +1,35 @@
 -- The list of pieces and groups: how it is filled, and that its lines are the text of the groups.
 use mathlib.Core.Path.{_≡_, refl, sym, ap, _∙_}
-use mathlib.Core.List.{List, [], _∷_, append-nil, List·Memᴰ as In, List·Memᴰ·head as first, List·Memᴰ·tail as later}
-use Prim.Native.Nat.{ℕ, suc, _+_, _*_, _-_, _/_, _≤_, _<_}
+use mathlib.Core.Bool.{Bool, true, false, not, cond}
+use mathlib.Core.List.{List, [], _∷_, _++_, append-nil, List·Memᴰ as In, List·Memᴰ·head as first, List·Memᴰ·tail as later}
+use Prim.Native.Nat.{ℕ, suc, _+_, _*_, _/_, _≤_, _<_}
 use native.Mathlib.Omega.{arith}
-use lib.ListN.{length, take, drop, getD, set, List·getD-append}
-use lib.Seq.{sets, take-at}
-use Rattle.connectivity.specs.Lists.{range}
-use Rattle.connectivity.specs.Plan.{Plan, graph}
+use lib.Dec.{eqb→eq}
+use lib.ListN.{length, take, drop, getD, set, length-append, List·getD-append}
+use lib.Seq.{sets, length-sets, take-at}
+use borrow.Author.Tests.{eq-eqb, ne-eqb}
+use Rattle.connectivity.specs.Lists.{range, keep, mem}
+use Rattle.connectivity.specs.Plan.{Plan, graph, Limits}
 use Rattle.connectivity.specs.Graph.{Graph, vertices}
+use Rattle.connectivity.specs.Admission.{Admitted}
 use Rattle.connectivity.specs.Component.{componentOf, components}
-use Rattle.connectivity.proofs.Lists.{range-is, length-range}
-use Rattle.connectivity.proofs.Admission.{plan-vertices}
+use Rattle.connectivity.proofs.Lists.{true-T, not-mem, keep-is, range-is}
+use Rattle.connectivity.proofs.Search.{vertices-are}
+use Rattle.connectivity.proofs.Order.{ordered-same, ordered-range, ordered-keep, ordered-vertices}
+use Rattle.connectivity.proofs.Kept.{vertex-is, vertex-size, admitted-count}
 use Rattle.connectivity.proofs.Component.{components-length, components-at}
+use Rattle.graph.specs.Excluded.{isOpen, MarkedAll}
+use Rattle.graph.proofs.Rank.{keep-more, keep-length, rank-most}
 use Rattle.text.specs.Column.{line, lines}
 use Rattle.text.specs.Plan.{filled}
 use Rattle.text.specs.Lines.{writeText, writeLines}
+use Rattle.text.proofs.Laws.{sets-append}
 use Rattle.text.proofs.Reading.{sets-filled}
 use Rattle.text.proofs.Writing.{in-columns}
 use Rattle.components_texts.specs.Groups.{groupLines, groupsText}
-use Rattle.components_texts.specs.Pairs.{pairs, groupPairs}
+use Rattle.components_texts.specs.Pairs.{pairs, groupPairs, pairUnless, others, Paired}
 
 -- How it is filled.
-
-pub pairs-next : (f : ℕ → ℕ) (list : List ℕ) (n v : ℕ) → v < n
-    → sets list (2 * v) (pairs f (range v (n - v))) ≡ sets (set (set list (2 * v) v) (2 * v + 1) (f v)) (2 * (v + 1)) (pairs f (range (v + 1) (n - (v + 1))))
-unfolding pairs range
-pairs-next f list n v h =
-    let p : n - v ≡ suc (n - (v + 1)) = omega arith in
-    let q : suc (2 * v) ≡ 2 * v + 1 = omega arith in
-    let r : suc (2 * v + 1) ≡ 2 * (v + 1) = omega arith in
-    let s : suc v ≡ v + 1 = omega arith in
-    let k = n - (v + 1) in
-    let done = set (set list (2 * v) v) (2 * v + 1) (f v) in
-    ap (λ (m : ℕ). sets list (2 * v) (pairs f (range v m))) p
-    ∙ ap (λ (i : ℕ). sets (set (set list (2 * v) v) i (f v)) (suc i) (pairs f (range (suc v) k))) q
-    ∙ ap (λ (i : ℕ). sets done i (pairs f (range (suc v) k))) r
-    ∙ ap (λ (w : ℕ). sets done (2 * (v + 1)) (pairs f (range w k))) s
-
-pub pairs-last : (f : ℕ → ℕ) (n v : ℕ) → n ≤ v → pairs f (range v (n - v)) ≡ []
-unfolding pairs range
-pairs-last f n v h = let p : n - v ≡ 0 = omega arith in rw p
 
 length-pairs : (f : ℕ → ℕ) (l : List ℕ) → length (pairs f l) ≡ 2 * length l
 unfolding pairs
@@ -58,17 +48,112 @@ table-at p before q v h =
     ap (λ (l : List ℕ). getD l v 0) q ∙ List·getD-append (components (graph p)) (drop (length (components (graph p))) before) 0 v (omega (arith, components-length (graph p)))
     ∙ components-at (graph p) v h
 
--- the front of a list that is filled with the pairs of such a table
-pub paired : (p : Plan) (before table list : List ℕ) → table ≡ filled (components (graph p)) before → 2 * p .vertices ≤ length list
-    → take (2 * p .vertices) (sets list 0 (pairs (λ v. getD table v 0) (range 0 (p .vertices)))) ≡ groupPairs (graph p)
-unfolding groupPairs
-paired p before table list q h =
-    let read : ℕ → ℕ = λ v. getD table v 0 in
-    let n = p .vertices in
-    let long : length (pairs read (range 0 n)) ≡ 2 * n = length-pairs read (range 0 n) ∙ ap (λ (m : ℕ). 2 * m) (length-range 0 n) in
-    ap (take (2 * n)) (sets-filled list (pairs read (range 0 n)) (omega arith)) ∙ take-at (pairs read (range 0 n)) (drop (length (pairs read (range 0 n))) list) (2 * n) long
-    ∙ pairs-same read (componentOf (graph p)) (range 0 n) (λ v i. table-at p before q v (omega (arith, range-is v 0 n .0 i .1)))
-    ∙ ap (pairs (componentOf (graph p))) (sym (plan-vertices p))
+pairs-append : (f : ℕ → ℕ) (l r : List ℕ) → pairs f (l ++ r) ≡ pairs f l ++ pairs f r
+unfolding pairs
+pairs-append f [] r = refl
+pairs-append f (v ∷ l) r = rw (pairs-append f l r)
+
+-- one pair
+module _ (list : List ℕ) (at mark v x : ℕ) where
+  pub pair-none : (mark ≡ 0 → ⊥) → (at ≡ at + length (pairUnless mark v x)) × (list ≡ sets list at (pairUnless mark v x))
+  unfolding pairUnless
+  pair-none h = rw (ne-eqb mark 0 h) (omega arith, refl)
+
+  pub pair-one : mark ≡ 0 → (at + 2 ≡ at + length (pairUnless mark v x)) × (set (set list at v) (at + 1) x ≡ sets list at (pairUnless mark v x))
+  unfolding pairUnless
+  pair-one h = let p : at + 1 ≡ suc at = omega arith in rw (eq-eqb mark 0 h, p) (refl, refl)
+
+-- from one number to the next
+module _ (marks table : List ℕ) where
+  abbrev unmarked : ℕ → List ℕ
+  unmarked v = keep (isOpen marks) (range 0 v)
+
+  abbrev given : ℕ → ℕ
+  given v = getD table v 0
+
+  pub paired-start : (list : List ℕ) → Paired table (unmarked 0) list list 0
+  unfolding pairs keep range
+  paired-start list = record { count = refl; list = refl }
+
+  paired-next : (v : ℕ) → pairs given (unmarked (v + 1)) ≡ pairs given (unmarked v) ++ pairUnless (getD marks v 0) v (given v)
+  unfolding pairUnless pairs
+  paired-next v =
+      let p : v + 1 ≡ suc v = omega arith in
+      rw (p, keep-more (isOpen marks) v) (pairs-append given (unmarked v) (cond (isOpen marks v) (v ∷ []) []) ∙ ap (λ (l : List ℕ). pairs given (unmarked v) ++ l) (go (isOpen marks v)))
+    where
+      go : (t : Bool) → pairs given (cond t (v ∷ []) []) ≡ cond t (v ∷ (given v ∷ [])) []
+      go true = refl
+      go false = refl
+
+  module _ {before list : List ℕ} (v : ℕ) {at : ℕ} (p : Paired table (unmarked v) before list at) where
+    pub paired-room : at ≤ 2 * v
+    paired-room = omega (arith, p .count, keep-length (isOpen marks) v, rank-most (isOpen marks) v)
+
+    pub paired-long : length list ≡ length before
+    paired-long = ap length (p .list) ∙ length-sets before 0 (pairs given (unmarked v))
+
+    pub paired-step : {after : List ℕ} {r : ℕ} → r ≡ at + length (pairUnless (getD marks v 0) v (given v)) → after ≡ sets list at (pairUnless (getD marks v 0) v (given v))
+        → Paired table (unmarked (v + 1)) before after r
+    paired-step {r = r} c q =
+        let new = pairUnless (getD marks v 0) v (given v) in
+        let more = paired-next v in
+        let long = length-pairs given (unmarked v) in
+        let here : at ≡ 0 + length (pairs given (unmarked v)) = omega (arith, p .count, long) in
+        record {
+          count = omega (arith, c, p .count, long, length-pairs given (unmarked (v + 1)), ap length more, length-append (pairs given (unmarked v)) new);
+          list = q ∙ ap (λ (l : List ℕ). sets l at new) (p .list) ∙ ap (λ (i : ℕ). sets (sets before 0 (pairs given (unmarked v))) i new) here
+              ∙ sym (sets-append before 0 (pairs given (unmarked v)) new) ∙ ap (sets before 0) (sym more);
+        }
+
+-- the numbers without a mark, where those of a list have got one
+pub open-others : (list zeros marks : List ℕ) (n : ℕ) → n ≤ length zeros → ((k : ℕ) → getD zeros k 0 ≡ 0) → MarkedAll list zeros marks → keep (isOpen marks) (range 0 n) ≡ others n list
+unfolding others
+open-others list zeros marks n h blank m = ordered-same _ _ (ordered-keep (isOpen marks) (ordered-range 0 n)) (ordered-keep (λ v. not (mem v list)) (ordered-range 0 n)) to from
+  where
+    to : (v : ℕ) → In v (keep (isOpen marks) (range 0 n)) → In v (keep (λ v. not (mem v list)) (range 0 n))
+    to v i =
+        let k = keep-is (isOpen marks) v (range 0 n) .0 i in
+        let below : v < n = omega (arith, range-is v 0 n .0 (k .0) .1) in
+        keep-is (λ v. not (mem v list)) v (range 0 n) .1 (k .0, not-mem v list .1 (λ j. omega (arith, m .named v (omega arith) j, eqb→eq (getD marks v 0) 0 (k .1))))
+
+    from : (v : ℕ) → In v (keep (λ v. not (mem v list)) (range 0 n)) → In v (keep (isOpen marks) (range 0 n))
+    from v i =
+        let k = keep-is (λ v. not (mem v list)) v (range 0 n) .0 i in
+        keep-is (isOpen marks) v (range 0 n) .1 (k .0, true-T (eq-eqb (getD marks v 0) 0 (m .other v (not-mem v list .0 (k .1)) ∙ blank v)))
+
+-- of a plan, these are its vertices
+others-vertices : (p : Plan) → others (p .vertices) (p .excluded) ≡ vertices (graph p)
+unfolding others
+others-vertices p = ordered-same _ _ (ordered-keep (λ v. not (mem v (p .excluded))) (ordered-range 0 (p .vertices))) (ordered-vertices (graph p)) to from
+  where
+    to : (v : ℕ) → In v (keep (λ v. not (mem v (p .excluded))) (range 0 (p .vertices))) → In v (vertices (graph p))
+    to v i =
+        let k = keep-is (λ v. not (mem v (p .excluded))) v (range 0 (p .vertices)) .0 i in
+        vertices-are (graph p) v .1 (vertex-is p v .1 (omega (arith, range-is v 0 (p .vertices) .0 (k .0) .1), not-mem v (p .excluded) .0 (k .1)))
+
+    from : (v : ℕ) → In v (vertices (graph p)) → In v (keep (λ v. not (mem v (p .excluded))) (range 0 (p .vertices)))
+    from v i =
+        let h = vertex-is p v .0 (vertices-are (graph p) v .0 i) in
+        keep-is (λ v. not (mem v (p .excluded))) v (range 0 (p .vertices)) .1 (range-is v 0 (p .vertices) .1 (omega arith, omega (arith, h .0)), not-mem v (p .excluded) .1 (h .1))
+
+-- so the front of a list that is filled from a table of the groups has each vertex and its group
+module _ {most : Limits} {p : Plan} (a : Admitted most p) {table list after : List ℕ} {size : ℕ} (s : Paired table (others (p .vertices) (p .excluded)) list after size)
+    (room : 2 * p .vertices ≤ length list) where
+  paired-size : size ≡ 2 * length (vertices (graph p))
+  paired-size = s .count ∙ ap (λ (l : List ℕ). 2 * length l) (others-vertices p)
+
+  pub paired-fits : size ≤ length after
+  paired-fits = omega (arith, paired-size, admitted-count a, ap length (s .list), length-sets list 0 (pairs (λ v. getD table v 0) (others (p .vertices) (p .excluded))))
+
+  pub paired-front : (before : List ℕ) → table ≡ filled (components (graph p)) before → take size after ≡ groupPairs (graph p)
+  unfolding groupPairs
+  paired-front before q =
+      let read : ℕ → ℕ = λ v. getD table v 0 in
+      let vs = vertices (graph p) in
+      let is : after ≡ sets list 0 (pairs read vs) = s .list ∙ ap (λ (l : List ℕ). sets list 0 (pairs read l)) (others-vertices p) in
+      let long : length (pairs read vs) ≡ size = length-pairs read vs ∙ sym paired-size in
+      ap (take size) (is ∙ sets-filled list (pairs read vs) (omega (arith, paired-size, admitted-count a))) ∙ take-at (pairs read vs) (drop (length (pairs read vs)) list) size long
+      ∙ pairs-same read (componentOf (graph p)) vs (λ v i. table-at p before q v (vertex-size p (vertices-are (graph p) v .0 i)))
 
 -- Its lines.
 

@@ -11,10 +11,15 @@ ghost use Rattle.components_texts.specs.Export.{Packed, TextSize};
 
 // The groups of a plan, at the front of `table`.
 #[no_mangle]
-pub extern "C" fn hearthtansy_groups(vertices: u16, ends: &[u16], table: &mut [u16]) -> u32
-    ensures { λ r. ⌜ Packed limits (plan vertices (now (ends .entry))) (now (table .entry)) (now (table .exit)) r ⌝ }
+pub extern "C" fn hearthtansy_groups(
+    vertices: u16,
+    ends: &[u16],
+    excluded: &[u16],
+    table: &mut [u16],
+) -> u32
+    ensures { λ r. ⌜ Packed limits (plan vertices (now (ends .entry)) (now (excluded .entry))) (now (table .entry)) (now (table .exit)) r ⌝ }
 {
-    pack(components::find(vertices, ends, table))
+    pack(components::find(vertices, ends, excluded, table))
 }
 
 // The text of the groups of a plan text; how many bytes it has, or 0 where `text` is shorter.

@@ -12,7 +12,7 @@ use Rattle.connectivity.specs.Plan.{Plan, graph, Limits}
 use Rattle.connectivity.specs.Admission.{Admitted}
 use Rattle.connectivity.specs.Reach.{ThreeEdgeConnected}
 use Rattle.connectivity.proofs.Lists.{T-true, T-false, keep-is, length-range, map-range}
-use Rattle.connectivity.proofs.Admission.{admitted-vertex}
+use Rattle.connectivity.proofs.Kept.{two-kept}
 use Rattle.connectivity.proofs.Search.{is-vertex, vertices-are}
 use Rattle.connectivity.proofs.Order.{ordered-keep, ordered-vertices}
 use Rattle.connectivity.specs.Component.{Together, together, Component, componentOf, components, OneComponent}
@@ -80,7 +80,7 @@ one-component {g} u v hu hv n = (
 )
 
 pub plan-one : {most : Limits} {p : Plan} → Admitted most p → ThreeEdgeConnected (graph p) ↔ OneComponent (graph p)
-plan-one a = one-component 0 1 (admitted-vertex a 0 (omega (arith, a .two))) (admitted-vertex a 1 (omega (arith, a .two))) (λ q. omega arith)
+plan-one a = let t = two-kept a in one-component (t .low) (t .other) (t .lowest .vertex) (t .vertex) (λ q. omega (arith, t .above))
 
 -- The table.
 

@@ -7,6 +7,7 @@ pub mod CutOff
 pub mod Order
 pub mod LowestCut
 pub mod Admission
+pub mod Kept
 pub mod Verdict
 pub mod Distinct
 pub mod Degree

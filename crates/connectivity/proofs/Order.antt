@@ -1,19 +1,47 @@
 -- Ordered lists, and the order of sets of edges: of two different sets one stands before the other, and not both.
-use mathlib.Core.Path.{_≡_, refl, sym, _∙_}
+use mathlib.Core.Path.{_≡_, refl, sym, ap, _∙_}
 use mathlib.Core.Logic.{_⊎_, inl, inr}
 use mathlib.Core.Bool.{Bool, true, false, cond}
 use mathlib.Core.List.{List, [], _∷_, _++_, List·Memᴰ as In, List·Memᴰ·head as first, List·Memᴰ·tail as later, List·Memᴰ·not-nil as not-in, List·Memᴰ·cases-cons as in-cons, List·Memᴰ·append-cases as in-cases}
 use Prim.Native.Nat.{ℕ, zero, suc, _≤_, _<_}
 use native.Mathlib.Omega.{arith}
 use native.Mathlib.Decide.{ℕ-discrete, decLt}
-use lib.ListN.{length}
+use lib.ListN.{length, getD}
 use Rattle.connectivity.specs.Lists.{Ordered, nil, cons, range, keep}
 use Rattle.connectivity.specs.Graph.{Graph, isVertex, isEdge, vertices, edges}
 use Rattle.connectivity.specs.Cut.{Lower, Before}
 use Rattle.connectivity.proofs.Lists.{keep-is, range-is}
 
+getD-in : (l : List ℕ) (j : ℕ) → j < length l → In (getD l j 0) l
+getD-in [] j h = absurd (omega arith)
+getD-in (x ∷ l) zero h = first refl
+getD-in (x ∷ l) (suc j) h = later (getD-in l j (omega arith))
+
 pub before-rest : {A : Type 0} {R : A → A → Type 0} {x : A} {l : List A} → Ordered R (x ∷ l) → (y : A) → In y l → R x y
 before-rest (cons h o) = h
+
+pub after-first : {A : Type 0} {R : A → A → Type 0} {x : A} {l : List A} → Ordered R (x ∷ l) → Ordered R l
+after-first (cons h o) = o
+
+-- an earlier member is lower
+pub ordered-index : {l : List ℕ} → Ordered _<_ l → (i j : ℕ) → i < j → j < length l → getD l i 0 < getD l j 0
+ordered-index nil i j h b = absurd (omega arith)
+ordered-index (cons {x = x} {l = l} f o) i zero h b = absurd (omega arith)
+ordered-index (cons {x = x} {l = l} f o) zero (suc j) h b = f (getD l j 0) (getD-in l j (omega arith))
+ordered-index (cons {x = x} {l = l} f o) (suc i) (suc j) h b = ordered-index o i j (omega arith) (omega arith)
+
+-- two ascending lists with the same members are the same
+pub ordered-same : (k l : List ℕ) → Ordered _<_ k → Ordered _<_ l → ((x : ℕ) → In x k → In x l) → ((x : ℕ) → In x l → In x k) → k ≡ l
+ordered-same [] [] o p f g = refl
+ordered-same [] (y ∷ l) o p f g = absurd (not-in (g y (first refl)))
+ordered-same (x ∷ k) [] o p f g = absurd (not-in (f x (first refl)))
+ordered-same (x ∷ k) (y ∷ l) o p f g =
+    let low : y ≤ x = elim (in-cons (f x (first refl))) [ inl q ↦ omega arith | inr i ↦ omega (arith, before-rest p x i) ] in
+    let high : x ≤ y = elim (in-cons (g y (first refl))) [ inl q ↦ omega arith | inr i ↦ omega (arith, before-rest o y i) ] in
+    let same : x ≡ y = omega arith in
+    let to : (z : ℕ) → In z k → In z l = λ z i. elim (in-cons (f z (later i))) [ inl q ↦ absurd (omega (arith, q, before-rest o z i)) | inr j ↦ j ] in
+    let from : (z : ℕ) → In z l → In z k = λ z i. elim (in-cons (g z (later i))) [ inl q ↦ absurd (omega (arith, q, before-rest p z i)) | inr j ↦ j ] in
+    ap (λ (h : ℕ). h ∷ k) same ∙ ap (λ (t : List ℕ). y ∷ t) (ordered-same k l (after-first o) (after-first p) to from)
 
 pub ordered-range : (i k : ℕ) → Ordered _<_ (range i k)
 unfolding range

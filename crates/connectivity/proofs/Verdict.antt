@@ -14,7 +14,8 @@ use Rattle.connectivity.specs.Cut.{LowestCut, lowestCut}
 use Rattle.connectivity.specs.Admission.{answer, Admitted, admission}
 use Rattle.connectivity.specs.Verdict.{refused, weak, firm, verdictOn, verdict}
 use Rattle.connectivity.proofs.LowestCut.{lowest-cut, lowest-found, three-edge-connected}
-use Rattle.connectivity.proofs.Admission.{admission-is, admission-number, admitted-vertex}
+use Rattle.connectivity.proofs.Admission.{admission-is, admission-number}
+use Rattle.connectivity.proofs.Kept.{two-kept}
 
 firm-not-weak : {cut : List ℕ} → firm ≡ weak cut → ⊥
 firm-not-weak {cut} p = let z : _≡_ {A = ℕ} 0 1 = cc in omega arith
@@ -50,7 +51,8 @@ module _ {most : Limits} {p : Plan} (a : Admitted most p) (space : ℕ) where
     pub verdict-firm : (verdict most p space ≡ firm) ↔ ThreeEdgeConnected g
     unfolding verdictOn
     verdict-firm =
-        let e = three-edge-connected 0 1 (admitted-vertex a 0 (omega (arith, a .two))) (admitted-vertex a 1 (omega (arith, a .two))) (λ q. omega arith) in
+        let t = two-kept a in
+        let e = three-edge-connected (t .low) (t .other) (t .lowest .vertex) (t .vertex) (λ q. omega (arith, t .above)) in
         (λ q. e .0 (on-firm (lowestCut g) (sym reaches ∙ q)), λ t. reaches ∙ ap verdictOn (e .1 t))
 
     pub verdict-weak : (cut : List ℕ) → (verdict most p space ≡ weak cut) ↔ LowestCut g cut

@@ -132,7 +132,7 @@ judgeGraph g kind list =
     let weak = judgeWeak g list in
     cond (eqb kind 0) firm (cond (eqb kind 1) weak (answer 9 0))
 
--- 01: the check's answer: the plan's own 1 to 5, then the verdict's
+-- 01: the check's answer: the plan's own refusals, then the verdict's
 unfoldable pub judge : Limits → Plan → ℕ → List ℕ → Answer
 judge most p kind list =
     let found = judgeGraph (graph p) kind list in

@@ -1,8 +1,8 @@
 -- Document 01's plans to try, P1 to P10, each with its verdict and the check's answers on some verdicts; then plans and records of our
--- own for mistakes that those ten would let pass. proofs/Table.antt shows that the definitions compute just this.
+-- own for mistakes that those ten would let pass, and plans with slugs (02). proofs/Table.antt shows that the definitions compute just this.
 use mathlib.Core.List.{List, [], _∷_, map}
 use Prim.Native.Nat.{ℕ, zero, suc}
-use Rattle.connectivity.specs.Plan.{Plan, plan, limits}
+use Rattle.connectivity.specs.Plan.{Plan, plan, entire, limits}
 use Rattle.connectivity.specs.Admission.{Answer, answer, passed}
 use Rattle.connectivity.specs.Verdict.{Verdict, refused, weak, firm, verdict}
 use Rattle.connectivity.specs.Judge.{judge}
@@ -33,7 +33,7 @@ computed c = record {
 }
 
 abbrev case : ℕ → List ℕ → ℕ → Verdict → List Checked → Case
-case n ends space v checks = record { drawn = plan n ends; space = space; found = v; checks = checks }
+case n ends space v checks = record { drawn = entire n ends; space = space; found = v; checks = checks }
 
 -- a tab's two ends, and a row: step, tab, piece
 abbrev tab : ℕ → ℕ → List ℕ → List ℕ
@@ -207,10 +207,85 @@ innerPieces = case 5 (tab 0 1 (tab 0 1 (tab 0 1 (tab 0 2 (tab 2 1 (tab 2 3 (tab 
     ∷ firmList (row 0 0 0 (row 1 1 0 (row 2 2 0 (row 3 3 0 (row 4 4 1 (row 5 5 2 (row 6 6 3 (row 7 7 2 (row 8 8 4 []))))))))) (answer 14 3)
     ∷ [])
 
+-- Not in 01: plans with slugs (02).
+
+abbrev slugged : ℕ → List ℕ → List ℕ → ℕ → Verdict → List Checked → Case
+slugged n ends excluded space v checks = record { drawn = plan n ends excluded; space = space; found = v; checks = checks }
+
+-- a slug alone holds the sheet together: its tabs hold nothing, and none of them counts
+abbrev slugHolds : Case
+slugHolds = slugged 3 (tab 0 2 (tab 0 2 (tab 0 2 (tab 1 2 (tab 1 2 (tab 1 2 [])))))) (2 ∷ []) 0 (weak [])
+    (weakList [] passed
+    ∷ firmList [] (answer 16 0)
+    ∷ firmList (row 0 0 0 (row 1 1 0 (row 2 2 0 (row 3 3 1 (row 3 4 2 (row 4 5 1 [])))))) (answer 9 0)
+    ∷ weakList (0 ∷ []) (answer 11 0)
+    ∷ [])
+
+-- the slug hangs on one tab: the kept pieces are firm. Space and rows are those of the kept tabs, under their drawn numbers
+abbrev slugHangs : Case
+slugHangs = slugged 3 (tab 0 2 (tab 0 1 (tab 0 1 (tab 0 1 [])))) (2 ∷ []) 9 firm
+    (firmList (row 0 1 0 (row 1 2 0 (row 2 3 0 []))) passed
+    ∷ firmList (row 0 1 0 (row 1 2 1 (row 2 3 0 []))) passed
+    -- a row for the slug's tab; its tab in a row; numbers as if it were not drawn; the slug as a piece
+    ∷ firmList (row 0 1 0 (row 1 2 0 (row 2 3 0 (row 3 0 0 [])))) (answer 9 0)
+    ∷ firmList (row 0 0 0 (row 1 1 0 (row 2 2 0 []))) (answer 11 0)
+    ∷ firmList (row 0 1 0 (row 1 0 0 (row 2 3 0 []))) (answer 11 1)
+    ∷ firmList (row 0 1 2 (row 1 2 0 (row 2 3 0 []))) (answer 12 0)
+    ∷ weakList (0 ∷ []) (answer 11 0)
+    ∷ weakList [] (answer 17 0)
+    ∷ [])
+
+abbrev slugSpace : Case
+slugSpace = slugged 3 (tab 0 2 (tab 0 1 (tab 0 1 (tab 0 1 [])))) (2 ∷ []) 8 (refused (answer 6 0)) []
+
+-- a weak list with a slug's tab and one that parts: 11 at its position, whatever the other parts
+abbrev slugNamed : Case
+slugNamed = slugged 3 (tab 0 2 (tab 0 1 (tab 2 1 []))) (2 ∷ []) 3 (weak (1 ∷ []))
+    (weakList (1 ∷ []) passed
+    ∷ weakList (0 ∷ 1 ∷ []) (answer 11 0)
+    ∷ weakList (1 ∷ 2 ∷ []) (answer 11 1)
+    ∷ weakList (0 ∷ 2 ∷ []) (answer 11 0)
+    ∷ [])
+
+-- piece 0 is a slug, and two pieces are kept
+abbrev slugZero : Case
+slugZero = slugged 4 (tab 1 3 (tab 0 1 (tab 3 1 (tab 0 3 (tab 1 3 (tab 2 1 [])))))) (0 ∷ 2 ∷ []) 9 firm
+    (firmList (row 0 0 1 (row 1 2 1 (row 2 4 3 []))) passed ∷ firmList (row 0 0 1 (row 1 1 1 (row 2 4 3 []))) (answer 11 1) ∷ [])
+
+-- the lowest pair of kept tabs, 1 and 3, not one with a slug's tab
+abbrev slugPair : Case
+slugPair = slugged 4 (tab 1 0 (tab 1 2 (tab 3 0 (tab 2 3 (tab 3 1 []))))) (0 ∷ []) 9 (weak (1 ∷ 3 ∷ []))
+    (weakList (1 ∷ 3 ∷ []) passed ∷ weakList (0 ∷ 1 ∷ []) (answer 11 0) ∷ weakList (1 ∷ 2 ∷ []) (answer 11 1) ∷ weakList (3 ∷ 4 ∷ []) passed ∷ [])
+
+-- 18: not below the pieces, not above the one before, named twice; its place is its position
+abbrev slugBeyond : Case
+slugBeyond = slugged 3 (tab 0 1 []) (1 ∷ 3 ∷ []) 0 (refused (answer 18 1)) (other 5 [] (answer 18 1) ∷ weakList [] (answer 18 1) ∷ [])
+
+abbrev slugBack : Case
+slugBack = slugged 5 [] (3 ∷ 1 ∷ []) 0 (refused (answer 18 1)) []
+
+abbrev slugTwice : Case
+slugTwice = slugged 4 (tab 0 1 []) (2 ∷ 2 ∷ []) 0 (refused (answer 18 1)) []
+
+-- 19: one piece is kept, or none; before 6 and 9
+abbrev slugsOne : Case
+slugsOne = slugged 3 (tab 0 1 []) (0 ∷ 1 ∷ []) 0 (refused (answer 19 0)) (other 5 [] (answer 19 0) ∷ [])
+
+abbrev slugsAll : Case
+slugsAll = slugged 2 [] (0 ∷ 1 ∷ []) 0 (refused (answer 19 0)) []
+
+-- 18 before 19; 5 before 18
+abbrev slugOrder : Case
+slugOrder = slugged 2 (tab 0 1 []) (1 ∷ 1 ∷ []) 3 (refused (answer 18 1)) []
+
+abbrev tabBeforeSlug : Case
+tabBeforeSlug = slugged 3 (tab 0 1 (tab 2 2 [])) (3 ∷ []) 6 (refused (answer 5 1)) []
+
 abbrev pub table : List Case
 table =
     p1 ∷ p2 ∷ p3 ∷ p4 ∷ p5 ∷ p6 ∷ p7 ∷ p8 ∷ p9 ∷ p10 ∷ example
-    ∷ firstTab ∷ oddFirst ∷ countFirst ∷ shortSpace ∷ refusedShort ∷ lowestFirst ∷ fewest ∷ thirdPath ∷ secondPath ∷ throughEnd ∷ twice ∷ closedWalk ∷ closedLink ∷ splitLink ∷ innerPieces ∷ []
+    ∷ firstTab ∷ oddFirst ∷ countFirst ∷ shortSpace ∷ refusedShort ∷ lowestFirst ∷ fewest ∷ thirdPath ∷ secondPath ∷ throughEnd ∷ twice ∷ closedWalk ∷ closedLink ∷ splitLink ∷ innerPieces
+    ∷ slugHolds ∷ slugHangs ∷ slugSpace ∷ slugNamed ∷ slugZero ∷ slugPair ∷ slugBeyond ∷ slugBack ∷ slugTwice ∷ slugsOne ∷ slugsAll ∷ slugOrder ∷ tabBeforeSlug ∷ []
 
 -- 01: the limits. k tabs between pieces 0 and 1
 unfoldable pub parallel : ℕ → List ℕ

@@ -21,7 +21,7 @@ unfoldable pub verdictOn : Option (List ℕ) → Verdict
 verdictOn none = firm
 verdictOn (some cut) = weak cut
 
--- 01: the writer's order: the plan's own 1 to 5; then 6, where the lent record, `space` numbers, has fewer than three for each edge; then weak
+-- 01: the writer's order: the plan's own refusals; then 6, where the lent record, `space` numbers, has fewer than three for each edge; then weak
 -- or firm
 unfoldable pub verdict : Limits → Plan → ℕ → Verdict
 verdict most p space =

@@ -5,3 +5,4 @@ pub mod Trying
 pub mod Answers
 pub mod Serving
 pub mod Handing
+pub mod Surveying

@@ -1,32 +1,32 @@
 -- The whole answer: refused, and all lent tables stay; or served, and what they then hold.
 use mathlib.Core.Path.{_≡_, refl, sym, ap, _∙_}
-use mathlib.Core.Bool.{Bool, false}
+use mathlib.Core.Bool.{Bool, not}
 use mathlib.Core.List.{List, [], _∷_}
 use mathlib.Core.Option.{Option, none, some}
 use Prim.Native.Nat.{ℕ, _*_, _/_, _≤_, _<_}
 use native.Mathlib.Omega.{arith}
 use native.Mathlib.Decide.{ℕ-discrete}
 use borrow.Author.Tests.{ne-eqb}
-use lib.Dec.{T, leb, le→leb}
 use lib.ListN.{length, getD, drop, replicate}
-use Rattle.connectivity.specs.Plan.{Plan, graph, limits}
+use Rattle.connectivity.specs.Plan.{Plan, entire, graph, listed, limits}
 use Rattle.connectivity.specs.Cut.{lowestCut}
 use Rattle.connectivity.specs.Admission.{Answer, Handed, passed, Admitted}
 use Rattle.connectivity.specs.Verdict.{verdictOn, verdictHanded}
-use Rattle.connectivity.proofs.Lists.{Decides, decides-le, decides-and, decides-to, T-dec, T-true, T-false}
+use Rattle.connectivity.proofs.Lists.{Decides, decides-le, decides-and, decides-to, T-dec}
 use Rattle.graph.specs.declared.Answer as code
 use Rattle.graph.specs.Admission.{toldBy, lent}
+use Rattle.graph.specs.Marks.{read}
+use Rattle.graph.specs.Tells.{Tells}
 use Rattle.graph.proofs.Lent.{RefusedBy, lent-short, lent-passed}
 use Rattle.graph.proofs.Handed.{lent-own, back-served, back-refused, refused-not, refused-answer}
-use Rattle.graph.proofs.Tally.{zeros}
 use Rattle.incidence.specs.Tables.{incidentTable, beginsTable, Filled, Tabled}
-use Rattle.incidence.specs.Tables as tables
-use Rattle.incidence.proofs.Filled.{incident-long, begins-long}
+use Rattle.incidence.proofs.Filled.{incident-long, begins-long, filled-served, filled-for}
 use Rattle.incidence.proofs.Front.{front-kept}
-use Rattle.depth.specs.Depth.{Crossing, Found}
-use Rattle.graph.proofs.Telling.{told-refused, told-number}
+use Rattle.depth.specs.Depth.{Cutting}
+use Rattle.graph.proofs.Telling.{tells-to, lent-told, told-refused, told-number, told-admitted, told-room}
 use Rattle.cuts.specs.declared.Lightest.{Lightest}
 use Rattle.cuts.specs.declared.Lightest.the-variants.{Refused, NoCut}
+use Rattle.cuts.specs.Tries.{SearchedBy}
 use Rattle.cuts.specs.Verdict.{handed, lowestHanded, lowestAfter}
 use Rattle.cuts.specs.Answered.{enough, SearchedFrom, Answered}
 
@@ -83,39 +83,44 @@ module _ (p : Plan) (incident₀ begins₀ first₀ order₀ : List ℕ) where
       unchanged = λ q. (i, b, f, o);
     }
 
-  -- a table by vertex is too short
-  pub answers-short : {l : Lightest} → l ≡ Refused (toldBy (lent limits p false)) → ((p .vertices ≤ length first₀) × (p .vertices ≤ length order₀) → ⊥)
-      → Answered limits p incident₀ begins₀ first₀ order₀ incident₀ begins₀ first₀ order₀ l
-  answers-short q h =
-      let none : T ample → ⊥ = λ t. let r = ample-is .holds t in h (r .first-room, r .order-room) in
-      rw q (answered-refused ((λ z. lent-short ample (lent-passed ample z) none .0 z), ap (λ (x : Bool). toldBy (lent limits p x)) (sym (T-false ample none))) refl refl refl refl)
-
-  -- they are long enough: the tables by edge decide
-  module _ (h : p .vertices ≤ length first₀) (h' : p .vertices ≤ length order₀) {incident begins : List ℕ} {b : code.Answer}
-      (c : Filled limits p incident₀ begins₀ incident begins b) where
-    same-test : tables.enough p incident₀ begins₀ ≡ ample
-    same-test = sym (rw (T-true (leb (p .vertices) (length first₀)) (le→leb (p .vertices) (length first₀) h), T-true (leb (p .vertices) (length order₀)) (le→leb (p .vertices) (length order₀) h')))
-
+  -- what the test of the lengths tells
+  module _ (short : Bool) (h : Tells (not short) ((p .vertices ≤ length first₀) × (p .vertices ≤ length order₀) × (2 * (length (p .ends) / 2) ≤ length incident₀) × (p .vertices ≤ length begins₀)))
+      {b : code.Answer} (q : b ≡ toldBy (lent limits p (not short))) where
     lent-is : b ≡ toldBy (lent limits p ample)
-    lent-is = c .answer ∙ ap (λ (x : Bool). toldBy (lent limits p x)) same-test
+    lent-is = lent-told limits p (not short) ample-is
+        (tells-to (not short) (λ t. record { first-room = t .0; order-room = t .1; incident-room = t .2; begins-room = t .3 }) (λ r. (r .first-room, r .order-room, r .incident-room, r .begins-room)) h) q
 
-    pub answers-refused : (b .number ≡ 0 → ⊥) → Answered limits p incident₀ begins₀ first₀ order₀ incident begins first₀ order₀ (Refused b)
-    answers-refused z = answered-refused (told-refused limits p ample lent-is z) (c .incident-kept z) (c .begins-kept z) refl refl
+    pub answers-refused : (b .number ≡ 0 → ⊥) → Answered limits p incident₀ begins₀ first₀ order₀ incident₀ begins₀ first₀ order₀ (Refused b)
+    answers-refused z = answered-refused (told-refused limits p ample lent-is z) refl refl refl refl
 
     module _ (z : b .number ≡ 0) where
+      told-plan : Admitted limits p
+      told-plan = told-admitted limits p ample lent-is z
+
+      pub told-space : Room
+      told-space = told-room limits p ample lent-is z ample-is
+
       served-is : found ≡ lowestAfter (lent limits p ample) p
       unfolding lowestAfter
       served-is = back-served (lent limits p ample) found (told-number limits p ample lent-is z)
 
-      pub answers-served : (l : Lightest) {first order : List ℕ} → handed l ≡ found → SearchedFrom limits p incident begins first₀ order₀ first order
-          → Answered limits p incident₀ begins₀ first₀ order₀ incident begins first order l
-      answers-served l q s = record {
-        answer = q ∙ served-is;
-        incident-front = λ y. c .incident-front z;
-        begins-front = λ y. c .begins-front z;
-        searched = λ y. s;
-        unchanged = λ n. absurd (n (ap (λ (x : Handed). x .reply) q ∙ on-passed (lowestCut (graph p))));
-      }
+      -- the tables by vertex are filled
+      module _ {incident begins : List ℕ} {x : code.Answer} (c : Filled limits (entire (p .vertices) (p .ends)) incident₀ begins₀ incident begins x) where
+        filled-zero : x .number ≡ 0
+        filled-zero = filled-served p told-plan c (told-space .incident-room) (told-space .begins-room)
+
+        pub filled-tables : Tabled limits p incident begins
+        filled-tables = filled-for p told-plan c (told-space .incident-room) (told-space .begins-room)
+
+        pub answers-served : (l : Lightest) {first order : List ℕ} → handed l ≡ found → SearchedFrom limits p incident begins first₀ order₀ first order
+            → Answered limits p incident₀ begins₀ first₀ order₀ incident begins first order l
+        answers-served l q s = record {
+          answer = q ∙ served-is;
+          incident-front = λ y. c .incident-front filled-zero;
+          begins-front = λ y. c .begins-front filled-zero;
+          searched = λ y. s;
+          unchanged = λ n. absurd (n (ap (λ (x : Handed). x .reply) q ∙ on-passed (lowestCut (graph p))));
+        }
 
   -- What the answer says.
 
@@ -145,22 +150,22 @@ module _ (p : Plan) (incident₀ begins₀ first₀ order₀ : List ℕ) where
       pub served-tabled : Tabled limits p incident begins
       served-tabled = record {
         admitted = admitted;
-        incident-rest = drop (length (incidentTable (graph p))) incident₀;
+        incident-rest = drop (length (incidentTable (listed p))) incident₀;
         incident-is = a .incident-front y;
-        begins-rest = drop (length (beginsTable (graph p))) begins₀;
+        begins-rest = drop (length (beginsTable (listed p))) begins₀;
         begins-is = a .begins-front y;
       }
 
-      -- a search from vertex 0 over all edges, where no vertex had a mark; all tables keep their lengths
+      -- a search from the lowest vertex over all edges, where no vertex had a mark, and the excluded vertices behind it; all tables keep their lengths
       pub record Served : Type 0 where
         pub dead : List ℕ
-        pub live : (e : ℕ) → getD dead e 0 ≡ 0
+        pub cutting : Cutting p [] (read dead)
         pub unmarked : List ℕ
         pub clear : (v : ℕ) → v < p .vertices → getD unmarked v 0 ≡ 0
         pub cursor₀ : List ℕ
         pub cursor : List ℕ
         pub count : ℕ
-        pub found-all : Found (Crossing p incident begins dead) (p .vertices) 0 0 unmarked order₀ cursor₀ first order cursor count
+        pub by : SearchedBy p incident begins dead unmarked order₀ cursor₀ first order cursor count
         pub incident-long : length incident ≡ length incident₀
         pub begins-long : length begins ≡ length begins₀
         pub first-long : length first ≡ length first₀
@@ -169,18 +174,19 @@ module _ (p : Plan) (incident₀ begins₀ first₀ order₀ : List ℕ) where
       pub served-tables : Served
       served-tables =
           let s = a .searched y in
-          let f = s .searched .found in
+          let f = s .searched .by .found in
+          let x = s .searched .by .appended in
           record {
-            dead = replicate (limits .edges) 0;
-            live = λ e. zeros (limits .edges) e;
+            dead = s .dead;
+            cutting = s .cutting;
             unmarked = s .cleared;
             clear = s .clear .zero;
             cursor₀ = replicate (limits .vertices) 0;
             cursor = s .searched .cursor;
             count = s .searched .count;
-            found-all = f;
-            incident-long = front-kept (incidentTable (graph p)) incident₀ (a .incident-front y) (omega (arith, incident-long admitted, room .incident-room)) .long;
-            begins-long = front-kept (beginsTable (graph p)) begins₀ (a .begins-front y) (omega (arith, begins-long p, room .begins-room)) .long;
-            first-long = f .first-long ∙ s .clear .kept .long;
-            order-long = f .order-long;
+            by = s .searched .by;
+            incident-long = front-kept (incidentTable (listed p)) incident₀ (a .incident-front y) (omega (arith, incident-long admitted, room .incident-room)) .long;
+            begins-long = front-kept (beginsTable (listed p)) begins₀ (a .begins-front y) (omega (arith, begins-long p, room .begins-room)) .long;
+            first-long = x .first-long ∙ f .first-long ∙ s .clear .kept .long;
+            order-long = x .order-long ∙ f .order-long;
           }

@@ -1,22 +1,23 @@
 -- A try of two edges: marked for a search, and unmarked again.
-use mathlib.Core.Path.{_≡_, refl, sym, ap, _∙_}
+use mathlib.Core.Path.{_≡_, refl, sym, ap, subst, _∙_}
 use mathlib.Core.Logic.{inl, inr}
 use mathlib.Core.List.{List, [], _∷_, List·Memᴰ as In, List·Memᴰ·head as here, List·Memᴰ·tail as later, List·Memᴰ·not-nil as not-in, List·Memᴰ·cases-cons as in-cons}
-use Prim.Native.Nat.{ℕ, _/_, _≤_, _<_}
+use Prim.Native.Nat.{ℕ, _≤_, _<_}
 use native.Mathlib.Omega.{arith}
 use native.Mathlib.Decide.{ℕ-discrete}
 use lib.Dec.{T, ltb}
 use lib.ListN.{length, getD, set, length-set}
 use lib.Seq.{ext-getD, getD-set-same, getD-set-other}
 use Rattle.connectivity.specs.Plan.{Plan, graph, Limits}
-use Rattle.connectivity.specs.Graph.{Graph}
+use Rattle.connectivity.specs.Graph.{Graph, Vertex, Edge}
 use Rattle.connectivity.specs.Cut.{disconnects}
-use Rattle.connectivity.specs.Admission.{Admitted}
+use Rattle.connectivity.specs.Admission.{keptVertices, Admitted}
 use Rattle.connectivity.proofs.Lists.{T-dec, T-true, T-false}
 use Rattle.connectivity.proofs.Disconnects.{disconnects-is, connected-less}
+use Rattle.connectivity.proofs.Kept.{edge-is, edge-size}
 use Rattle.graph.specs.Marks.{read}
-use Rattle.depth.specs.Depth.{Cutting}
-use Rattle.cuts.specs.Tries.{Tables, Ready, Restored, EndsBelow}
+use Rattle.depth.specs.Depth.{Masking, Cutting}
+use Rattle.cuts.specs.Tries.{Tables, Ready, Restored, EndOf, EndsBelow}
 
 -- both marks
 abbrev pub both : List ℕ → ℕ → ℕ → ℕ → List ℕ
@@ -40,9 +41,23 @@ module _ (dead : List ℕ) (e d : ℕ) where
 
 module _ (dead : List ℕ) (e d : ℕ) (h : e < length dead) (l : d < length dead) where
   -- they mark the edges of the set, and no others
-  pub cutting : (p : Plan) → ((k : ℕ) → k < length (p .ends) / 2 → getD dead k 0 ≡ 0) → Cutting p (e ∷ (d ∷ [])) (read (both dead e d 1))
-  cutting p live = record { gone = λ k b i z. gone k i z; kept = λ k b n. unmarked dead e d 1 k (λ q. n (here q)) (λ q. n (later (here q))) ∙ live k b }
+  pub cutting : (p : Plan) → Masking p (read dead) → ((k : ℕ) → Edge (graph p) k → getD dead k 0 ≡ 0) → Cutting p (e ∷ (d ∷ [])) (read (both dead e d 1))
+  cutting p masking live = record {
+    masking = λ k b z. masking k b (still k z);
+    gone = λ k b i z. gone k i z;
+    kept = λ k b n. unmarked dead e d 1 k (λ q. n (here q)) (λ q. n (later (here q))) ∙ live k b;
+  }
     where
+      -- what has no mark now had none before
+      still : (k : ℕ) → getD (both dead e d 1) k 0 ≡ 0 → getD dead k 0 ≡ 0
+      still k z = elim (ℕ-discrete k e) [
+        | yes q ↦ let r = marked-one dead e d 1 h l in let s : getD (both dead e d 1) e 0 ≡ 0 = rw q at z in absurd (omega arith)
+        | no n ↦ elim (ℕ-discrete k d) [
+          | yes q ↦ let r = marked-two dead e d 1 l in let s : getD (both dead e d 1) d 0 ≡ 0 = rw q at z in absurd (omega arith)
+          | no o ↦ sym (unmarked dead e d 1 k n o) ∙ z
+        ]
+      ]
+
       gone : (k : ℕ) → In k (e ∷ (d ∷ [])) → getD (both dead e d 1) k 0 ≡ 0 → ⊥
       gone k i z = elim (in-cons i) [
         | inl q ↦ let r = marked-one dead e d 1 h l in let s : getD (both dead e d 1) e 0 ≡ 0 = rw q at z in omega arith
@@ -79,6 +94,7 @@ module _ {most : Limits} {p : Plan} {incident begins first dead₀ marks₀ orde
     tables = record {
       tabled = t .tabled;
       dead-room = rw (s .dead-same) (t .dead-room);
+      masking = rw (s .dead-same) (t .masking);
       marks-room = rw (s .marks-same) (t .marks-room);
       order-room = omega (arith, s .order-long, t .order-room);
       cursor-room = omega (arith, s .cursor-long, t .cursor-room);
@@ -100,32 +116,41 @@ restored-more a b = record {
   cursor-long = b .cursor-long ∙ a .cursor-long;
 }
 
--- the root of a try is a vertex
+-- the ends of every entry are below n
 pub ends-below : {most : Limits} {p : Plan} (n : ℕ) → Admitted most p → p .vertices ≤ n → EndsBelow (p .ends) n
 ends-below n a h e l = let f = a .fit e l in (omega (arith, f .left), omega (arith, f .right))
 
-module _ {most : Limits} {p : Plan} {incident begins first dead₀ marks₀ order₀ cursor₀ : List ℕ} (r : Ready most p incident begins first dead₀ marks₀ order₀ cursor₀) {e d : ℕ} (h : e < length (p .ends) / 2) (l : d < length (p .ends) / 2) where
-  room : (k : ℕ) → k < length (p .ends) / 2 → k < length dead₀
-  room k b = omega (arith, r .tables .dead-room)
+-- the root of a try is a vertex
+pub end-vertex : (p : Plan) {e r : ℕ} → Edge (graph p) e → EndOf (p .ends) e r → Vertex (graph p) r
+end-vertex p {e} {r} k (inl q) = subst (Vertex (graph p)) (sym q) (edge-is p e .0 k .1)
+end-vertex p {e} {r} k (inr q) = subst (Vertex (graph p)) (sym q) (edge-is p e .0 k .2)
+
+module _ {most : Limits} {p : Plan} {incident begins first dead₀ marks₀ order₀ cursor₀ : List ℕ} (r : Ready most p incident begins first dead₀ marks₀ order₀ cursor₀) {e d : ℕ} (h : Edge (graph p) e) (l : Edge (graph p) d) where
+  room : (k : ℕ) → Edge (graph p) k → k < length dead₀
+  room k b = omega (arith, r .tables .dead-room, edge-size p b)
+
+  marked-cut : Cutting p (e ∷ (d ∷ [])) (read (both dead₀ e d 1))
+  marked-cut = cutting dead₀ e d (room e h) (room d l) p (r .tables .masking) (r .live)
 
   -- marked
   pub try-tables : {dead₁ : List ℕ} → dead₁ ≡ both dead₀ e d 1 → Tables most p incident begins dead₁ marks₀ order₀ cursor₀
   try-tables q = let t = r .tables in record {
     tabled = t .tabled;
     dead-room = omega (arith, t .dead-room, ap length q ∙ both-long dead₀ e d 1);
+    masking = rw q (marked-cut .masking);
     marks-room = t .marks-room;
     order-room = t .order-room;
     cursor-room = t .cursor-room;
     fresh = t .fresh;
   }
 
-  -- the whole try
-  pub tried : {dead₁ dead marks order cursor : List ℕ} (count : ℕ) → dead₁ ≡ both dead₀ e d 1
-      → ((cut : List ℕ) → Cutting p cut (read dead₁) → ltb count (p .vertices) ≡ disconnects (graph p) cut) → marks ≡ marks₀
+  -- the whole try: `most-seen` is how many could be seen
+  pub tried : {dead₁ dead marks order cursor : List ℕ} (count most-seen : ℕ) → most-seen ≡ keptVertices p → dead₁ ≡ both dead₀ e d 1
+      → ((cut : List ℕ) → Cutting p cut (read dead₁) → ltb count (keptVertices p) ≡ disconnects (graph p) cut) → marks ≡ marks₀
       → dead ≡ both dead₁ e d 0 → length order ≡ length order₀ → length cursor ≡ length cursor₀
-      → (ltb count (p .vertices) ≡ disconnects (graph p) (e ∷ (d ∷ []))) × Restored dead₀ marks₀ order₀ cursor₀ dead marks order cursor
-  tried count k s f b o c = (
-    s (e ∷ (d ∷ [])) (rw k (cutting dead₀ e d (room e h) (room d l) p (r .live))),
+      → (ltb count most-seen ≡ disconnects (graph p) (e ∷ (d ∷ []))) × Restored dead₀ marks₀ order₀ cursor₀ dead marks order cursor
+  tried count most-seen q k s f b o c = (
+    ap (ltb count) q ∙ s (e ∷ (d ∷ [])) (rw k marked-cut),
     record {
       dead-same = b ∙ ap (λ (x : List ℕ). both x e d 0) k ∙ taken-back dead₀ e d (room e h) (room d l) (r .live e h) (r .live d l);
       marks-same = f;

@@ -11,15 +11,29 @@ pub record Chaining (m : ℕ) (labels next : List ℕ) : Type 0 where
   pub room : m ≤ length next
   pub follows : (e : ℕ) → e < m → Lowest (keys size labels) (keys size labels e) (e + 1) m (getD next e 0)
 
--- r is the lowest of the edges from e on, below m, that have this label, or m for none
-pub record LowestLike (labels : List ℕ) (label e m r : ℕ) : Type 0 where
+-- d has this label, and no mark: it is an edge of the graph
+abbrev pub Like : List ℕ → List ℕ → ℕ → ℕ → Type 0
+Like labels dead label d = (getD dead d 0 ≡ 0) × (getD labels d 0 ≡ label)
+
+-- r is the lowest of such edges from e on, below m, or m for none
+pub record LowestLike (labels dead : List ℕ) (label e m r : ℕ) : Type 0 where
   pub low : e ≤ r
   pub high : r ≤ m
-  pub like : r < m → getD labels r 0 ≡ label
-  pub between : (d : ℕ) → d < r → e ≤ d → getD labels d 0 ≡ label → ⊥
+  pub like : r < m → Like labels dead label r
+  pub between : (d : ℕ) → d < r → e ≤ d → Like labels dead label d → ⊥
+
+-- e has no mark, and d has none and its label
+abbrev pub Paired : List ℕ → List ℕ → ℕ → ℕ → Type 0
+Paired labels dead e d = (getD dead e 0 ≡ 0) × Like labels dead (getD labels e 0) d
 
 -- no edge from e on, before r, has the label of a later one; r is m for none
-pub record LowestPaired (labels : List ℕ) (e m r : ℕ) : Type 0 where
+pub record LowestPaired (labels dead : List ℕ) (e m r : ℕ) : Type 0 where
   pub low : e ≤ r
   pub high : r ≤ m
-  pub between : (k : ℕ) → k < r → e ≤ k → (d : ℕ) → k < d → d < m → getD labels k 0 ≡ getD labels d 0 → ⊥
+  pub live : r < m → getD dead r 0 ≡ 0
+  pub between : (k : ℕ) → k < r → e ≤ k → (d : ℕ) → k < d → d < m → Paired labels dead k d → ⊥
+
+-- `partner`: an edge above e that it is paired with, or m for none
+pub record Partner (labels dead : List ℕ) (e m r : ℕ) : Type 0 where
+  pub live : r < m → getD dead e 0 ≡ 0
+  pub none : m ≤ r → (d : ℕ) → e < d → d < m → Paired labels dead e d → ⊥

@@ -17,7 +17,7 @@ handed (Refused a) = refusal (answerOf a)
 handed NoCut = served (0 ∷ [])
 handed (Cut c) = served (1 ∷ (c .count ∷ (c .first ∷ (c .second ∷ []))))
 
--- 01: the plan's own 1 to 5; else the fewest tabs whose loss parts the sheet, the lowest such set, as the verdict hands it back
+-- 01: the plan's own refusals; else the fewest tabs whose loss parts the sheet, the lowest such set, as the verdict hands it back
 unfoldable pub lowestHanded : Limits → Plan → Handed
 lowestHanded most p =
     let a = admission most p in

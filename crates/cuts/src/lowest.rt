@@ -4,6 +4,7 @@ use crate::tries::is_cut;
 use graph::Graph;
 ghost use mathlib.Core.Path.{_≡_};
 ghost use Prim.Native.Nat.{_≤_, _<_};
+ghost use lib.ListN.{getD};
 ghost use Rattle.connectivity.specs.Plan.{plan, graph, limits};
 ghost use Rattle.connectivity.specs.Cut.{lowestCut};
 ghost use Rattle.cuts.specs.Lowest.{Shown, ShownBoth, oneTold, twoTold, firstOne, firstWith, firstTwo, Told, Whole};
@@ -36,6 +37,7 @@ pub(crate) fn cut(count: u16, first: u16, second: u16) -> Lowest
 pub(crate) fn small_cut(
     vertices: u16,
     ends: &[u16],
+    excluded: &[u16],
     incident: &[u16],
     begins: &[u16],
     first: &[u16],
@@ -45,13 +47,14 @@ pub(crate) fn small_cut(
     order: &mut [u16],
     cursor: &mut [u16],
 ) -> Lowest
-    requires { ⌜ Whole limits vertices (now ends) (now labels) × Ready limits (plan vertices (now ends)) (now incident) (now begins) (now first) (now dead) (now marks) (now order) (now cursor) ⌝ }
-    ensures { λ r. ⌜ Told r (lowestCut (graph (plan vertices (now (ends .entry))))) ⌝ }
+    requires { ⌜ Whole limits (plan vertices (now ends) (now excluded)) (now labels) × Ready limits (plan vertices (now ends) (now excluded)) (now incident) (now begins) (now first) (now dead) (now marks) (now order) (now cursor) ⌝ }
+    ensures { λ r. ⌜ Told r (lowestCut (graph (plan vertices (now (ends .entry)) (now (excluded .entry))))) ⌝ }
 {
     let edges = (ends.len() / 2) as u16;
     let e = lowest_one(
         vertices,
         ends,
+        excluded,
         incident,
         begins,
         first,
@@ -68,6 +71,7 @@ pub(crate) fn small_cut(
     lowest_pair(
         vertices,
         ends,
+        excluded,
         incident,
         begins,
         first,
@@ -84,6 +88,7 @@ pub(crate) fn small_cut(
 fn lowest_one(
     vertices: u16,
     ends: &[u16],
+    excluded: &[u16],
     incident: &[u16],
     begins: &[u16],
     first: &[u16],
@@ -94,14 +99,15 @@ fn lowest_one(
     order: &mut [u16],
     cursor: &mut [u16],
 ) -> u16
-    requires { ⌜ Shown vertices (now ends) (now labels) edges × Ready limits (plan vertices (now ends)) (now incident) (now begins) (now first) (now dead) (now marks) (now order) (now cursor) ⌝ }
-    ensures { λ r. ⌜ (r ≤ edges) × (firstOne (graph (plan vertices (now (ends .entry)))) edges ≡ oneTold edges r) × Restored (now (dead .entry)) (now (marks .entry)) (now (order .entry)) (now (cursor .entry)) (now (dead .exit)) (now (marks .exit)) (now (order .exit)) (now (cursor .exit)) ⌝ }
+    requires { ⌜ Shown (plan vertices (now ends) (now excluded)) (now labels) edges × Ready limits (plan vertices (now ends) (now excluded)) (now incident) (now begins) (now first) (now dead) (now marks) (now order) (now cursor) ⌝ }
+    ensures { λ r. ⌜ (r ≤ edges) × (firstOne (graph (plan vertices (now (ends .entry)) (now (excluded .entry)))) edges ≡ oneTold edges r) × Restored (now (dead .entry)) (now (marks .entry)) (now (order .entry)) (now (cursor .entry)) (now (dead .exit)) (now (marks .exit)) (now (order .exit)) (now (cursor .exit)) ⌝ }
 {
-    let mut e = alike::zero_from(labels, edges, 0);
+    let mut e = alike::zero_from(labels, dead, edges, 0);
     while e < edges {
         if is_cut(
             vertices,
             ends,
+            excluded,
             incident,
             begins,
             first,
@@ -114,7 +120,7 @@ fn lowest_one(
         ) {
             return e;
         }
-        e = alike::zero_from(labels, edges, e + 1);
+        e = alike::zero_from(labels, dead, edges, e + 1);
     }
     edges
 }
@@ -123,6 +129,7 @@ fn lowest_one(
 fn lowest_pair(
     vertices: u16,
     ends: &[u16],
+    excluded: &[u16],
     incident: &[u16],
     begins: &[u16],
     first: &[u16],
@@ -133,8 +140,8 @@ fn lowest_pair(
     order: &mut [u16],
     cursor: &mut [u16],
 ) -> Lowest
-    requires { ⌜ ShownBoth vertices (now ends) (now labels) edges × Ready limits (plan vertices (now ends)) (now incident) (now begins) (now first) (now dead) (now marks) (now order) (now cursor) ⌝ }
-    ensures { λ r. ⌜ Told r (firstTwo (graph (plan vertices (now (ends .entry)))) edges) ⌝ }
+    requires { ⌜ ShownBoth (plan vertices (now ends) (now excluded)) (now labels) edges × Ready limits (plan vertices (now ends) (now excluded)) (now incident) (now begins) (now first) (now dead) (now marks) (now order) (now cursor) ⌝ }
+    ensures { λ r. ⌜ Told r (firstTwo (graph (plan vertices (now (ends .entry)) (now (excluded .entry)))) edges) ⌝ }
 {
     let mut next = [0u16; Graph::MAX_EDGES];
     let mut heads = [0u16; HEADS];
@@ -142,6 +149,7 @@ fn lowest_pair(
     lowest_two(
         vertices,
         ends,
+        excluded,
         incident,
         begins,
         first,
@@ -159,6 +167,7 @@ fn lowest_pair(
 fn lowest_two(
     vertices: u16,
     ends: &[u16],
+    excluded: &[u16],
     incident: &[u16],
     begins: &[u16],
     first: &[u16],
@@ -170,14 +179,15 @@ fn lowest_two(
     order: &mut [u16],
     cursor: &mut [u16],
 ) -> Lowest
-    requires { ⌜ ShownBoth vertices (now ends) (now labels) edges × Chaining edges (now labels) (now next) × Ready limits (plan vertices (now ends)) (now incident) (now begins) (now first) (now dead) (now marks) (now order) (now cursor) ⌝ }
-    ensures { λ r. ⌜ Told r (firstTwo (graph (plan vertices (now (ends .entry)))) edges) ⌝ }
+    requires { ⌜ ShownBoth (plan vertices (now ends) (now excluded)) (now labels) edges × Chaining edges (now labels) (now next) × Ready limits (plan vertices (now ends) (now excluded)) (now incident) (now begins) (now first) (now dead) (now marks) (now order) (now cursor) ⌝ }
+    ensures { λ r. ⌜ Told r (firstTwo (graph (plan vertices (now (ends .entry)) (now (excluded .entry)))) edges) ⌝ }
 {
-    let mut e = alike::paired_from(labels, next, edges, 0);
+    let mut e = alike::paired_from(labels, dead, next, edges, 0);
     while e < edges {
         let d = lowest_with(
             vertices,
             ends,
+            excluded,
             incident,
             begins,
             first,
@@ -193,7 +203,7 @@ fn lowest_two(
         if d < edges {
             return cut(2, e, d);
         }
-        e = alike::paired_from(labels, next, edges, e + 1);
+        e = alike::paired_from(labels, dead, next, edges, e + 1);
     }
     cut(3, 0, 0)
 }
@@ -202,6 +212,7 @@ fn lowest_two(
 fn lowest_with(
     vertices: u16,
     ends: &[u16],
+    excluded: &[u16],
     incident: &[u16],
     begins: &[u16],
     first: &[u16],
@@ -214,14 +225,15 @@ fn lowest_with(
     order: &mut [u16],
     cursor: &mut [u16],
 ) -> u16
-    requires { ⌜ ShownBoth vertices (now ends) (now labels) edges × Chaining edges (now labels) (now next) × Ready limits (plan vertices (now ends)) (now incident) (now begins) (now first) (now dead) (now marks) (now order) (now cursor) × (e < edges) ⌝ }
-    ensures { λ r. ⌜ (firstWith (graph (plan vertices (now (ends .entry)))) edges e ≡ twoTold edges e r) × Restored (now (dead .entry)) (now (marks .entry)) (now (order .entry)) (now (cursor .entry)) (now (dead .exit)) (now (marks .exit)) (now (order .exit)) (now (cursor .exit)) ⌝ }
+    requires { ⌜ ShownBoth (plan vertices (now ends) (now excluded)) (now labels) edges × Chaining edges (now labels) (now next) × Ready limits (plan vertices (now ends) (now excluded)) (now incident) (now begins) (now first) (now dead) (now marks) (now order) (now cursor) × (e < edges) × (getD (now dead) e 0 ≡ 0) ⌝ }
+    ensures { λ r. ⌜ (firstWith (graph (plan vertices (now (ends .entry)) (now (excluded .entry)))) edges e ≡ twoTold edges e r) × Restored (now (dead .entry)) (now (marks .entry)) (now (order .entry)) (now (cursor .entry)) (now (dead .exit)) (now (marks .exit)) (now (order .exit)) (now (cursor .exit)) ⌝ }
 {
-    let mut d = alike::next_like(labels, next, edges, e);
+    let mut d = alike::next_like(labels, dead, next, edges, e);
     while d < edges {
         if is_cut(
             vertices,
             ends,
+            excluded,
             incident,
             begins,
             first,
@@ -234,7 +246,7 @@ fn lowest_with(
         ) {
             return d;
         }
-        d = alike::next_like(labels, next, edges, d);
+        d = alike::next_like(labels, dead, next, edges, d);
     }
     edges
 }

@@ -179,7 +179,7 @@ module _ {p : Plan} {incident begins dead : List ℕ} {n root seen : ℕ} {mark�
 
   -- a first edge is no root's mark
   pub no-root : length (p .ends) / 2 < rootMark → (u v : ℕ) → over-first u v → mark v ≡ rootMark → ⊥
-  no-root few u v o q = omega (arith, q, joins-edge (p .vertices) (p .ends) (mark v - 1) u v (o .by .joins))
+  no-root few u v o q = omega (arith, q, joins-edge p (o .by .joins))
 
   -- the vertices below the one at place i have the places from i up to some place
   pub below-together : length (p .ends) / 2 < rootMark → (i : ℕ) → seen ≤ i → i < count

@@ -8,21 +8,21 @@ use native.Mathlib.Decide.{decLt}
 use lib.Dec.{T}
 use lib.ListN.{length, getD, length-append, List·getD-append}
 use borrow.Author.Tests.{lt-ltb, le-ltb}
-use Rattle.connectivity.specs.Plan.{Plan, graph, Limits}
+use Rattle.connectivity.specs.Plan.{Plan, graph, listed, Limits}
 use Rattle.connectivity.specs.Graph.{Graph, Joins}
 use Rattle.connectivity.specs.Admission.{Admitted}
 use Rattle.connectivity.proofs.Reach.{joins-sym}
 use Rattle.graph.specs.Marks.{Live}
-use Rattle.graph.proofs.Joined.{joins-below, joins-edge}
+use Rattle.graph.proofs.Joined.{joins-below, joins-edge, joins-ends}
 use Rattle.incidence.specs.Tables.{touches, begin, incidentTable, beginsTable, Tabled}
-use Rattle.incidence.specs.Parts.{rank}
+use Rattle.graph.specs.Marks.{rank}
 use Rattle.incidence.proofs.Groups.{touches-is, begin-all, begin-le, place-below, place-at}
 use Rattle.incidence.proofs.Filled.{begins-long, begins-at, incident-is, incident-long}
 use Rattle.depth.specs.Depth.{groupEnd, InGroup, Crossing}
 
 module _ {most : Limits} {p : Plan} {incident begins : List ℕ} (t : Tabled most p incident begins) where
   abbrev g : Graph
-  g = graph p
+  g = listed p
 
   abbrev n : ℕ
   n = p .vertices
@@ -59,8 +59,8 @@ module _ {most : Limits} {p : Plan} {incident begins : List ℕ} (t : Tabled mos
     below : place < begin g n
     below = omega (arith, place-below a v e k h, begin-le a (suc v) n (omega arith))
 
-    listed : getD incident place 0 ≡ e
-    listed = ap (λ (i : List ℕ). getD i place 0) (t .incident-is)
+    stands : getD incident place 0 ≡ e
+    stands = ap (λ (i : List ℕ). getD i place 0) (t .incident-is)
         ∙ List·getD-append (incidentTable g) (t .incident-rest) 0 place (omega (arith, ap length (incident-is p), below))
         ∙ ap (λ (i : List ℕ). getD i place 0) (incident-is p) ∙ place-at a n v e l k h
 
@@ -71,9 +71,10 @@ module _ {most : Limits} {p : Plan} {incident begins : List ℕ} (t : Tabled mos
       inside = omega (arith, below, tabled-size, begin-all a);
     }
 
-  pub crosses : (dead : List ℕ) (e u v : ℕ) → Live dead e → Joins g e u v → Crossing p incident begins dead e u v
+  pub crosses : (dead : List ℕ) (e u v : ℕ) → Live dead e → Joins (graph p) e u v → Crossing p incident begins dead e u v
+  unfolding graph
   crosses dead e u v live j =
-      let lu = joins-below n (p .ends) e v u (joins-sym j) in
-      let le = joins-edge n (p .ends) e u v j in
-      let h = touches-is g u e .1 (⊎-elim (λ q. inl (q .0)) (λ q. inr (q .1)) (j .ends)) in
-      record { place = begin g u + rank (touches g u) e; group = in-group u e lu le h; listed = listed u e lu le h; live = live; joins = j }
+      let lu = joins-below p (joins-sym j) in
+      let le = joins-edge p j in
+      let h = touches-is g u e .1 (⊎-elim (λ q. inl (q .0)) (λ q. inr (q .1)) (joins-ends p j)) in
+      record { place = begin g u + rank (touches g u) e; group = in-group u e lu le h; listed = stands u e lu le h; live = live; joins = j }

@@ -8,16 +8,17 @@ use native.Mathlib.Omega.{arith}
 use lib.ListN.{length, getD}
 use borrow.Author.Tests.{lt-ltb, le-ltb}
 use Rattle.connectivity.specs.Plan.{Plan, graph}
-use Rattle.connectivity.specs.Graph.{Joins}
+use Rattle.connectivity.specs.Graph.{Vertex, Joins}
 use Rattle.connectivity.proofs.Reach.{joins-sym}
 use Rattle.graph.proofs.Joined.{joins-below, joins-edge}
 use Rattle.graph.specs.Marks.{read, Marked, Live}
 use Rattle.depth.specs.Depth.{groupEnd, Crossing}
 use Rattle.depth.specs.Parts.{EndsAt, Leads, New, LeadsOn}
 
+-- where an edge leads is told for plans that keep every vertex
 module _ (p : Plan) where
   pub crossing-below : (incident begins dead : List ℕ) (e u v : ℕ) → Crossing p incident begins dead e u v → v < p .vertices
-  crossing-below incident begins dead e u v c = joins-below (p .vertices) (p .ends) e u v (c .joins)
+  crossing-below incident begins dead e u v c = joins-below p (c .joins)
 
   abbrev left : ℕ → ℕ
   left e = getD (p .ends) (2 * e) 0
@@ -29,9 +30,9 @@ module _ (p : Plan) where
   unfolding graph
   joins-ends e u v j = ⊎-elim (λ q. inl (sym (q .0), sym (q .1))) (λ q. inr (sym (q .1), sym (q .0))) (j .ends)
 
-  joins-made : (e : ℕ) → e < length (p .ends) / 2 → left e < p .vertices → right e < p .vertices → Joins (graph p) e (left e) (right e)
+  joins-made : (e : ℕ) → e < length (p .ends) / 2 → Vertex (graph p) (left e) → Vertex (graph p) (right e) → Joins (graph p) e (left e) (right e)
   unfolding graph
-  joins-made e l a b = record { edge = record { below = l; left = record { below = a; kept = tt }; right = record { below = b; kept = tt } }; ends = inl (refl, refl) }
+  joins-made e l a b = record { edge = record { below = l; left = a; right = b }; ends = inl (refl, refl) }
 
   -- where an edge leads
   module _ (dead : List ℕ) (v e : ℕ) where
@@ -39,22 +40,22 @@ module _ (p : Plan) where
     lead-none f = record { right = λ l. absurd (omega arith); whole = λ w l j. absurd (f w l j) }
 
     pub lead-outside : length (p .ends) / 2 ≤ e → Leads p dead v e (p .vertices)
-    lead-outside h = lead-none (λ w l j. omega (arith, joins-edge (p .vertices) (p .ends) e v w j))
+    lead-outside h = lead-none (λ w l j. omega (arith, joins-edge p j))
 
     pub lead-dead : (Live dead e → ⊥) → Leads p dead v e (p .vertices)
     lead-dead d = lead-none (λ w l j. d l)
 
-    module _ (l : e < length (p .ends) / 2) (live : Live dead e) (lv : v < p .vertices) where
+    module _ (whole : (x : ℕ) → x < p .vertices → Vertex (graph p) x) (l : e < length (p .ends) / 2) (live : Live dead e) (lv : v < p .vertices) where
       pub lead-right : left e ≡ v → Leads p dead v e (right e)
       lead-right q = record {
-        right = λ b. (live, subst (λ (x : ℕ). Joins (graph p) e x (right e)) q (joins-made e l (omega arith) b));
+        right = λ b. (live, subst (λ (x : ℕ). Joins (graph p) e x (right e)) q (joins-made e l (whole (left e) (omega arith)) (whole (right e) b)));
         whole = λ w k j. ⊎-elim (λ c. c .1) (λ c. c .1 ∙ q ∙ c .0) (joins-ends e v w j);
       }
 
       module _ (ne : left e ≡ v → ⊥) where
         pub lead-left : right e ≡ v → Leads p dead v e (left e)
         lead-left q = record {
-          right = λ a. (live, joins-sym (subst (Joins (graph p) e (left e)) q (joins-made e l a (omega arith))));
+          right = λ a. (live, joins-sym (subst (Joins (graph p) e (left e)) q (joins-made e l (whole (left e) a) (whole (right e) (omega arith)))));
           whole = λ w k j. ⊎-elim (λ c. absurd (ne (sym (c .0)))) (λ c. c .1) (joins-ends e v w j);
         }
 
@@ -64,7 +65,7 @@ module _ (p : Plan) where
   -- whether that has no mark
   module _ (dead first : List ℕ) (v e w : ℕ) (f : Leads p dead v e w) where
     pub on-none : p .vertices ≤ w → LeadsOn p dead first v e false
-    on-none h = record { yes = λ q. absurd (false≢true q); no = λ q x l j. let c = f .whole x l j in absurd (omega (arith, c, joins-below (p .vertices) (p .ends) e v x j)) }
+    on-none h = record { yes = λ q. absurd (false≢true q); no = λ q x l j. let c = f .whole x l j in absurd (omega (arith, c, joins-below p j)) }
 
     pub on-old : Marked (read first) w → LeadsOn p dead first v e false
     on-old m = record { yes = λ q. absurd (false≢true q); no = λ q x l j. rw (f .whole x l j) m }
@@ -74,7 +75,7 @@ module _ (p : Plan) where
 
     -- the new vertex is the one to which the edge leads
     pub new-is : {x : ℕ} → New p dead first v e x → (x ≡ w) × (x < p .vertices)
-    new-is {x} d = (f .whole x (d .live) (d .joins), joins-below (p .vertices) (p .ends) e v x (d .joins))
+    new-is {x} d = (f .whole x (d .live) (d .joins), joins-below p (d .joins))
 
 -- where a group ends
 module _ (n size : ℕ) (begins : List ℕ) (v : ℕ) where

@@ -68,4 +68,4 @@ module _ {p : Plan} {incident begins dead : List ℕ} {root seen : ℕ} {first�
 
 -- where no vertex had a mark, that is so
 pub clear-closed : (p : Plan) (mark : ℕ → ℕ) → ((v : ℕ) → v < p .vertices → mark v ≡ 0) → (e u v : ℕ) → Joins (graph p) e u v → Marked mark u → Marked mark v
-clear-closed p mark clear e u v j m = absurd (m (clear u (joins-below (p .vertices) (p .ends) e v u (joins-sym j))))
+clear-closed p mark clear e u v j m = absurd (m (clear u (joins-below p (joins-sym j))))

@@ -1,23 +1,18 @@
--- Searches from one root after the other give a spanning forest; a plan is connected exactly where it has one root.
+-- Searches from one root after the other give a spanning forest, in which a root is lower than what stands behind it.
 use mathlib.Core.Path.{_≡_, refl, sym, ap, _∙_, subst}
-use mathlib.Core.Logic.{inl, inr, _↔_}
-use mathlib.Core.List.{List, [], List·Memᴰ·not-nil as not-in}
-use Prim.Native.Nat.{ℕ, zero, suc, _+_, _-_, _/_, _≤_, _<_}
+use mathlib.Core.Logic.{inl, inr}
+use mathlib.Core.List.{List}
+use Prim.Native.Nat.{ℕ, _+_, _-_, _/_, _≤_, _<_}
 use native.Mathlib.Omega.{arith}
 use native.Mathlib.Decide.{ℕ-discrete, decLt}
 use lib.ListN.{length, getD}
 use Rattle.connectivity.specs.Plan.{Plan, graph, Limits}
-use Rattle.connectivity.specs.Graph.{Graph, Joins}
-use Rattle.connectivity.specs.Reach.{Reach, here, over, Without, Connected}
-use Rattle.connectivity.specs.Admission.{Admitted}
-use Rattle.connectivity.proofs.Reach.{reach-trans, reach-sym, closed-reach}
-use Rattle.connectivity.proofs.Admission.{admitted-vertex}
+use Rattle.connectivity.specs.Graph.{Graph, Edge, Joins}
 use Rattle.graph.specs.Marks.{read, Live, Marked}
-use Rattle.graph.proofs.Joined.{vertex-below, joins-below, joins-edge}
 use Rattle.graph.proofs.Tally.{tally-lt, tally-none, tally-full}
 use Rattle.incidence.specs.Tables.{Tabled}
 use Rattle.depth.specs.Depth.{rootMark, Crossing, EnteredBy, Fresh, Found, Searched}
-use Rattle.depth.specs.Forest.{Rooted, Border, Forest, Grown}
+use Rattle.depth.specs.Forest.{Rooted, Border, Forest, RootsLow, Grown}
 use Rattle.depth.proofs.Walk.{along-on}
 use Rattle.depth.proofs.Crosses.{crosses}
 use Rattle.depth.proofs.Above.{no-root}
@@ -37,7 +32,6 @@ grown-start g n mark at clear = record {
   roots = λ k l. absurd (omega arith);
   low = λ j k l h. absurd (omega arith);
   closed = λ e i u l. absurd (omega arith);
-  top = λ l. absurd (omega arith);
 }
 
 module _ {g : Graph} {n v count : ℕ} {mark at : ℕ → ℕ} (t : Grown g n v count mark at) where
@@ -55,7 +49,6 @@ module _ {g : Graph} {n v count : ℕ} {mark at : ℕ → ℕ} (t : Grown g n v 
     roots = λ k l q. omega (arith, t .roots k l q);
     low = t .low;
     closed = t .closed;
-    top = t .top;
   }
 
   -- all roots have been tried: all vertices stand in the order
@@ -63,22 +56,23 @@ module _ {g : Graph} {n v count : ℕ} {mark at : ℕ → ℕ} (t : Grown g n v 
   grown-full q = t .counted ∙ tally-full mark n (λ u l. t .tried u (omega arith))
 
   -- all vertices stand in the order
-  pub grown-end : 0 < n → count ≡ n → Forest g n mark at
-  grown-end l q = record {
+  pub grown-end : count ≡ n → Forest g n mark at
+  grown-end q = record {
     valid = λ k h. t .valid k (omega arith);
     listed = λ u h. let s = t .listed u h (λ z. omega (arith, tally-lt mark n u h z, t .counted)) in (s .0, omega (arith, s .1), s .2);
     once = λ j k h b. t .once j k h (omega arith);
     marked = λ k h. t .marked k (omega arith);
     tree = λ k h. t .tree k (omega arith);
     border = λ k h m e i j a b c. t .border k (omega arith) m e i j a b (omega arith);
-    low = λ j k h b. t .low j k h (omega arith);
-    top = t .top (omega arith);
   }
+
+  pub grown-low : count ≡ n → RootsLow n mark at
+  grown-low q j k h b = t .low j k h (omega arith)
 
 -- A search from v behind what the roots below v have led to.
 
 module _ {most : Limits} {p : Plan} {incident begins dead : List ℕ} {v seen : ℕ} {first₀ order₀ cursor₀ first order cursor : List ℕ} {count : ℕ} (tabled : Tabled most p incident begins)
-    (few : length (p .ends) / 2 < rootMark) (live : (e : ℕ) → e < length (p .ends) / 2 → Live dead e) (t : Grown (graph p) (p .vertices) v seen (read first₀) (read order₀))
+    (few : length (p .ends) / 2 < rootMark) (live : (e : ℕ) → Edge (graph p) e → Live dead e) (t : Grown (graph p) (p .vertices) v seen (read first₀) (read order₀))
     (h : Fresh (p .vertices) v seen first₀) (f : Found (Crossing p incident begins dead) (p .vertices) v seen first₀ order₀ cursor₀ first order cursor count) where
   abbrev g : Graph
   g = graph p
@@ -192,21 +186,9 @@ module _ {most : Limits} {p : Plan} {incident begins dead : List ℕ} {v seen : 
     | yes z ↦ elim (decLt i seen) [
       | yes b ↦ absurd (apart e i u b j z)
       | no b ↦ all-entered f h (omega (arith, t .counted)) u (along-on (f .sound (at i) (new-at i (omega arith) l))
-          (record { crossing = crosses tabled dead e (at i) u (live e (joins-edge n (p .ends) e (at i) u j)) j; fresh = z })) .marked
+          (record { crossing = crosses tabled dead e (at i) u (live e (j .edge)) j; fresh = z })) .marked
     ]
   ]
-
-  top : at 0 ≡ 0
-  top = elim (decLt 0 seen) [
-    | yes l ↦ same-at 0 l ∙ t .top l
-    | no c ↦ let q : seen ≡ 0 = omega arith in ap at (sym q) ∙ f .tree .top ∙ first-root q
-  ]
-    where
-      first-root : seen ≡ 0 → v ≡ 0
-      first-root q = elim (ℕ-discrete v 0) [
-        | yes z ↦ z
-        | no o ↦ absurd (let s = t .listed 0 (omega (arith, h .below)) (t .tried 0 (omega arith)) in omega (arith, s .1))
-      ]
 
   pub grown-step : Grown g n (v + 1) count (read first) (read order)
   grown-step = record {
@@ -221,54 +203,12 @@ module _ {most : Limits} {p : Plan} {incident begins dead : List ℕ} {v seen : 
     roots = roots;
     low = low;
     closed = closed;
-    top = λ l. top;
   }
 
 -- the same of what a search answers, which does nothing where v has a mark
 pub grown-search : {most : Limits} {p : Plan} {incident begins dead : List ℕ} {v seen : ℕ} {first₀ order₀ cursor₀ first order cursor : List ℕ} {count : ℕ} → Tabled most p incident begins
-    → length (p .ends) / 2 < rootMark → ((e : ℕ) → e < length (p .ends) / 2 → Live dead e) → Grown (graph p) (p .vertices) v seen (read first₀) (read order₀) → v < p .vertices
+    → length (p .ends) / 2 < rootMark → ((e : ℕ) → Edge (graph p) e → Live dead e) → Grown (graph p) (p .vertices) v seen (read first₀) (read order₀) → v < p .vertices
     → Searched p incident begins dead v seen first₀ order₀ cursor₀ first order cursor count → Grown (graph p) (p .vertices) (v + 1) count (read first) (read order)
 grown-search tabled few live t l (inl s) = grown-step tabled few live t (s .0) (s .1)
 grown-search {p = p} {v = v} {first₀ = first₀} tabled few live t l (inr s) = rw (s .2 .0, s .2 .1, s .1)
     (grown-pass t (λ z. s .0 (record { room = omega (arith, t .counted, tally-lt (read first₀) (p .vertices) v l z); below = l; fresh = z })))
-
--- The graph of a plan is connected exactly where vertex 0 is the only root.
-
-module _ {most : Limits} {p : Plan} {mark at : ℕ → ℕ} (a : Admitted most p) (f : Forest (graph p) (p .vertices) mark at) where
-  abbrev pub OneRoot : Type 0
-  OneRoot = (k : ℕ) → 0 < k → k < p .vertices → mark (at k) ≡ rootMark → ⊥
-
-  -- down the tree, from place to later place
-  from-top : OneRoot → (m k : ℕ) → k < m → k < p .vertices → Reach (graph p) (Without []) (at 0) (at k)
-  from-top h zero k l b = absurd (omega arith)
-  from-top h (suc m) k l b = elim (ℕ-discrete k 0) [
-    | yes q ↦ subst (λ (x : ℕ). Reach (graph p) (Without []) (at 0) (at x)) (sym q) here
-    | no ne ↦ elim (f .tree k b) [
-      | inl q ↦ absurd (h k (omega arith) b q)
-      | inr s ↦ reach-trans (from-top h m (s .0) (omega (arith, s .1)) (omega (arith, s .1))) (over (mark (at k) - 1) (λ i. not-in i) (s .2) here)
-    ]
-  ]
-
-  spoke : OneRoot → (v : ℕ) → v < p .vertices → Reach (graph p) (Without []) (at 0) v
-  spoke h v l = let s = f .listed v l in subst (Reach (graph p) (Without []) (at 0)) (s .2) (from-top h (suc (s .0)) (s .0) (omega arith) (s .1))
-
-  -- what stands before a root
-  module _ (k : ℕ) (l : k < p .vertices) (r : mark (at k) ≡ rootMark) where
-    abbrev Before : ℕ → Type 0
-    Before v = (i : ℕ) × (i < k) × (at i ≡ v)
-
-    stays : (e u v : ℕ) → Without [] e → Joins (graph p) e u v → Before u → Before v
-    stays e u v w j b =
-        let s = f .listed v (joins-below (p .vertices) (p .ends) e u v j) in
-        elim (decLt (s .0) k) [ yes h ↦ (s .0, h, s .2) | no h ↦ absurd (f .border k l r e (b .0) (s .0) (b .1) (omega arith) (s .1) (rw (b .2, s .2) j)) ]
-
-    parted : 0 < k → Connected (graph p) [] → ⊥
-    parted z c =
-        let b = closed-reach Before stays (c (at 0) (at k) (admitted-vertex a (at 0) (f .valid 0 (omega arith))) (admitted-vertex a (at k) (f .valid k l))) (0, z, refl) in
-        f .once (b .0) k (b .1) l (b .2)
-
-  pub forest-connected : OneRoot ↔ Connected (graph p) []
-  forest-connected = (
-    λ h u v x y. reach-trans (reach-sym (spoke h u (vertex-below (p .vertices) (p .ends) u x))) (spoke h v (vertex-below (p .vertices) (p .ends) v y)),
-    λ c k z l r. parted k l r z c,
-  )

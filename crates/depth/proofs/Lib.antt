@@ -9,3 +9,5 @@ pub mod Entering
 pub mod Undoing
 pub mod Left
 pub mod Forest
+pub mod Masking
+pub mod Appending

@@ -7,7 +7,7 @@ use Prim.Native.Nat.{ℕ, _+_, _-_, _/_, _%_, _≤_, _<_}
 use lib.Dec.{eqb, ltb, leb}
 use lib.ListN.{length, getD}
 use Rattle.connectivity.specs.Plan.{Plan, graph, Limits}
-use Rattle.connectivity.specs.Graph.{Joins}
+use Rattle.connectivity.specs.Graph.{Edge, Joins}
 use Rattle.connectivity.specs.Admission.{Answer, answer, passed, andThen, Handed, served, refusal}
 use Rattle.graph.specs.Admission.{answerOf}
 use Rattle.graph.specs.Marks.{read, Live, Marked, tally}
@@ -198,7 +198,12 @@ pub record Undone (order : List ℕ) (from to : ℕ) (before after : List ℕ) :
   pub gone : (k : ℕ) → from ≤ k → k < to → k < length order → getD after (getD order k 0) 0 ≡ 0
   pub kept : (v : ℕ) → ((k : ℕ) → from ≤ k → k < to → k < length order → getD order k 0 ≡ v → ⊥) → getD after v 0 ≡ getD before v 0
 
--- the marks of the edges are those of a cut: 0 exactly where an edge is not in it
+-- no live edge ends at an excluded vertex
+abbrev pub Masking : Plan → (ℕ → ℕ) → Type 0
+Masking p dead = (e : ℕ) → e < length (p .ends) / 2 → dead e ≡ 0 → Edge (graph p) e
+
+-- the marks of the edges are those of a cut: 0 exactly where an edge of the graph is not in it
 pub record Cutting (p : Plan) (cut : List ℕ) (dead : ℕ → ℕ) : Type 0 where
-  pub gone : (e : ℕ) → e < length (p .ends) / 2 → In e cut → dead e ≡ 0 → ⊥
-  pub kept : (e : ℕ) → e < length (p .ends) / 2 → (In e cut → ⊥) → dead e ≡ 0
+  pub masking : Masking p dead
+  pub gone : (e : ℕ) → Edge (graph p) e → In e cut → dead e ≡ 0 → ⊥
+  pub kept : (e : ℕ) → Edge (graph p) e → (In e cut → ⊥) → dead e ≡ 0

@@ -1,7 +1,9 @@
 -- A spanning forest of a graph, and how searches from one root after the other make it.
 use mathlib.Core.Path.{_≡_}
 use mathlib.Core.Logic.{_⊎_}
-use Prim.Native.Nat.{ℕ, _-_, _≤_, _<_}
+use mathlib.Core.List.{List, List·Memᴰ as In}
+use Prim.Native.Nat.{ℕ, _+_, _-_, _≤_, _<_}
+use lib.ListN.{length, getD}
 use Rattle.connectivity.specs.Graph.{Graph, Joins}
 use Rattle.graph.specs.Marks.{Marked, tally}
 use Rattle.depth.specs.Depth.{rootMark}
@@ -26,10 +28,10 @@ pub record Forest (g : Graph) (n : ℕ) (mark at : ℕ → ℕ) : Type 0 where
   pub tree : (k : ℕ) → k < n → Rooted g mark at k
   -- a root begins a new body
   pub border : (k : ℕ) → k < n → mark (at k) ≡ rootMark → Border g at n k
-  -- and is lower than what stands behind it
-  pub low : (j k : ℕ) → j < k → k < n → mark (at j) ≡ rootMark → at j < at k
-  -- the first root is vertex 0
-  pub top : at 0 ≡ 0
+
+-- each root is lower than what stands behind it
+abbrev pub RootsLow : ℕ → (ℕ → ℕ) → (ℕ → ℕ) → Type 0
+RootsLow n mark at = (j k : ℕ) → j < k → k < n → mark (at j) ≡ rootMark → at j < at k
 
 -- the roots below v have been tried, and `count` vertices stand in the order
 pub record Grown (g : Graph) (n v count : ℕ) (mark at : ℕ → ℕ) : Type 0 where
@@ -47,4 +49,13 @@ pub record Grown (g : Graph) (n v count : ℕ) (mark at : ℕ → ℕ) : Type 0 
   pub low : (j k : ℕ) → j < k → k < count → mark (at j) ≡ rootMark → at j < at k
   -- no edge leads to any other
   pub closed : (e i u : ℕ) → i < count → Joins g e (at i) u → Marked mark u
-  pub top : 0 < count → at 0 ≡ 0
+
+-- behind the first `count` places of the order stand the excluded vertices, each as a root
+pub record Appended (excluded : List ℕ) (count : ℕ) (first₀ order₀ first order : List ℕ) : Type 0 where
+  pub first-long : length first ≡ length first₀
+  pub order-long : length order ≡ length order₀
+  pub before : (k : ℕ) → k < count → getD order k 0 ≡ getD order₀ k 0
+  pub behind : (i : ℕ) → i < length excluded → getD order (count + i) 0 ≡ getD excluded i 0
+  pub after : (k : ℕ) → count + length excluded ≤ k → getD order k 0 ≡ getD order₀ k 0
+  pub roots : (v : ℕ) → In v excluded → getD first v 0 ≡ rootMark
+  pub others : (v : ℕ) → (In v excluded → ⊥) → getD first v 0 ≡ getD first₀ v 0

@@ -5,7 +5,7 @@ ghost use mathlib.Core.Path.{_≡_};
 ghost use mathlib.Core.Bool.{not};
 ghost use Prim.Native.Nat.{ℕ, _+_, _/_, _<_, _≤_};
 ghost use lib.ListN.{length, set};
-ghost use Rattle.connectivity.specs.Plan.{plan, limits};
+ghost use Rattle.connectivity.specs.Plan.{entire, limits};
 ghost use Rattle.graph.specs.Tells.{Tells};
 ghost use Rattle.depth.specs.Depth.{Crossing, Found, Fresh, counted, enough, refused, Answered, Undone};
 ghost use Rattle.depth.specs.Parts.{Least, Fit, Rooms, EndsAt, Leads, LeadsOn, SeekStart, Sought, DescendStart, Descended, AscendStart, Ascended, GoesOn, TurnStart, Turned};
@@ -41,7 +41,7 @@ pub fn explore(
     order: &mut [u16],
     cursor: &mut [u16],
 ) -> Explored
-    ensures { λ r. ⌜ Answered limits (plan vertices (now (ends .entry))) (now (incident .entry)) (now (begins .entry)) (now (dead .entry)) root seen (now (first .entry)) (now (order .entry)) (now (cursor .entry)) (now (first .exit)) (now (order .exit)) (now (cursor .exit)) r ⌝ }
+    ensures { λ r. ⌜ Answered limits (entire vertices (now (ends .entry))) (now (incident .entry)) (now (begins .entry)) (now (dead .entry)) root seen (now (first .entry)) (now (order .entry)) (now (cursor .entry)) (now (first .exit)) (now (order .exit)) (now (cursor .exit)) r ⌝ }
 {
     let places = least(begins.len(), first.len(), order.len(), cursor.len());
     let number = refusal(vertices, ends, incident.len(), dead.len(), places);
@@ -71,7 +71,7 @@ pub fn explore(
 
 // 1 to 3 by the counts, then 6 where a lent table is too short; else 0. Of the tables by vertex the shortest has `places`.
 fn refusal(vertices: u16, ends: &[u16], incident: usize, dead: usize, places: usize) -> u16
-    ensures { λ r. ⌜ r ≡ (refused limits (plan vertices (now (ends .entry))) (enough (plan vertices (now (ends .entry))) incident places dead places places places)) .number ⌝ }
+    ensures { λ r. ⌜ r ≡ (refused limits (entire vertices (now (ends .entry))) (enough (entire vertices (now (ends .entry))) incident places dead places places places)) .number ⌝ }
 {
     let number = misfit(vertices, ends);
     if number != 0 {
@@ -85,7 +85,7 @@ fn refusal(vertices: u16, ends: &[u16], incident: usize, dead: usize, places: us
 
 // 1 to 3 by the counts; else 0.
 fn misfit(vertices: u16, ends: &[u16]) -> u16
-    ensures { λ r. ⌜ r ≡ (counted limits (plan vertices (now (ends .entry)))) .number ⌝ }
+    ensures { λ r. ⌜ r ≡ (counted limits (entire vertices (now (ends .entry)))) .number ⌝ }
 {
     if ends.len() % 2 != 0 {
         return 1;
@@ -164,8 +164,8 @@ fn dig(
     order: &mut [u16],
     cursor: &mut [u16],
 ) -> u16
-    requires { ⌜ Fit limits (plan vertices (now ends)) (now incident) (now begins) (now dead) × Rooms vertices (now first) (now order) (now cursor) × Fresh vertices root seen (now first) ⌝ }
-    ensures { λ r. ⌜ Found (Crossing (plan vertices (now (ends .entry))) (now (incident .entry)) (now (begins .entry)) (now (dead .entry))) vertices root seen (now (first .entry)) (now (order .entry)) (now (cursor .entry)) (now (first .exit)) (now (order .exit)) (now (cursor .exit)) r ⌝ }
+    requires { ⌜ Fit limits (entire vertices (now ends)) (now incident) (now begins) (now dead) × Rooms vertices (now first) (now order) (now cursor) × Fresh vertices root seen (now first) ⌝ }
+    ensures { λ r. ⌜ Found (Crossing (entire vertices (now (ends .entry))) (now (incident .entry)) (now (begins .entry)) (now (dead .entry))) vertices root seen (now (first .entry)) (now (order .entry)) (now (cursor .entry)) (now (first .exit)) (now (order .exit)) (now (cursor .exit)) r ⌝ }
 {
     enter(root, 65535, seen, first, order, cursor);
     let mut s = State {
@@ -228,8 +228,8 @@ fn turn(
     order: &mut [u16],
     cursor: &mut [u16],
 ) -> State
-    requires { ⌜ Fit limits (plan vertices (now ends)) (now incident) (now begins) (now dead) × Rooms vertices (now first) (now order) (now cursor) × TurnStart vertices (now first) s ⌝ }
-    ensures { λ r. ⌜ Turned (plan vertices (now (ends .entry))) (now (incident .entry)) (now (begins .entry)) (now (dead .entry)) s (now (first .entry)) (now (order .entry)) (now (cursor .entry)) (now (first .exit)) (now (order .exit)) (now (cursor .exit)) r ⌝ }
+    requires { ⌜ Fit limits (entire vertices (now ends)) (now incident) (now begins) (now dead) × Rooms vertices (now first) (now order) (now cursor) × TurnStart vertices (now first) s ⌝ }
+    ensures { λ r. ⌜ Turned (entire vertices (now (ends .entry))) (now (incident .entry)) (now (begins .entry)) (now (dead .entry)) s (now (first .entry)) (now (order .entry)) (now (cursor .entry)) (now (first .exit)) (now (order .exit)) (now (cursor .exit)) r ⌝ }
 {
     let at = s.at as usize;
     let start = begins[at] as usize;
@@ -280,8 +280,8 @@ fn seek(
     from: usize,
     to: usize,
 ) -> usize
-    requires { ⌜ SeekStart (plan vertices (now ends)) (now incident) (now dead) (now first) v to ⌝ }
-    ensures { λ r. ⌜ Sought (plan vertices (now (ends .entry))) (now (incident .entry)) (now (dead .entry)) (now (first .entry)) v from to r ⌝ }
+    requires { ⌜ SeekStart (entire vertices (now ends)) (now incident) (now dead) (now first) v to ⌝ }
+    ensures { λ r. ⌜ Sought (entire vertices (now (ends .entry))) (now (incident .entry)) (now (dead .entry)) (now (first .entry)) v from to r ⌝ }
 {
     let mut i = from;
     while i < to {
@@ -296,7 +296,7 @@ fn seek(
 // Whether e leads from v to a vertex that has no mark.
 fn leads_on(vertices: u16, ends: &[u16], dead: &[u8], first: &[u16], v: u16, e: u16) -> bool
     requires { ⌜ (v < vertices) × (length (now ends) / 2 ≤ length (now dead)) × (vertices ≤ length (now first)) ⌝ }
-    ensures { λ r. ⌜ LeadsOn (plan vertices (now (ends .entry))) (now (dead .entry)) (now (first .entry)) v e r ⌝ }
+    ensures { λ r. ⌜ LeadsOn (entire vertices (now (ends .entry))) (now (dead .entry)) (now (first .entry)) v e r ⌝ }
 {
     let w = lead(vertices, ends, dead, v, e);
     if w >= vertices {
@@ -312,7 +312,7 @@ fn leads_on(vertices: u16, ends: &[u16], dead: &[u8], first: &[u16], v: u16, e: 
 // The vertex to which edge e leads from v, or `vertices` where it leads to none.
 fn lead(vertices: u16, ends: &[u16], dead: &[u8], v: u16, e: u16) -> u16
     requires { ⌜ (v < vertices) × (length (now ends) / 2 ≤ length (now dead)) ⌝ }
-    ensures { λ r. ⌜ Leads (plan vertices (now (ends .entry))) (now (dead .entry)) v e r ⌝ }
+    ensures { λ r. ⌜ Leads (entire vertices (now (ends .entry))) (now (dead .entry)) v e r ⌝ }
 {
     let at = e as usize;
     if at >= ends.len() / 2 {
@@ -345,8 +345,8 @@ fn descend(
     order: &mut [u16],
     cursor: &mut [u16],
 ) -> State
-    requires { ⌜ DescendStart limits (plan vertices (now ends)) (now incident) (now dead) s start k (now first) (now order) (now cursor) ⌝ }
-    ensures { λ r. ⌜ Descended (plan vertices (now (ends .entry))) (now (incident .entry)) (now (dead .entry)) s start k (now (first .entry)) (now (order .entry)) (now (cursor .entry)) (now (first .exit)) (now (order .exit)) (now (cursor .exit)) r ⌝ }
+    requires { ⌜ DescendStart limits (entire vertices (now ends)) (now incident) (now dead) s start k (now first) (now order) (now cursor) ⌝ }
+    ensures { λ r. ⌜ Descended (entire vertices (now (ends .entry))) (now (incident .entry)) (now (dead .entry)) s start k (now (first .entry)) (now (order .entry)) (now (cursor .entry)) (now (first .exit)) (now (order .exit)) (now (cursor .exit)) r ⌝ }
 {
     let e = incident[k];
     let w = lead(vertices, ends, dead, s.at, e);
@@ -362,8 +362,8 @@ fn descend(
 
 // Up over the first edge; from the root, to no vertex.
 fn ascend(vertices: u16, ends: &[u16], dead: &[u8], s: State, first: &[u16]) -> State
-    requires { ⌜ AscendStart (plan vertices (now ends)) (now dead) s (now first) ⌝ }
-    ensures { λ r. ⌜ Ascended (plan vertices (now (ends .entry))) (now (dead .entry)) s (now (first .entry)) r ⌝ }
+    requires { ⌜ AscendStart (entire vertices (now ends)) (now dead) s (now first) ⌝ }
+    ensures { λ r. ⌜ Ascended (entire vertices (now (ends .entry))) (now (dead .entry)) s (now (first .entry)) r ⌝ }
 {
     let at = s.at as usize;
     let e = first[at] - 1;

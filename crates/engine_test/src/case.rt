@@ -1,7 +1,5 @@
 // The cases of the table: a line each.
 use crate::lent;
-use crate::plan;
-use crate::second::at;
 use crate::show;
 ghost use Prim.Native.Nat.{_≤_};
 ghost use lib.ListN.{length};
@@ -88,8 +86,9 @@ pub(crate) fn run(line: &[u8]) {
         b'b' => lent::balance(line, numbers),
         b'l' => lent::label(line, numbers),
         b'c' => lent::chain(line, numbers),
+        b'k' => lent::cut(line, numbers),
         b'n' => lent::below(line, numbers),
-        b'g' => plan::large(at(numbers, 0), at(numbers, 1)),
+        b'g' => lent::large(line, numbers),
         _ => {}
     }
     show::byte(b'\n');

@@ -1,10 +1,11 @@
 // One call for each case. What was lent is shown behind it: a table that the call may write, from left to right.
 use crate::case::read;
+use crate::plan;
 use crate::second::at;
 use crate::second_labels;
 use crate::show;
+use cuts::Lightest;
 use depth::Explored;
-use labels::Labelling;
 
 // The k-th number of a case, as a length.
 fn length(numbers: &[u16], k: usize) -> usize {
@@ -158,6 +159,7 @@ pub(crate) fn undo(line: &[u8], numbers: &[u16]) {
 pub(crate) fn balance(line: &[u8], numbers: &[u16]) {
     let mut plan = [0; 17];
     let ends = given(line, 3, &mut plan);
+    let mut excluded = [0; 17];
     let mut first = [0; 17];
     let mut order = [0; 17];
     let mut labels = [9; 17];
@@ -165,6 +167,7 @@ pub(crate) fn balance(line: &[u8], numbers: &[u16]) {
     let answer = labels::balance(
         at(numbers, 0),
         ends,
+        given(line, 6, &mut excluded),
         given(line, 4, &mut first),
         given(line, 5, &mut order),
         lend_wide(numbers, 1, &mut labels),
@@ -213,6 +216,7 @@ fn kept(pieces: u16, ends: &[u16], labels: &[u64], sums: &[u64]) {
 pub(crate) fn label(line: &[u8], numbers: &[u16]) {
     let mut plan = [0; 17];
     let ends = given(line, 3, &mut plan);
+    let mut excluded = [0; 17];
     let mut incident = [9; 17];
     let mut begins = [9; 17];
     let mut dead = [9; 17];
@@ -221,9 +225,10 @@ pub(crate) fn label(line: &[u8], numbers: &[u16]) {
     let mut cursor = [9; 17];
     let mut labels = [9; 17];
     let mut sums = [9; 17];
-    let said = labels::label(
+    let answer = labels::label(
         at(numbers, 0),
         ends,
+        given(line, 4, &mut excluded),
         lend(numbers, 1, &mut incident),
         lend(numbers, 2, &mut begins),
         lend_bytes(numbers, 3, &mut dead),
@@ -233,32 +238,56 @@ pub(crate) fn label(line: &[u8], numbers: &[u16]) {
         lend_wide(numbers, 7, &mut labels),
         lend_wide(numbers, 8, &mut sums),
     );
-    let served = named(said);
+    show::answer(answer);
     shown(&incident, numbers, 1);
     shown(&begins, numbers, 2);
     show::bytes(front_bytes(&dead, length(numbers, 3)));
     shown(&first, numbers, 4);
     shown(&order, numbers, 5);
     shown(&cursor, numbers, 6);
-    told(served, numbers, 7, ends, &labels, &sums);
+    told(answer.number == 0, numbers, 7, ends, &labels, &sums);
 }
 
-// Says what is said of a plan; whether it is labelled.
-fn named(said: Labelling) -> bool {
-    match said {
-        Labelling::Refused(answer) => {
-            show::answer(answer);
-            false
-        }
-        Labelling::Disconnected => {
-            show::say(b": several bodies");
-            true
-        }
-        Labelling::Connected => {
-            show::say(b": one body");
-            true
+pub(crate) fn cut(line: &[u8], numbers: &[u16]) {
+    let mut ends = [0; 17];
+    let mut excluded = [0; 17];
+    let mut incident = [9; 17];
+    let mut begins = [9; 17];
+    let mut first = [9; 17];
+    let mut order = [9; 17];
+    let told = cuts::lowest_cut(
+        at(numbers, 0),
+        given(line, 3, &mut ends),
+        given(line, 4, &mut excluded),
+        lend(numbers, 1, &mut incident),
+        lend(numbers, 2, &mut begins),
+        lend(numbers, 3, &mut first),
+        lend(numbers, 4, &mut order),
+    );
+    weighed(told);
+    shown(&incident, numbers, 1);
+    shown(&begins, numbers, 2);
+    shown(&first, numbers, 3);
+    shown(&order, numbers, 4);
+}
+
+// How many tabs, and which; unused ones are 0.
+fn weighed(told: Lightest) {
+    match told {
+        Lightest::Refused(answer) => show::answer(answer),
+        Lightest::NoCut => show::say(b": no cut"),
+        Lightest::Cut(cut) => {
+            show::say(b": cut");
+            show::short(cut.count);
+            show::short(cut.first);
+            show::short(cut.second);
         }
     }
+}
+
+pub(crate) fn large(line: &[u8], numbers: &[u16]) {
+    let mut slugs = [0; 17];
+    plan::large(at(numbers, 0), at(numbers, 1), given(line, 3, &mut slugs));
 }
 
 pub(crate) fn below(line: &[u8], sizes: &[u16]) {

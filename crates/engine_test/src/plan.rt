@@ -1,4 +1,4 @@
-// Plans to try all on: large ones, and random ones of up to ten pieces and sixteen tabs.
+// Plans to try all on: large ones, and random ones of up to ten pieces and sixteen tabs, of which some pieces are slugs.
 use crate::show;
 use crate::trial;
 ghost use Prim.Native.Nat.{_≤_};
@@ -50,22 +50,26 @@ fn size(rule: u16) -> usize
     }
 }
 
-pub(crate) fn large(pieces: u16, rule: u16) {
+pub(crate) fn large(pieces: u16, rule: u16, excluded: &[u16]) {
     let mut ends = [0u16; 8002];
     lay(&mut ends, rule, pieces, 7);
     let n = size(rule);
-    let mut run = [0u16; 6];
-    trial::tried(&mut run, pieces, &ends[..n], 7);
+    let mut run = [0u16; 7];
+    trial::tried(&mut run, pieces, &ends[..n], excluded, 7);
     shown(&run);
 }
 
 // A random plan.
-pub(crate) fn random(run: &mut [u16; 6], seed: u32) {
+pub(crate) fn random(run: &mut [u16; 7], seed: u32) {
     let pieces = 2 + draw(seed, 1, 9);
     let n = length(draw(seed, 3, 17));
     let mut ends = [0u16; 32];
     lay(&mut ends, draw(seed, 2, 9), pieces, seed);
-    trial::tried(run, pieces, &ends[..n], seed);
+    let a = draw(seed, 4, pieces / 2) % 5;
+    let step = 1 + draw(seed, 5, 2) % 2;
+    let slugs = [a, a + step, a + 2 * step, a + 3 * step];
+    let k = (draw(seed, 6, 5) % 5) as usize;
+    trial::tried(run, pieces, &ends[..n], &slugs[..k], seed);
 }
 
 // Two ends for each of so many tabs.
@@ -76,8 +80,10 @@ fn length(tabs: u16) -> usize
 }
 
 // What a run has counted.
-pub(crate) fn shown(run: &[u16; 6]) {
-    show::say(b": plans, refused by, in one body, searches, entered, differences");
+pub(crate) fn shown(run: &[u16; 7]) {
+    show::say(
+        b": plans, refused by, in one body, labelled with slugs, searches, entered, differences",
+    );
     show::numbers(run);
 }
 

@@ -4,32 +4,33 @@ use crate::second;
 use crate::second_labels;
 use crate::second_search;
 use depth::Explored;
-use labels::Labelling;
 
-// A run counts plans, by what they are refused, those in one body, searches, vertices that they entered, and differences.
+// A run counts plans, by what they are refused, those in one body, those labelled with slugs, searches, vertices that they entered, and differences.
 const PLANS: usize = 0;
 
 const REFUSED: usize = 1;
 
 const WHOLE: usize = 2;
 
-const SEARCHES: usize = 3;
+const EXCLUDING: usize = 3;
 
-const ENTERED: usize = 4;
+const SEARCHES: usize = 4;
 
-const DIFFERENCES: usize = 5;
+const ENTERED: usize = 5;
+
+const DIFFERENCES: usize = 6;
 
 // What stands in a lent table before a call.
 const UNTOUCHED: u16 = 54321;
 
-fn count(run: &mut [u16; 6], i: usize, n: u16) {
-    if i < 6 {
+fn count(run: &mut [u16; 7], i: usize, n: u16) {
+    if i < 7 {
         run[i] = std::num::wrapping_add_u16(run[i], n);
     }
 }
 
 // A difference, where something does not hold.
-fn require(run: &mut [u16; 6], holds: bool) {
+fn require(run: &mut [u16; 7], holds: bool) {
     if !holds {
         count(run, DIFFERENCES, 1);
     }
@@ -47,18 +48,19 @@ fn is_same(a: &[u16], b: &[u16]) -> bool {
 }
 
 // All on one plan: the tables, and where it is admitted, the rest.
-pub(crate) fn tried(run: &mut [u16; 6], vertices: u16, ends: &[u16], seed: u32) {
+pub(crate) fn tried(run: &mut [u16; 7], vertices: u16, ends: &[u16], excluded: &[u16], seed: u32) {
     count(run, PLANS, 1);
     let number = filled(run, vertices, ends);
     if number == 0 {
         searched(run, vertices, ends, seed);
+        labelled(run, vertices, ends, excluded);
     } else {
         count(run, REFUSED, number);
     }
 }
 
 // The tables of a plan, and by what it is refused.
-fn filled(run: &mut [u16; 6], vertices: u16, ends: &[u16]) -> u16 {
+fn filled(run: &mut [u16; 7], vertices: u16, ends: &[u16]) -> u16 {
     let mut incident = [UNTOUCHED; 8000];
     let mut begins = [UNTOUCHED; 1000];
     let answer = incidence::fill(vertices, ends, &mut incident, &mut begins);
@@ -69,7 +71,7 @@ fn filled(run: &mut [u16; 6], vertices: u16, ends: &[u16]) -> u16 {
 }
 
 // The tables are those of the second implementation.
-fn grouped(run: &mut [u16; 6], vertices: u16, ends: &[u16], incident: &[u16], begins: &[u16]) {
+fn grouped(run: &mut [u16; 7], vertices: u16, ends: &[u16], incident: &[u16], begins: &[u16]) {
     let mut groups = [UNTOUCHED; 8000];
     let mut places = [UNTOUCHED; 1000];
     second::fill(vertices, ends, &mut groups, &mut places);
@@ -77,10 +79,12 @@ fn grouped(run: &mut [u16; 6], vertices: u16, ends: &[u16], incident: &[u16], be
     require(run, is_same(begins, &places));
 }
 
-// Searches over the tables as they are filled, and over damaged ones; and labels.
-fn searched(run: &mut [u16; 6], vertices: u16, ends: &[u16], seed: u32) {
+// Searches over the tables as they are filled, and over damaged ones.
+fn searched(run: &mut [u16; 7], vertices: u16, ends: &[u16], seed: u32) {
     let seen = explored(run, vertices, ends, begun(vertices, 0, seed), 0, 0);
-    labelled(run, vertices, ends, seen == vertices);
+    if seen == vertices {
+        count(run, WHOLE, 1);
+    }
     explored(run, vertices, ends, begun(vertices, 5, seed), 0, 0);
     explored(run, vertices, ends, begun(vertices, 9, seed), 3, 0);
     explored(run, vertices, ends, begun(vertices, 7, seed), 3, 4);
@@ -137,7 +141,7 @@ fn begun(vertices: u16, times: u16, seed: u32) -> Walk {
 
 // A search by both over tables in which one of so many numbers is damaged; how many vertices then stand in the order.
 fn explored(
-    run: &mut [u16; 6],
+    run: &mut [u16; 7],
     vertices: u16,
     ends: &[u16],
     walk: Walk,
@@ -153,7 +157,7 @@ fn explored(
 }
 
 fn walked(
-    run: &mut [u16; 6],
+    run: &mut [u16; 7],
     vertices: u16,
     ends: &[u16],
     incident: &[u16],
@@ -195,7 +199,7 @@ fn walked(
 // The search finds what the second implementation has found, clears the cursors of what it entered, and leaves every other number; undone,
 // the marks are those of before.
 fn compared(
-    run: &mut [u16; 6],
+    run: &mut [u16; 7],
     vertices: u16,
     ends: &[u16],
     incident: &[u16],
@@ -237,7 +241,7 @@ fn is_seen(told: Explored, count: u16) -> bool {
 }
 
 // Undoing the search in a table that is untouched clears the same places as the search has.
-fn cleared(run: &mut [u16; 6], walk: Walk, n: u16, order: &[u16], cursor: &[u16]) {
+fn cleared(run: &mut [u16; 7], walk: Walk, n: u16, order: &[u16], cursor: &[u16]) {
     let mut places = [UNTOUCHED; 1000];
     depth::undo(order, walk.seen, n, &mut places);
     require(run, is_same(cursor, &places));
@@ -245,7 +249,7 @@ fn cleared(run: &mut [u16; 6], walk: Walk, n: u16, order: &[u16], cursor: &[u16]
     count(run, ENTERED, std::num::wrapping_sub_u16(n, walk.seen));
 }
 
-fn undone(run: &mut [u16; 6], walk: Walk, n: u16, order: &[u16], first: &mut [u16]) {
+fn undone(run: &mut [u16; 7], walk: Walk, n: u16, order: &[u16], first: &mut [u16]) {
     let mut before = [0u16; 1000];
     damage(&mut before, walk.times, walk.seed);
     depth::undo(order, walk.seen, n, first);
@@ -253,7 +257,7 @@ fn undone(run: &mut [u16; 6], walk: Walk, n: u16, order: &[u16], first: &mut [u1
 }
 
 // The labels of a plan, in one body or in several.
-fn labelled(run: &mut [u16; 6], vertices: u16, ends: &[u16], whole: bool) {
+fn labelled(run: &mut [u16; 7], vertices: u16, ends: &[u16], excluded: &[u16]) {
     let mut incident = [UNTOUCHED; 8000];
     let mut begins = [UNTOUCHED; 1000];
     let mut dead = [9u8; 4000];
@@ -262,9 +266,10 @@ fn labelled(run: &mut [u16; 6], vertices: u16, ends: &[u16], whole: bool) {
     let mut cursor = [UNTOUCHED; 1000];
     let mut labels = [9u64; 4000];
     let mut sums = [9u64; 1000];
-    let said = labels::label(
+    let answer = labels::label(
         vertices,
         ends,
+        excluded,
         &mut incident,
         &mut begins,
         &mut dead,
@@ -274,23 +279,46 @@ fn labelled(run: &mut [u16; 6], vertices: u16, ends: &[u16], whole: bool) {
         &mut labels,
         &mut sums,
     );
-    require(run, is_said(said, whole));
-    balanced(run, vertices, ends, &labels, &sums);
-    if whole {
-        count(run, WHOLE, 1);
+    balanced(
+        run,
+        answer.number,
+        vertices,
+        ends,
+        excluded,
+        &dead,
+        &labels,
+        &sums,
+    );
+}
+
+// The answer is right; and where it is 0, so are the marks, the labels cancel, and the sums are theirs.
+fn balanced(
+    run: &mut [u16; 7],
+    number: u16,
+    vertices: u16,
+    ends: &[u16],
+    excluded: &[u16],
+    dead: &[u8],
+    labels: &[u64],
+    sums: &[u64],
+) {
+    require(run, number == refusal(vertices, excluded));
+    if number == 0 {
+        require(run, second_labels::is_masked(ends, excluded, dead, labels));
+        require(run, second_labels::is_balanced(vertices, ends, labels));
+        require(run, second_labels::is_summed(vertices, ends, labels, sums));
+        count(run, EXCLUDING, (excluded.len() != 0) as u16);
     }
 }
 
-fn is_said(said: Labelling, whole: bool) -> bool {
-    match said {
-        Labelling::Refused(_) => false,
-        Labelling::Disconnected => !whole,
-        Labelling::Connected => whole,
+// The refusal for an ascending list of excluded vertices.
+fn refusal(vertices: u16, excluded: &[u16]) -> u16 {
+    let n = excluded.len();
+    if 0 < n && vertices <= second::at(excluded, n - 1) {
+        18
+    } else if (vertices as usize) < n || (vertices as usize) - n < 2 {
+        19
+    } else {
+        0
     }
-}
-
-// The labels cancel, and the sums are theirs.
-fn balanced(run: &mut [u16; 6], vertices: u16, ends: &[u16], labels: &[u64], sums: &[u64]) {
-    require(run, second_labels::is_balanced(vertices, ends, labels));
-    require(run, second_labels::is_summed(vertices, ends, labels, sums));
 }

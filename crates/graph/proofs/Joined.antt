@@ -1,33 +1,19 @@
 -- A plan's graph, as its table has it: its vertices are below the count, and an edge is one of the table's and joins the two ends there.
-use mathlib.Core.Path.{_≡_, refl}
+use mathlib.Core.Path.{_≡_}
 use mathlib.Core.Logic.{_⊎_}
-use mathlib.Core.List.{List}
 use Prim.Native.Nat.{ℕ, _+_, _*_, _/_, _<_}
 use lib.ListN.{length, getD}
-use Rattle.connectivity.specs.Plan.{Plan, plan, graph}
-use Rattle.connectivity.specs.Graph.{Vertex, Edge, Joins}
+use Rattle.connectivity.specs.Plan.{Plan, graph}
+use Rattle.connectivity.specs.Graph.{Edge, Joins}
 use Rattle.connectivity.proofs.Reach.{joins-sym, joins-vertex}
-
-pub bound-is : (n : ℕ) (ends : List ℕ) → graph (plan n ends) .bound ≡ n
-unfolding graph
-bound-is n ends = refl
-
--- a vertex is a number below n
-pub vertex-below : (n : ℕ) (ends : List ℕ) (v : ℕ) → Vertex (graph (plan n ends)) v → v < n
-unfolding graph
-vertex-below n ends v h = h .below
-
-pub below-vertex : (n : ℕ) (ends : List ℕ) (v : ℕ) → v < n → Vertex (graph (plan n ends)) v
-unfolding graph
-below-vertex n ends v h = record { below = h; kept = tt }
+use Rattle.connectivity.proofs.Kept.{vertex-size, edge-size}
 
 -- what an edge joins is a vertex, and the edge is one of the table's
-pub joins-below : (n : ℕ) (ends : List ℕ) (e u v : ℕ) → Joins (graph (plan n ends)) e u v → v < n
-joins-below n ends e u v j = vertex-below n ends v (joins-vertex (joins-sym j))
+pub joins-below : (p : Plan) {e u v : ℕ} → Joins (graph p) e u v → v < p .vertices
+joins-below p j = vertex-size p (joins-vertex (joins-sym j))
 
-pub joins-edge : (n : ℕ) (ends : List ℕ) (e u v : ℕ) → Joins (graph (plan n ends)) e u v → e < length ends / 2
-unfolding graph
-joins-edge n ends e u v j = j .edge .below
+pub joins-edge : (p : Plan) {e u v : ℕ} → Joins (graph p) e u v → e < length (p .ends) / 2
+joins-edge p j = edge-size p (j .edge)
 
 -- the ends of an edge
 pub joins-ends : (p : Plan) {e u v : ℕ} → Joins (graph p) e u v

@@ -1,7 +1,7 @@
 -- What the constructor says of a plan, and the refusal that follows from it and from the lent space.
 use mathlib.Core.Path.{_≡_, refl, sym, ap, _∙_}
 use mathlib.Core.Bool.{Bool, true, false, cond}
-use mathlib.Core.List.{List, [], _∷_}
+use mathlib.Core.List.{List, _∷_}
 use Prim.Native.Nat.{ℕ, _/_}
 use native.Mathlib.Omega.{arith}
 use native.Mathlib.Decide.{ℕ-discrete}
@@ -9,14 +9,14 @@ use lib.Dec.{T, eqb}
 use lib.ListN.{length, getD}
 use borrow.Author.Tests.{eqb-true, eqb-false}
 use Rattle.connectivity.specs.Plan.{Plan, Limits}
-use Rattle.connectivity.specs.Admission.{Answer, answer, passed, Handed, served, refusal, Admitted, admission}
+use Rattle.connectivity.specs.Admission.{Answer, answer, passed, Handed, served, refusal, keptVertices, keptEdges, Admitted, admission}
 use Rattle.connectivity.proofs.Lists.{T-true, T-false}
 use Rattle.connectivity.proofs.Admission.{passed-then, failed-then, admission-number}
 use Rattle.graph.specs.declared.Answer as code
 use Rattle.graph.specs.declared.Graph.{Graph}
 use Rattle.graph.specs.declared.Admission.{Admission}
 use Rattle.graph.specs.declared.Admission.the-variants as made
-use Rattle.graph.specs.Admission.{toldBy, answerOf, handed, constructed, lent}
+use Rattle.graph.specs.Admission.{toldBy, answerOf, handed, counts, constructed, lent}
 
 -- a refusal is not a success with values, and it tells its answer
 pub not-served : {a : Answer} {x : ℕ} {l : List ℕ} → refusal a ≡ served (x ∷ l) → ⊥
@@ -29,7 +29,7 @@ told-by p = ap (λ (h : Handed). toldBy (h .reply)) p
 
 module _ (most : Limits) (p : Plan) where
   abbrev back : Bool → Handed
-  back t = cond t (served (p .vertices ∷ (length (p .ends) / 2 ∷ []))) (refusal (admission most p))
+  back t = cond t (served (counts p)) (refusal (admission most p))
 
   pub constructed-refused : {r : Admission} {a : code.Answer} → handed r ≡ constructed most p → r ≡ made.Refused a → (Admitted most p → ⊥) × (a ≡ toldBy (admission most p))
   unfolding constructed
@@ -39,12 +39,26 @@ module _ (most : Limits) (p : Plan) where
       go true z h = absurd (not-served h)
       go false z h = (λ m. eqb-false ((admission most p) .number) 0 z (admission-number most p .1 m), told-by h)
 
-  pub constructed-admitted : {r : Admission} {g : Graph} → handed r ≡ constructed most p → r ≡ made.Admitted g → Admitted most p × (g .vertices ≡ p .vertices) × (g .edges ≡ length (p .ends) / 2)
+  -- an admitted plan, and its counts
+  pub record Made (g : Graph) : Type 0 where
+    pub admitted : Admitted most p
+    pub vertices : g .vertices ≡ p .vertices
+    pub edges : g .edges ≡ length (p .ends) / 2
+    pub kept-vertices : g .«kept_vertices» ≡ keptVertices p
+    pub kept-edges : g .«kept_edges» ≡ keptEdges p
+
+  pub constructed-admitted : {r : Admission} {g : Graph} → handed r ≡ constructed most p → r ≡ made.Admitted g → Made g
   unfolding constructed
   constructed-admitted {g = g} h q = go (eqb ((admission most p) .number) 0) refl (rw q at h)
     where
-      go : (t : Bool) → eqb ((admission most p) .number) 0 ≡ t → served (g .vertices ∷ (g .edges ∷ [])) ≡ back t → Admitted most p × (g .vertices ≡ p .vertices) × (g .edges ≡ length (p .ends) / 2)
-      go true z h = (admission-number most p .0 (eqb-true ((admission most p) .number) 0 z), ap (λ (x : Handed). getD (x .values) 0 0) h, ap (λ (x : Handed). getD (x .values) 1 0) h)
+      go : (t : Bool) → eqb ((admission most p) .number) 0 ≡ t → handed (made.Admitted g) ≡ back t → Made g
+      go true z h = record {
+        admitted = admission-number most p .0 (eqb-true ((admission most p) .number) 0 z);
+        vertices = ap (λ (x : Handed). getD (x .values) 0 0) h;
+        edges = ap (λ (x : Handed). getD (x .values) 1 0) h;
+        kept-vertices = ap (λ (x : Handed). getD (x .values) 2 0) h;
+        kept-edges = ap (λ (x : Handed). getD (x .values) 3 0) h;
+      }
       go false z h = absurd (not-served (sym h))
 
 -- The refusal.
@@ -80,7 +94,3 @@ module _ {most : Limits} {p : Plan} (enough : Bool) where
     | yes q ↦ admission-number most p .0 q
     | no h ↦ absurd (h (ap (λ (x : Answer). x .number) (sym (failed-then (admission most p) (cond enough passed (answer 6 0)) h)) ∙ z))
   ]
-
-  pub refused-own : {a : code.Answer} → (Admitted most p → ⊥) → RefusedBy (lent most p enough) a → a ≡ toldBy (admission most p)
-  unfolding lent
-  refused-own h r = r .1 ∙ ap toldBy (failed-then (admission most p) (cond enough passed (answer 6 0)) (λ z. h (admission-number most p .0 z)))

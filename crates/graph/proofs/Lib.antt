@@ -4,3 +4,6 @@ pub mod Telling
 pub mod Handed
 pub mod Tally
 pub mod Joined
+pub mod Rank
+pub mod Marking
+pub mod Barring

@@ -1,13 +1,18 @@
 -- How many marks are not 0: the count grows by one with each mark that is set, and stays below n while one is not.
 use mathlib.Core.Path.{_≡_, refl, sym, ap, _∙_, subst}
-use mathlib.Core.Logic.{⊎-elim}
+use mathlib.Core.Logic.{⊎-elim, _↔_}
+use mathlib.Core.Bool.{Bool, not}
 use mathlib.Core.List.{List}
 use Prim.Native.Nat.{ℕ, zero, suc, _+_, _≤_, _<_}
 use native.Mathlib.Nat.{le-of-suc-le-suc, eq-or-lt-of-le}
 use native.Mathlib.Omega.{arith}
+use native.Mathlib.Decide.{ℕ-discrete}
+use lib.Dec.{T, T-not, not-T, eqb, eqb→eq}
 use lib.ListN.{length, getD, set, replicate}
 use lib.Seq.{getD-set-same, getD-set-other}
-use Rattle.graph.specs.Marks.{read, flag, tally}
+use borrow.Author.Tests.{eq-eqb, ne-eqb}
+use Rattle.connectivity.proofs.Lists.{eq-T}
+use Rattle.graph.specs.Marks.{read, rank, flag, tally}
 
 -- marks that are all 0
 pub zeros : (m k : ℕ) → getD {A = ℕ} (replicate m 0) k 0 ≡ 0
@@ -80,3 +85,18 @@ pub tally-full : (a : ℕ → ℕ) (n : ℕ) → ((k : ℕ) → k < n → a k �
 unfolding tally
 tally-full a zero h = refl
 tally-full a (suc n) h = omega (arith, tally-suc a n, flag-pos (a n) (h n (omega arith)), tally-full a n (λ k l. h k (omega arith)))
+
+-- the same as a count of numbers that pass a test
+abbrev pub isSet : (ℕ → ℕ) → ℕ → Bool
+isSet mark v = not (eqb (mark v) 0)
+
+pub set-is : (mark : ℕ → ℕ) (v : ℕ) → T (isSet mark v) ↔ (mark v ≡ 0 → ⊥)
+set-is mark v = (λ t z. T-not (eqb (mark v) 0) t (eq-T z), λ n. not-T (eqb (mark v) 0) (λ t. n (eqb→eq (mark v) 0 t)))
+
+pub tally-rank : (mark : ℕ → ℕ) (n : ℕ) → tally mark n ≡ rank (isSet mark) n
+unfolding tally rank
+tally-rank mark zero = refl
+tally-rank mark (suc n) = elim (ℕ-discrete (mark n) 0) [
+  | yes z ↦ rw (eq-eqb (mark n) 0 z, flag-zero z, tally-rank mark n)
+  | no h ↦ rw (ne-eqb (mark n) 0 h, flag-pos (mark n) h, tally-rank mark n)
+]

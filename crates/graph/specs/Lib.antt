@@ -1,3 +1,4 @@
 pub mod Admission
 pub mod Tells
 pub mod Marks
+pub mod Excluded

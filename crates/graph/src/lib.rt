@@ -1,11 +1,13 @@
-// The graph that a plan lists: its limits, and the constructor that admits it or refuses it by 1 to 5.
+// The graph that a plan lists: its limits, and the constructor that admits it or refuses it by 1 to 5, 18 and 19.
 ghost use mathlib.Core.Path.{_≡_};
 ghost use mathlib.Core.Bool.{not, cond};
 ghost use Prim.Native.Nat.{_/_, _≤_};
 ghost use lib.ListN.{length};
 ghost use Rattle.connectivity.specs.Plan.{plan, limits};
 ghost use Rattle.connectivity.specs.Admission.{answer, edgeNumber, endsAnswer, passed};
-ghost use Rattle.graph.specs.Admission.{toldBy, handed, constructed, lent};
+ghost use Rattle.graph.specs.Admission.{toldBy, handed, constructed, lent, Listed};
+
+pub mod excluded; // excluded.rt: excluded vertices, and the edges that end there
 
 // An answer to every question asked of these crates (01): a number and a place; 0 and 0 is success.
 pub struct Answer {
@@ -13,10 +15,13 @@ pub struct Answer {
     pub place: u16,
 }
 
-// A graph (01: plan): how many vertices and edges. The table of ends, two for each edge, stays with the caller.
+// A graph (01: plan): how many vertices and edges, and how many of them are kept (02). The table of ends, two for each edge, and the list of
+// excluded vertices stay with the caller.
 pub struct Graph {
     pub vertices: u16,
     pub edges: u16,
+    pub kept_vertices: u16,
+    pub kept_edges: u16,
 }
 
 pub enum Admission {
@@ -29,9 +34,10 @@ impl Graph {
 
     pub const MAX_EDGES: usize = 4000;
 
-    // The graph with `vertices` vertices whose edges have the ends `ends`, or the first refusal in 01's order.
-    pub fn new(vertices: u16, ends: &[u16]) -> Admission
-        ensures { λ r. ⌜ handed r ≡ constructed limits (plan vertices (now (ends .entry))) ⌝ }
+    // The graph with `vertices` vertices, of which those of `excluded` are not kept, and whose edges have the ends `ends`; or the first refusal
+    // in order: 1, 2, 3, the first edge with 4 or 5, 18, 19.
+    pub fn new(vertices: u16, ends: &[u16], excluded: &[u16]) -> Admission
+        ensures { λ r. ⌜ handed r ≡ constructed limits (plan vertices (now (ends .entry)) (now (excluded .entry))) ⌝ }
     {
         if ends.len() % 2 != 0 {
             return refused(1, 0);
@@ -42,8 +48,7 @@ impl Graph {
         if Graph::MAX_VERTICES < vertices as usize {
             return refused(2, 0);
         }
-        let edges = ends.len() / 2;
-        if Graph::MAX_EDGES < edges {
+        if Graph::MAX_EDGES < ends.len() / 2 {
             return refused(3, 0);
         }
         let fit = judge_ends(vertices, ends);
@@ -51,11 +56,30 @@ impl Graph {
         if first != 0 {
             return Admission::Refused(fit);
         }
-        Admission::Admitted(Graph {
-            vertices: vertices,
-            edges: edges as u16,
-        })
+        admit(vertices, ends, excluded)
     }
+}
+
+// The same of a plan that 1 to 5 do not refuse: 18 and 19 are left.
+fn admit(vertices: u16, ends: &[u16], excluded: &[u16]) -> Admission
+    requires { ⌜ Listed limits (plan vertices (now ends) (now excluded)) ⌝ }
+    ensures { λ r. ⌜ handed r ≡ constructed limits (plan vertices (now (ends .entry)) (now (excluded .entry))) ⌝ }
+{
+    let rising = excluded::judge_excluded(vertices, excluded);
+    let number = rising.number;
+    if number != 0 {
+        return Admission::Refused(rising);
+    }
+    let kept = vertices - excluded.len() as u16;
+    if kept < 2 {
+        return refused(19, 0);
+    }
+    Admission::Admitted(Graph {
+        vertices: vertices,
+        edges: (ends.len() / 2) as u16,
+        kept_vertices: kept,
+        kept_edges: excluded::count_kept(vertices, ends, excluded),
+    })
 }
 
 fn refused(number: u16, place: u16) -> Admission
@@ -68,10 +92,10 @@ fn refused(number: u16, place: u16) -> Admission
 }
 
 // The plan's own refusal; else 6 where the lent space is too short, and 0 where it is not.
-pub fn refusal(vertices: u16, ends: &[u16], short: bool) -> Answer
-    ensures { λ r. ⌜ r ≡ toldBy (lent limits (plan vertices (now (ends .entry))) (not short)) ⌝ }
+pub fn refusal(vertices: u16, ends: &[u16], excluded: &[u16], short: bool) -> Answer
+    ensures { λ r. ⌜ r ≡ toldBy (lent limits (plan vertices (now (ends .entry)) (now (excluded .entry))) (not short)) ⌝ }
 {
-    let made = Graph::new(vertices, ends);
+    let made = Graph::new(vertices, ends, excluded);
     match made {
         Admission::Refused(answer) => answer,
         Admission::Admitted(_) => space(short),

@@ -1,4 +1,5 @@
-// The groups program: reads a plan text on standard input and writes a line for each piece, piece and group; a refused plan's number alone.
+// The groups program: reads a plan text on standard input and writes a line for each piece that is kept, piece and group; a refused plan's number
+// alone.
 use libc::STDIN_FILENO;
 use libc::STDOUT_FILENO;
 use text_write::Written;

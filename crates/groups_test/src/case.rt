@@ -22,6 +22,7 @@ fn worth(byte: u8) -> u16 {
 }
 
 // Takes up a byte of a line. `at` is 0 while its name is read, which is shown, and then the place of the next number; so is what comes back.
+// Place 0 tells where the slugs begin.
 pub(crate) fn take(byte: u8, at: usize, numbers: &mut [u16; 64]) -> usize {
     if byte == b'\n' {
         run(numbers, at);
@@ -32,15 +33,25 @@ pub(crate) fn take(byte: u8, at: usize, numbers: &mut [u16; 64]) -> usize {
         return put(byte, at, numbers);
     }
     if byte == b';' {
+        numbers[0] = UNKNOWN;
         return 1;
     }
     show::byte(byte);
     0
 }
 
-// A blank and a semicolon stand for nothing.
+// Behind the pieces and the length no slugs have begun yet.
+const UNKNOWN: u16 = 65535;
+
+const NONE: u16 = 64;
+
+// A blank stands for nothing, and a semicolon behind the ends for the place that it has.
 fn put(byte: u8, at: usize, numbers: &mut [u16; 64]) -> usize {
-    if byte == b' ' || byte == b';' {
+    if byte == b';' {
+        numbers[0] = begun(numbers[0], at);
+        return at;
+    }
+    if byte == b' ' {
         return at;
     }
     if at < 64 {
@@ -50,11 +61,29 @@ fn put(byte: u8, at: usize, numbers: &mut [u16; 64]) -> usize {
     at
 }
 
+// Where the slugs begin after one semicolon more.
+fn begun(before: u16, at: usize) -> u16 {
+    if before == UNKNOWN {
+        NONE
+    } else {
+        (at % 65) as u16
+    }
+}
+
 fn run(numbers: &[u16; 64], at: usize) {
     let rule = numbers[3];
-    if at == 5 && plan::RING <= rule {
-        trial::large(numbers[1], numbers[2], rule, numbers[4]);
+    let begin = trial::wide(numbers[0]);
+    let end = if begin < at { begin } else { at };
+    let excluded = trial::part(numbers, end, at);
+    if end == 5 && plan::RING <= rule {
+        trial::large(numbers[1], numbers[2], rule, numbers[4], excluded);
     } else {
-        trial::told(numbers[1], numbers[2], trial::part(numbers, 3, at), false);
+        trial::told(
+            numbers[1],
+            numbers[2],
+            trial::part(numbers, 3, end),
+            excluded,
+            false,
+        );
     }
 }

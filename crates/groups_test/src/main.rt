@@ -2,11 +2,12 @@
 // difference.
 //
 // The table is the standard input, a line for each case:
-//     name; pieces lent; ends of the tabs
-//     name; pieces lent; rule tabs
-// `lent` is the length of the table that is lent. A digit stands for itself, a letter for a larger number (`worth`), a blank for nothing. A
-// capital letter is the rule by which so many tabs of a large plan are laid. Behind the number and the place that are answered comes the
-// whole lent table, 54321 where nothing was written; of a large plan how many groups there are, and a fingerprint of that table.
+//     name; pieces lent; ends of the tabs; slugs
+//     name; pieces lent; rule tabs; slugs
+// `lent` is the length of the table that is lent; a plan without slugs may end before them. A digit stands for itself, a letter for a larger
+// number (`worth`), a blank for nothing. A capital letter is the rule by which so many tabs of a large plan are laid. Behind the number and the
+// place that are answered comes the whole lent table, 54321 where nothing was written; of a large plan how many groups there are, a slug counted
+// as one, and a fingerprint of that table.
 use libc::STDIN_FILENO;
 
 mod case; // case.rt: the cases
@@ -33,7 +34,7 @@ fn main() {
 
 // Both implementations on random plans.
 fn compare() {
-    let mut run = [0; 16];
+    let mut run = [0; 19];
     let mut i: u32 = 0;
     while i < PLANS {
         trial::random(&mut run, i);

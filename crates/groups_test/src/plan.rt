@@ -1,4 +1,4 @@
-// Plans: large ones, and random ones of up to 8 pieces and 12 tabs, some of them damaged.
+// Plans: large ones, and random ones of up to 8 pieces, 12 tabs and 8 slugs, some of them damaged.
 ghost use Prim.Native.Nat.{_≤_};
 
 // The rules by which tabs are laid: between any two pieces, one at once (every rule that is not named here), two or three; or on rings, in
@@ -48,15 +48,16 @@ pub(crate) fn size(seed: u32) -> u16 {
     2 + draw(seed, 1, 7)
 }
 
-// What is wrong with it, if that is below 7: one end more (0), the number of pieces (1, 2), ends that are none (3), tabs from a piece to itself
-// (4), both (5), or too little space (6).
+// What is wrong with it, if that is below 13: one end more (0), the number of pieces (1, 2), ends that are none (3), tabs from a piece to itself
+// (4), both (5), too little space (6), one of the slugs is another number (7, 8), and tabs from a piece to itself (9) or no piece is kept (10),
+// no piece is kept (11), or one (12).
 pub(crate) fn damage(seed: u32) -> u16 {
     draw(seed, 5, 64)
 }
 
 pub(crate) fn rule(seed: u32, how: u16) -> u16 {
     match how {
-        4 | 5 => LOOSE,
+        4 | 5 | 9 => LOOSE,
         _ => draw(seed, 3, LOOSE),
     }
 }
@@ -88,6 +89,63 @@ pub(crate) fn lent(seed: u32, how: u16) -> usize {
         return short as usize;
     }
     (short + 1 + draw(seed, 4, 4)) as usize
+}
+
+// The set of one piece.
+fn one(piece: u16) -> u32 {
+    if piece < 16 { 1 << (piece as u32) } else { 0 }
+}
+
+// Its slugs, as a set.
+pub(crate) fn fallen(seed: u32, size: u16, how: u16) -> u32 {
+    let all = std::num::wrapping_sub_u32(one(size), 1);
+    let a = draw(seed, 30, size);
+    let b = below((a as u32) + 1 + (draw(seed, 31, size / 2) as u32), size);
+    match how {
+        10 | 11 => all,
+        12 => all & !one(a),
+        _ => chosen(seed, all, one(a), one(b)),
+    }
+}
+
+// In a third of the plans none; one; some; some, and piece 0; all but two.
+fn chosen(seed: u32, all: u32, a: u32, b: u32) -> u32 {
+    let some = (draw(seed, 32, 256) as u32) & (draw(seed, 33, 256) as u32);
+    match draw(seed, 34, 6) {
+        0 | 1 => 0,
+        2 => a,
+        3 => all & some,
+        4 => all & some | 1,
+        _ => all & !(a | b),
+    }
+}
+
+pub(crate) fn count(set: u32) -> usize {
+    (u32::count_ones(set) % 64) as usize
+}
+
+// The pieces of a set, ascending, but for a damage.
+pub(crate) fn list(excluded: &mut [u16], fallen: u32, how: u16, seed: u32) {
+    let mut rest = fallen;
+    let mut k = 0;
+    while k < excluded.len() {
+        excluded[k] = slug(rest, k, how, seed);
+        rest = less(rest);
+        k += 1;
+    }
+}
+
+// The lowest piece of a set, or any number, if this is the damaged place.
+fn slug(rest: u32, k: usize, how: u16, seed: u32) -> u16 {
+    if 7 <= how && how < 11 && k == (draw(seed, 35, 3) as usize) {
+        return draw(seed, 36, 10);
+    }
+    (u32::trailing_zeros(rest) % 64) as u16
+}
+
+// A set without its lowest piece.
+fn less(set: u32) -> u32 {
+    set & std::num::wrapping_sub_u32(set, 1)
 }
 
 // The ends of all tabs for which there is room.

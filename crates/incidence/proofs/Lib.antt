@@ -1,4 +1,3 @@
-pub mod Rank
 pub mod Groups
 pub mod Front
 pub mod Loops

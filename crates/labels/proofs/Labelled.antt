@@ -5,7 +5,6 @@ use Prim.Native.Nat.{ℕ, _/_, _<_}
 use lib.ListN.{length, getD}
 use Rattle.connectivity.specs.Plan.{Plan, graph, Limits}
 use Rattle.connectivity.specs.Admission.{Admitted}
-use Rattle.connectivity.proofs.Admission.{admitted-vertex}
 use Rattle.graph.specs.declared.Answer.{Answer}
 use Rattle.graph.specs.Marks.{read}
 use Rattle.graph.specs.Admission.{toldBy, lent}
@@ -16,6 +15,7 @@ use Rattle.labels.specs.Answered.{ForestOf, fits, Labelled}
 use Rattle.labels.specs.Labels.{Settling}
 use Rattle.graph.proofs.Telling.{told-admitted}
 use Rattle.labels.proofs.LongEnough.{Roomy, room-is}
+use Rattle.labels.proofs.Sums.{balanced-all}
 use Rattle.labels.proofs.Settling.{settled}
 
 module _ {most : Limits} {p : Plan} (first order labels sums : List ℕ) where
@@ -25,6 +25,7 @@ module _ {most : Limits} {p : Plan} (first order labels sums : List ℕ) where
       record {
         answer = q .1;
         sum = λ z. absurd (no z);
+        outside = λ z. absurd (no z);
         balanced = λ z. absurd (no z);
         labels-kept = kept-same (length (p .ends) / 2) labels;
         sums-kept = kept-same (p .vertices) sums;
@@ -36,6 +37,7 @@ module _ {most : Limits} {p : Plan} (first order labels sums : List ℕ) where
   labelled-done q z y = record {
     answer = q;
     sum = λ _. y .scattered .summed .sum;
+    outside = λ _. y .scattered .summed .outside;
     balanced = λ _. settled (told-admitted most p (fits p first order labels sums) q z) y;
     labels-kept = y .scattered .labels-kept;
     sums-kept = y .scattered .sums-kept;
@@ -54,4 +56,4 @@ module _ {most : Limits} {p : Plan} {first order labels₀ sums₀ labels sums :
     labelled-balanced = c .balanced labelled-served t
 
     pub labelled-zero : (v : ℕ) → v < p .vertices → getD sums v 0 ≡ 0
-    labelled-zero v b = c .sum labelled-served v b ∙ labelled-balanced v (admitted-vertex a v b)
+    labelled-zero v b = c .sum labelled-served v b ∙ balanced-all (graph p) (read labels) labelled-balanced v

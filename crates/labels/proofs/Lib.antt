@@ -2,6 +2,7 @@ pub mod Xor
 pub mod CutLabels
 pub mod Sums
 pub mod Settling
+pub mod Masks
 pub mod LongEnough
 pub mod Labelled
 pub mod Growing

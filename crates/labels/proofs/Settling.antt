@@ -19,24 +19,24 @@ use Rattle.connectivity.proofs.Reach.{joins-sym}
 use Rattle.connectivity.proofs.Search.{vertices-are}
 use Rattle.connectivity.proofs.Order.{ordered-keep, ordered-vertices}
 use Rattle.connectivity.proofs.Distinct.{ordered-distinct}
-use Rattle.connectivity.proofs.Admission.{edge-size, admitted-vertex}
+use Rattle.connectivity.proofs.Kept.{vertex-is, vertex-size, vertex-or, edge-size}
 use Rattle.incidence.specs.Parts.{Cleared}
 use Rattle.incidence.proofs.Loops.{kept-trans}
 use Rattle.depth.specs.Depth.{rootMark}
 use Rattle.depth.specs.Forest.{Forest}
 use Rattle.labels.specs.Answered.{ForestOf}
 use Rattle.graph.specs.Marks.{read}
-use Rattle.graph.proofs.Joined.{vertex-below, joins-ends}
+use Rattle.graph.proofs.Joined.{joins-ends}
 use Rattle.labels.specs.Label.{around, Balanced}
 use Rattle.labels.specs.Labels.{xorAt, Summed, Toggled, FirstEdge, Settled, by, passed, Scattered, Settling}
 use Rattle.labels.proofs.Xor.{xors, xors-part}
 use Rattle.labels.proofs.CutLabels.{NoLoops, inside, not-crossing, left-right, inside-cancels, no-loops}
-use Rattle.labels.proofs.Sums.{at-ends, away, scattered-start, scattered-toggled}
+use Rattle.labels.proofs.Sums.{around-none, at-ends, away, scattered-start, scattered-toggled}
 
 -- A root.
 
-module _ {g : Graph} {n : ℕ} {mark at : ℕ → ℕ} (t : Forest g n mark at) (all : (v : ℕ) → Vertex g v → v < n) (some : (v : ℕ) → v < n → Vertex g v)
-    (k : ℕ) (l : k < n) (root : mark (at k) ≡ rootMark) where
+module _ {g : Graph} {n : ℕ} {mark at : ℕ → ℕ} (t : Forest g n mark at) (all : (v : ℕ) → Vertex g v → v < n)
+    (k : ℕ) (l : k < n) (root : mark (at k) ≡ rootMark) (top : Vertex g (at k)) where
   -- what stands from place k on
   abbrev behind : ℕ → Bool
   behind v = any (λ j. eqb (at j) v) (range k (n - k))
@@ -80,7 +80,7 @@ module _ {g : Graph} {n : ℕ} {mark at : ℕ → ℕ} (t : Forest g n mark at) 
       sum v = around g label v (edges g)
 
       own : In (at k) (inside g behind)
-      own = keep-is behind (at k) (vertices g) .1 (vertices-are g (at k) .1 (some (at k) (t .valid k l)), there k (omega arith) l refl)
+      own = keep-is behind (at k) (vertices g) .1 (vertices-are g (at k) .1 top, there k (omega arith) l refl)
 
 -- A vertex that is no root: the ends a and b of its first edge.
 
@@ -125,20 +125,20 @@ module _ {most : Limits} {p : Plan} {first order labels₀ sums₀ labels sums :
 
     -- by its first edge
 
-    module _ {e : ℕ} (f : FirstEdge (p .vertices) (length (p .ends) / 2) first (at k) e) where
+    module _ {e : ℕ} (f : FirstEdge p first (at k) e) where
       abbrev changed : List ℕ
       changed = xorAt (xorAt sums (getD (p .ends) (2 * e) 0) (getD sums (at k) 0)) (getD (p .ends) (2 * e + 1) 0) (getD sums (at k) 0)
 
       up : ForestOf p first order → (j : ℕ) × (j < k) × Joins (graph p) e (at j) (at k)
       up t = elim (t .tree k more) [
-        | inl q ↦ absurd (omega (arith, q, f .mark, f .edge))
+        | inl q ↦ absurd (omega (arith, q, f .mark, edge-size p (f .edge)))
         | inr o ↦ let q : getD first (at k) 0 - 1 ≡ e = omega (arith, f .mark) in (o .0, o .1, rw q at (o .2))
       ]
 
       -- the vertex is settled
       here : ForestOf p first order → getD changed (at k) 0 ≡ 0
       here t =
-          at-ends a (f .edge) (s .scattered .summed) (getD sums (at k) 0) (at k)
+          at-ends a (edge-size p (f .edge)) (s .scattered .summed) (getD sums (at k) 0) (at k)
           ∙ ap (λ (t : Bool). bitXor (cond t (getD sums (at k) 0) 0) (getD sums (at k) 0)) (hit (joins-ends p (up t .2)))
           ∙ xor-self (getD sums (at k) 0)
 
@@ -149,7 +149,7 @@ module _ {most : Limits} {p : Plan} {first order labels₀ sums₀ labels sums :
           let o = joins-ends p (u .2) in
           let d : at (u .0) ≡ at j → ⊥ = t .once (u .0) j (omega (arith, u .1)) h in
           let q : at k ≡ at j → ⊥ = t .once k j l h in
-          away a (f .edge) (s .scattered .summed) (getD sums (at k) 0) (at j) (no-left o d q) (no-right o d q) ∙ s .done t j (omega arith) h
+          away a (edge-size p (f .edge)) (s .scattered .summed) (getD sums (at k) 0) (at j) (no-left o d q) (no-right o d q) ∙ s .done t j (omega arith) h
 
       by-edge : {labels′ sums′ : List ℕ} → Toggled (p .ends) e (getD sums (at k) 0) labels sums labels′ sums′ → Settling p first order labels₀ sums₀ labels′ sums′ k
       by-edge d = record {
@@ -163,24 +163,30 @@ module _ {most : Limits} {p : Plan} {first order labels₀ sums₀ labels sums :
 
     -- as a root
 
-    root : ((e : ℕ) → FirstEdge (p .vertices) (length (p .ends) / 2) first (at k) e → ⊥) → (t : ForestOf p first order) → getD first (at k) 0 ≡ rootMark
+    root : ((e : ℕ) → FirstEdge p first (at k) e → ⊥) → (t : ForestOf p first order) → getD first (at k) 0 ≡ rootMark
     root none t = elim (t .tree k more) [
       | inl q ↦ q
       | inr o ↦ absurd (none (getD first (at k) 0 - 1) (record {
-        vertex = t .valid k more;
-        edge = edge-size p (o .2 .edge);
+        below = t .valid k more;
+        edge = o .2 .edge;
         mark = let m = t .marked k more in omega (arith, m);
       }))
     ]
 
-    as-root : ((e : ℕ) → FirstEdge (p .vertices) (length (p .ends) / 2) first (at k) e → ⊥) → Settling p first order labels₀ sums₀ labels sums k
+    -- the sum of an excluded vertex is 0, since no edge ends there
+    zero-here : ((e : ℕ) → FirstEdge p first (at k) e → ⊥) → (t : ForestOf p first order) → around (graph p) (read labels) (at k) (edges (graph p)) ≡ 0
+    zero-here none t = elim (vertex-or p (at k) (t .valid k more)) [
+      | inl h ↦ root-zero t (λ v. vertex-size p) k more (root none t) h (read labels) (no-loops a)
+          (λ i b c. sym (s .scattered .summed .sum (at i) (t .valid i c)) ∙ s .done t i (omega arith) c)
+      | inr i ↦ around-none (graph p) (read labels) (at k) (λ h. vertex-is p (at k) .0 h .1 i)
+    ]
+
+    as-root : ((e : ℕ) → FirstEdge p first (at k) e → ⊥) → Settling p first order labels₀ sums₀ labels sums k
     as-root none = record {
       low = omega arith;
       scattered = s .scattered;
       done = λ t j l h. elim (ℕ-discrete k j) [
-        | yes q ↦ ap (λ (i : ℕ). getD sums (at i) 0) (sym q) ∙ s .scattered .summed .sum (at k) (t .valid k more)
-            ∙ root-zero t (vertex-below (p .vertices) (p .ends)) (λ v b. admitted-vertex a v b) k more (root none t) (read labels) (no-loops a)
-            (λ i b c. sym (s .scattered .summed .sum (at i) (t .valid i c)) ∙ s .done t i (omega arith) c)
+        | yes q ↦ ap (λ (i : ℕ). getD sums (at i) 0) (sym q) ∙ s .scattered .summed .sum (at k) (t .valid k more) ∙ zero-here none t
         | no ne ↦ s .done t j (omega (arith, ne)) h
       ];
     }
@@ -191,5 +197,5 @@ module _ {most : Limits} {p : Plan} {first order labels₀ sums₀ labels sums :
 
   pub settled : Settling p first order labels₀ sums₀ labels sums 0 → ForestOf p first order → Balanced (graph p) (read labels)
   settled s t v h =
-      let o = t .listed v (vertex-below (p .vertices) (p .ends) v h) in
-      sym (s .scattered .summed .sum v (vertex-below (p .vertices) (p .ends) v h)) ∙ ap (λ (x : ℕ). getD sums x 0) (sym (o .2)) ∙ s .done t (o .0) (omega arith) (o .1)
+      let o = t .listed v (vertex-size p h) in
+      sym (s .scattered .summed .sum v (vertex-size p h)) ∙ ap (λ (x : ℕ). getD sums x 0) (sym (o .2)) ∙ s .done t (o .0) (omega arith) (o .1)

@@ -1,25 +1,22 @@
 -- What is answered to a plan and the space lent for its labels, and what this space then holds.
 use mathlib.Core.Path.{_≡_}
 use mathlib.Core.Bool.{Bool, cond, _&&_}
-use mathlib.Core.List.{List, [], _∷_}
+use mathlib.Core.List.{List, map}
 use Prim.Native.Nat.{ℕ, _*_, _/_, _<_}
-use lib.Dec.{eqb, leb}
+use lib.Dec.{leb}
 use lib.ListN.{length, getD, replicate}
-use Rattle.connectivity.specs.Plan.{Plan, graph, Limits}
-use Rattle.connectivity.specs.Graph.{edges}
-use Rattle.connectivity.specs.Cut.{disconnects}
-use Rattle.connectivity.specs.Admission.{passed, Handed, served, refusal}
+use Rattle.connectivity.specs.Lists.{range}
+use Rattle.connectivity.specs.Plan.{Plan, graph, listed, Limits}
+use Rattle.connectivity.specs.Graph.{Graph, Edge, isEdge, edges}
 use Rattle.graph.specs.declared.Answer.{Answer}
-use Rattle.graph.specs.Admission.{toldBy, answerOf, lent}
+use Rattle.graph.specs.Admission.{toldBy, lent}
 use Rattle.graph.specs.Marks.{read}
 use Rattle.incidence.specs.Tables.{incidentTable, beginsTable, Front}
 use Rattle.incidence.specs.Parts.{Kept}
-use Rattle.depth.specs.Forest.{Forest}
-use Rattle.labels.specs.declared.Labelling.{Labelling}
-use Rattle.labels.specs.declared.Labelling.the-variants.{Refused, Disconnected, Connected}
+use Rattle.depth.specs.Forest.{Forest, RootsLow}
 use Rattle.labels.specs.Label.{around, Balanced}
 
--- marks and an order that are a spanning forest of the plan's graph
+-- marks and an order that are a spanning forest of the plan's graph; an excluded vertex is a tree of its own
 abbrev pub ForestOf : Plan → List ℕ → List ℕ → Type 0
 ForestOf p first order = Forest (graph p) (p .vertices) (read first) (read order)
 
@@ -38,6 +35,8 @@ pub record Labelled (most : Limits) (p : Plan) (first order labels₀ sums₀ la
   pub sum : r .number ≡ 0 → (v : ℕ) → v < p .vertices → getD sums v 0 ≡ around (graph p) (read labels) v (edges (graph p))
   -- and it is 0 if the marks and the order are a spanning forest
   pub balanced : r .number ≡ 0 → ForestOf p first order → Balanced (graph p) (read labels)
+  -- the label of an edge that ends at an excluded vertex is 0
+  pub outside : r .number ≡ 0 → (e : ℕ) → e < length (p .ends) / 2 → (Edge (graph p) e → ⊥) → getD labels e 0 ≡ 0
   -- what lies behind the edges' and the vertices' places stays
   pub labels-kept : Kept (length (p .ends) / 2) labels₀ labels
   pub sums-kept : Kept (p .vertices) sums₀ sums
@@ -70,12 +69,6 @@ tables incident begins dead first order cursor labels sums = record {
   sums = sums;
 }
 
--- 01's number, place and values for each case; the value is 1 where the graph is connected (01: one body), else 0
-abbrev pub handed : Labelling → Handed
-handed (Refused a) = refusal (answerOf a)
-handed Disconnected = served (0 ∷ [])
-handed Connected = served (1 ∷ [])
-
 -- there are two places in `incident` and one in `dead` for each edge, and one in `begins` and `cursor` for each vertex; and room for labels
 -- along a forest
 abbrev pub enough : Plan → Tables → Bool
@@ -84,38 +77,40 @@ enough p t =
     && (leb (p .vertices) (length (t .begins))
     && (leb (length (p .ends) / 2) (length (t .dead)) && (leb (p .vertices) (length (t .cursor)) && fits p (t .first) (t .order) (t .labels) (t .sums))))
 
--- 01: the plan's own refusals, then 6 where a lent table is too short; else 1 where the graph is connected, and 0 where it is not
-unfoldable pub labelling : Limits → Plan → Tables → Handed
-labelling most p t =
-    let a = lent most p (enough p t) in
-    let found = served (cond (disconnects (graph p) []) 0 1 ∷ []) in
-    cond (eqb (a .number) 0) found (refusal a)
+-- a mark for each entry of the table of ends: 0 for an edge of the graph, 1 for one that ends at an excluded vertex
+unfoldable pub maskTable : Graph → List ℕ
+maskTable g = map (λ e. cond (isEdge g e) 0 1) (range 0 (g .size))
 
--- the tables by vertex stand at the fronts, and no edge is marked
+-- the tables by vertex, of all that is listed, stand at the fronts, and the marks of the edges
 pub record Laid (p : Plan) (incident₀ begins₀ dead₀ incident begins dead : List ℕ) : Type 0 where
-  pub incident-front : Front (incidentTable (graph p)) incident₀ incident
-  pub begins-front : Front (beginsTable (graph p)) begins₀ begins
-  pub dead-front : Front (replicate (length (p .ends) / 2) 0) dead₀ dead
+  pub incident-front : Front (incidentTable (listed p)) incident₀ incident
+  pub begins-front : Front (beginsTable (listed p)) begins₀ begins
+  pub dead-front : Front (maskTable (graph p)) dead₀ dead
 
--- marks and order are a spanning forest, and no cursor is left; what lies behind the vertices' places stays
+-- marks and order are a spanning forest, each root lower than what stands behind it, and no cursor is left; what lies behind the vertices' places
+-- stays
 pub record Spanned (p : Plan) (first₀ order₀ cursor₀ first order cursor : List ℕ) : Type 0 where
   pub forest : ForestOf p first order
+  pub low : RootsLow (p .vertices) (read first) (read order)
   pub first-kept : Kept (p .vertices) first₀ first
   pub order-kept : Kept (p .vertices) order₀ order
   pub cursor-front : Front (replicate (p .vertices) 0) cursor₀ cursor
 
--- around every vertex the labels of its edges xor to 0; what lies behind the edges' and the vertices' places stays
+-- around every vertex the labels of its edges xor to 0, and the label of an edge that ends at an excluded one is 0; what lies behind the edges'
+-- and the vertices' places stays
 pub record Cancelled (p : Plan) (labels₀ sums₀ labels sums : List ℕ) : Type 0 where
+  pub outside : (e : ℕ) → e < length (p .ends) / 2 → (Edge (graph p) e → ⊥) → getD labels e 0 ≡ 0
   pub balanced : Balanced (graph p) (read labels)
   pub labels-kept : Kept (length (p .ends) / 2) labels₀ labels
   pub sums-front : Front (replicate (p .vertices) 0) sums₀ sums
 
 -- the whole answer of `label`
-pub record Answered (most : Limits) (p : Plan) (before after : Tables) (r : Labelling) : Type 0 where
-  pub answer : handed r ≡ labelling most p before
-  -- served, connected or not
-  pub laid : (handed r) .reply ≡ passed → Laid p (before .incident) (before .begins) (before .dead) (after .incident) (after .begins) (after .dead)
-  pub spanned : (handed r) .reply ≡ passed → Spanned p (before .first) (before .order) (before .cursor) (after .first) (after .order) (after .cursor)
-  pub cancelled : (handed r) .reply ≡ passed → Cancelled p (before .labels) (before .sums) (after .labels) (after .sums)
+pub record Answered (most : Limits) (p : Plan) (before after : Tables) (r : Answer) : Type 0 where
+  -- 01: the plan's own refusals, then 6 where a lent table is too short, else 0
+  pub answer : r ≡ toldBy (lent most p (enough p before))
+  -- served
+  pub laid : r .number ≡ 0 → Laid p (before .incident) (before .begins) (before .dead) (after .incident) (after .begins) (after .dead)
+  pub spanned : r .number ≡ 0 → Spanned p (before .first) (before .order) (before .cursor) (after .first) (after .order) (after .cursor)
+  pub cancelled : r .number ≡ 0 → Cancelled p (before .labels) (before .sums) (after .labels) (after .sums)
   -- refused: all of it stays
-  pub unchanged : ((handed r) .reply ≡ passed → ⊥) → after ≡ before
+  pub unchanged : (r .number ≡ 0 → ⊥) → after ≡ before

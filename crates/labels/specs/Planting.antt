@@ -1,16 +1,15 @@
 -- How a spanning forest is made: by searches from one root after the other.
 use mathlib.Core.Path.{_≡_}
-use mathlib.Core.List.{List, []}
+use mathlib.Core.List.{List}
 use Prim.Native.Nat.{ℕ, _*_, _/_, _≤_, _<_}
-use lib.Dec.{ltb}
 use lib.ListN.{length, getD}
 use Rattle.connectivity.specs.Plan.{Plan, graph, Limits}
-use Rattle.connectivity.specs.Cut.{disconnects}
-use Rattle.graph.specs.Marks.{read, Live, Marked}
+use Rattle.graph.specs.Marks.{read, Marked}
 use Rattle.incidence.specs.Tables.{Tabled}
 use Rattle.incidence.specs.Parts.{Kept, Cleared}
 use Rattle.depth.specs.Forest.{Grown}
 use Rattle.labels.specs.Answered.{Laid, Spanned}
+use Rattle.labels.specs.Labels.{Masks}
 
 -- there is space for the tables by vertex and for the marks of edges
 pub record Spacious (p : Plan) (incident begins dead : List ℕ) : Type 0 where
@@ -18,11 +17,10 @@ pub record Spacious (p : Plan) (incident begins dead : List ℕ) : Type 0 where
   pub begins-room : p .vertices ≤ length begins
   pub dead-room : length (p .ends) / 2 ≤ length dead
 
--- the tables by vertex of an admitted plan, and no edge is marked
+-- the tables by vertex of an admitted plan, and marks of which those of its edges are 0
 pub record Open (most : Limits) (p : Plan) (incident begins dead : List ℕ) : Type 0 where
   pub tabled : Tabled most p incident begins
-  pub dead-room : length (p .ends) / 2 ≤ length dead
-  pub live : (e : ℕ) → e < length (p .ends) / 2 → Live dead e
+  pub masks : Masks p dead
 
 -- `prepare`: such tables stand at the fronts, and no vertex is marked
 pub record Prepared (most : Limits) (p : Plan) (incident₀ begins₀ dead₀ first₀ incident begins dead first : List ℕ) : Type 0 where
@@ -38,8 +36,7 @@ pub record Growing (p : Plan) (first₀ order₀ cursor₀ first order cursor : 
   pub order-kept : Kept (p .vertices) order₀ order
   pub cursor-kept : Kept (p .vertices) cursor₀ cursor
 
--- `plant`: tables, forest, and how many vertices the first search has seen
-pub record Planted (p : Plan) (incident₀ begins₀ dead₀ first₀ order₀ cursor₀ incident begins dead first order cursor : List ℕ) (count : ℕ) : Type 0 where
+-- `plant`: tables and forest
+pub record Planted (p : Plan) (incident₀ begins₀ dead₀ first₀ order₀ cursor₀ incident begins dead first order cursor : List ℕ) : Type 0 where
   pub laid : Laid p incident₀ begins₀ dead₀ incident begins dead
   pub spanned : Spanned p first₀ order₀ cursor₀ first order cursor
-  pub told : ltb count (p .vertices) ≡ disconnects (graph p) []

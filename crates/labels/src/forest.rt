@@ -1,94 +1,87 @@
 // A spanning forest of a plan's graph, by searches from one root after the other.
 use depth::Explored;
-ghost use Prim.Native.Nat.{_/_, _≤_};
-ghost use lib.ListN.{length};
+ghost use mathlib.Core.Path.{_≡_};
+ghost use Prim.Native.Nat.{ℕ, _/_, _≤_, _<_};
+ghost use lib.ListN.{length, getD};
 ghost use Rattle.connectivity.specs.Plan.{plan, limits};
 ghost use Rattle.connectivity.specs.Admission.{Admitted};
 ghost use Rattle.incidence.specs.Parts.{Cleared};
 ghost use Rattle.depth.specs.Depth.{Searched};
 ghost use Rattle.depth.specs.Parts.{Rooms};
-ghost use Rattle.labels.specs.Planting.{Spacious, Open, Prepared, Growing, Planted};
+ghost use Rattle.labels.specs.Answered.{Spanned};
+ghost use Rattle.labels.specs.Planting.{Spacious, Open, Prepared, Planted};
 
-// Fills the tables by vertex of an admitted plan, and searches from one vertex after the other until each has been seen. The answer is how many
-// the first search has seen, the one from vertex 0.
+// Fills the tables by vertex of an admitted plan, marks the edges of excluded vertices, and searches from one vertex after the other until each
+// has been seen.
 pub(crate) fn plant(
     vertices: u16,
     ends: &[u16],
+    excluded: &[u16],
     incident: &mut [u16],
     begins: &mut [u16],
     dead: &mut [u8],
     first: &mut [u16],
     order: &mut [u16],
     cursor: &mut [u16],
-) -> u16
-    requires { ⌜ Admitted limits (plan vertices (now ends)) × Spacious (plan vertices (now ends)) (now incident) (now begins) (now dead) × Rooms vertices (now first) (now order) (now cursor) ⌝ }
-    ensures { λ r. ⌜ Planted (plan vertices (now (ends .entry))) (now (incident .entry)) (now (begins .entry)) (now (dead .entry)) (now (first .entry)) (now (order .entry)) (now (cursor .entry)) (now (incident .exit)) (now (begins .exit)) (now (dead .exit)) (now (first .exit)) (now (order .exit)) (now (cursor .exit)) r ⌝ }
+)
+    requires { ⌜ Admitted limits (plan vertices (now ends) (now excluded)) × Spacious (plan vertices (now ends) (now excluded)) (now incident) (now begins) (now dead) × Rooms vertices (now first) (now order) (now cursor) ⌝ }
+    ensures { λ _. ⌜ Planted (plan vertices (now (ends .entry)) (now (excluded .entry))) (now (incident .entry)) (now (begins .entry)) (now (dead .entry)) (now (first .entry)) (now (order .entry)) (now (cursor .entry)) (now (incident .exit)) (now (begins .exit)) (now (dead .exit)) (now (first .exit)) (now (order .exit)) (now (cursor .exit)) ⌝ }
 {
-    prepare(vertices, ends, incident, begins, dead, first);
-    let count = search_from(
+    prepare(vertices, ends, excluded, incident, begins, dead, first);
+    search_all(
         vertices,
         ends,
+        excluded,
         incident,
         begins,
         dead,
-        0,
-        0,
         first,
         order,
         cursor,
     );
-    search_rest(
-        vertices,
-        ends,
-        incident,
-        begins,
-        dead,
-        count,
-        first,
-        order,
-        cursor,
-    );
-    count
 }
 
-// Fills the tables by vertex, and clears the marks of the edges and of the vertices.
+// Fills the tables by vertex, marks the edges of excluded vertices and no other, and clears the marks of the vertices.
 fn prepare(
     vertices: u16,
     ends: &[u16],
+    excluded: &[u16],
     incident: &mut [u16],
     begins: &mut [u16],
     dead: &mut [u8],
     first: &mut [u16],
 )
-    requires { ⌜ Admitted limits (plan vertices (now ends)) × Spacious (plan vertices (now ends)) (now incident) (now begins) (now dead) × (vertices ≤ length (now first)) ⌝ }
-    ensures { λ _. ⌜ Prepared limits (plan vertices (now (ends .entry))) (now (incident .entry)) (now (begins .entry)) (now (dead .entry)) (now (first .entry)) (now (incident .exit)) (now (begins .exit)) (now (dead .exit)) (now (first .exit)) ⌝ }
+    requires { ⌜ Admitted limits (plan vertices (now ends) (now excluded)) × Spacious (plan vertices (now ends) (now excluded)) (now incident) (now begins) (now dead) × (vertices ≤ length (now first)) ⌝ }
+    ensures { λ _. ⌜ Prepared limits (plan vertices (now (ends .entry)) (now (excluded .entry))) (now (incident .entry)) (now (begins .entry)) (now (dead .entry)) (now (first .entry)) (now (incident .exit)) (now (begins .exit)) (now (dead .exit)) (now (first .exit)) ⌝ }
 {
     incidence::fill(vertices, ends, incident, begins);
     clear_edges(ends.len() / 2, dead);
+    graph::excluded::mask(ends, excluded, dead);
     incidence::clear(vertices as usize, first);
 }
 
-// Searches from vertex 1 on, until every vertex stands in the order; `count` of them do already.
-fn search_rest(
+// Searches from vertex 0 on, until every vertex stands in the order: an excluded one as a root alone, since all its edges are marked.
+fn search_all(
     vertices: u16,
     ends: &[u16],
+    excluded: &[u16],
     incident: &[u16],
     begins: &[u16],
     dead: &[u8],
-    count: u16,
     first: &mut [u16],
     order: &mut [u16],
     cursor: &mut [u16],
 )
-    requires { ⌜ Open limits (plan vertices (now ends)) (now incident) (now begins) (now dead) × Rooms vertices (now first) (now order) (now cursor) × Growing (plan vertices (now ends)) (now first) (now order) (now cursor) (now first) (now order) (now cursor) 1 count ⌝ }
-    ensures { λ _. ⌜ Growing (plan vertices (now (ends .entry))) (now (first .entry)) (now (order .entry)) (now (cursor .entry)) (now (first .exit)) (now (order .exit)) (now (cursor .exit)) vertices vertices ⌝ }
+    requires { ⌜ Open limits (plan vertices (now ends) (now excluded)) (now incident) (now begins) (now dead) × Rooms vertices (now first) (now order) (now cursor) × ((v : ℕ) → v < vertices → getD (now first) v 0 ≡ 0) ⌝ }
+    ensures { λ _. ⌜ Spanned (plan vertices (now (ends .entry)) (now (excluded .entry))) (now (first .entry)) (now (order .entry)) (now (cursor .entry)) (now (first .exit)) (now (order .exit)) (now (cursor .exit)) ⌝ }
 {
-    let mut seen = count;
-    let mut v = 1;
+    let mut seen = 0;
+    let mut v = 0;
     while seen < vertices {
         seen = search_from(
             vertices,
             ends,
+            excluded,
             incident,
             begins,
             dead,
@@ -106,6 +99,7 @@ fn search_rest(
 fn search_from(
     vertices: u16,
     ends: &[u16],
+    excluded: &[u16],
     incident: &[u16],
     begins: &[u16],
     dead: &[u8],
@@ -115,8 +109,8 @@ fn search_from(
     order: &mut [u16],
     cursor: &mut [u16],
 ) -> u16
-    requires { ⌜ Open limits (plan vertices (now ends)) (now incident) (now begins) (now dead) × Rooms vertices (now first) (now order) (now cursor) ⌝ }
-    ensures { λ r. ⌜ Searched (plan vertices (now (ends .entry))) (now (incident .entry)) (now (begins .entry)) (now (dead .entry)) root seen (now (first .entry)) (now (order .entry)) (now (cursor .entry)) (now (first .exit)) (now (order .exit)) (now (cursor .exit)) r ⌝ }
+    requires { ⌜ Open limits (plan vertices (now ends) (now excluded)) (now incident) (now begins) (now dead) × Rooms vertices (now first) (now order) (now cursor) ⌝ }
+    ensures { λ r. ⌜ Searched (plan vertices (now (ends .entry)) (now (excluded .entry))) (now (incident .entry)) (now (begins .entry)) (now (dead .entry)) root seen (now (first .entry)) (now (order .entry)) (now (cursor .entry)) (now (first .exit)) (now (order .exit)) (now (cursor .exit)) r ⌝ }
 {
     let found = depth::explore(
         vertices,

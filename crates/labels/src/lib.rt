@@ -1,35 +1,28 @@
 // Labels of edges that cancel around every vertex: the label of an edge whose loss alone parts what was joined is 0, and those of two that
 // do so only together are equal.
 use graph::Answer;
-ghost use mathlib.Core.Path.{_≡_};
-ghost use mathlib.Core.Bool.{not, cond};
-ghost use mathlib.Core.List.{[], _∷_};
-ghost use Prim.Native.Nat.{_/_, _<_, _≤_};
-ghost use lib.Dec.{ltb};
+use graph::Graph;
+ghost use mathlib.Core.Bool.{not};
+ghost use Prim.Native.Nat.{_/_, _≤_};
 ghost use lib.ListN.{length};
 ghost use Rattle.connectivity.specs.Plan.{plan, limits};
-ghost use Rattle.connectivity.specs.Admission.{served, Admitted};
+ghost use Rattle.connectivity.specs.Admission.{Admitted};
 ghost use Rattle.graph.specs.Tells.{Tells};
 ghost use Rattle.incidence.specs.Parts.{Cleared};
-ghost use Rattle.labels.specs.Answered.{Labelled, tables, handed, Answered};
-ghost use Rattle.labels.specs.Labels.{Ample, Room, Summed, Ready, Toggled, Named, Settled, Scattered, Settling};
+ghost use Rattle.labels.specs.Answered.{Labelled, tables, Answered};
+ghost use Rattle.labels.specs.Labels.{Ample, Room, Summed, Masks, Silent, OpenAt, Ready, Toggled, Named, Settled, Scattered, Settling};
 
 mod forest; // forest.rt: a spanning forest, by searches
 
-// What is said of a plan: refused; or whether it is connected, and its edges have labels.
-pub enum Labelling {
-    Refused(Answer),
-    Disconnected,
-    Connected,
-}
-
-// The plan's own 1 to 5; 6 where a lent table is too short: `incident` wants two places for each edge, `dead` and `labels` one, the others one
-// for each vertex. Else, in any number of bodies: fills the tables by vertex; finds a spanning forest (`first`: one more than the edge by which
-// a vertex was found, 65535 for a root; `order`: the vertices as they were found); and gives each edge a label, such that around every vertex
-// they xor to 0. The marks in `dead`, the cursors and the sums are then 0.
+// The plan's own refusals; 6 where a lent table is too short: `incident` wants two places for each edge, `dead` and `labels` one, the others one
+// for each vertex. Else, in any number of bodies: fills the tables by vertex; marks in `dead` the edges of excluded vertices (1, every other 0);
+// finds a spanning forest of the others (`first`: one more than the edge by which a vertex was found, 65535 for a root; `order`: the vertices as
+// they were found; an excluded one is a root alone); and gives each edge a label, a marked one 0, such that around every vertex they xor to 0.
+// The cursors and the sums are then 0.
 pub fn label(
     vertices: u16,
     ends: &[u16],
+    excluded: &[u16],
     incident: &mut [u16],
     begins: &mut [u16],
     dead: &mut [u8],
@@ -38,8 +31,8 @@ pub fn label(
     cursor: &mut [u16],
     labels: &mut [u64],
     sums: &mut [u64],
-) -> Labelling
-    ensures { λ r. ⌜ Answered limits (plan vertices (now (ends .entry))) (tables (now (incident .entry)) (now (begins .entry)) (now (dead .entry)) (now (first .entry)) (now (order .entry)) (now (cursor .entry)) (now (labels .entry)) (now (sums .entry))) (tables (now (incident .exit)) (now (begins .exit)) (now (dead .exit)) (now (first .exit)) (now (order .exit)) (now (cursor .exit)) (now (labels .exit)) (now (sums .exit))) r ⌝ }
+) -> Answer
+    ensures { λ r. ⌜ Answered limits (plan vertices (now (ends .entry)) (now (excluded .entry))) (tables (now (incident .entry)) (now (begins .entry)) (now (dead .entry)) (now (first .entry)) (now (order .entry)) (now (cursor .entry)) (now (labels .entry)) (now (sums .entry))) (tables (now (incident .exit)) (now (begins .exit)) (now (dead .exit)) (now (first .exit)) (now (order .exit)) (now (cursor .exit)) (now (labels .exit)) (now (sums .exit))) r ⌝ }
 {
     let short = is_short(
         vertices as usize,
@@ -53,38 +46,38 @@ pub fn label(
         labels.len(),
         sums.len(),
     );
-    let answer = graph::refusal(vertices, ends, short);
+    let answer = graph::refusal(vertices, ends, excluded, short);
     let number = answer.number;
-    if number != 0 {
-        return Labelling::Refused(answer);
+    if number == 0 {
+        forest::plant(
+            vertices,
+            ends,
+            excluded,
+            incident,
+            begins,
+            dead,
+            first,
+            order,
+            cursor,
+        );
+        distribute(vertices, ends, excluded, dead, first, order, labels, sums);
     }
-    let count = forest::plant(vertices, ends, incident, begins, dead, first, order, cursor);
-    distribute(vertices, ends, first, order, labels, sums);
-    told(vertices, count)
+    answer
 }
 
-// A graph is connected where a search from vertex 0 has seen every vertex.
-fn told(vertices: u16, count: u16) -> Labelling
-    ensures { λ r. ⌜ handed r ≡ served (cond (ltb count vertices) 0 1 ∷ []) ⌝ }
-{
-    if count < vertices {
-        return Labelling::Disconnected;
-    }
-    Labelling::Connected
-}
-
-// Labels along a spanning forest that is lent. The plan's own 1 to 5; 6 unless `first`, `order` and `sums` have a place for each vertex and
-// `labels` one for each edge. Else each edge gets a label, and each vertex in `sums` the xor of those around it: 0, if `first` and `order`
-// are a spanning forest. Where they are none, the labels are of no use.
+// Labels along a spanning forest that is lent. The plan's own refusals; 6 unless `first`, `order` and `sums` have a place for each vertex and
+// `labels` one for each edge. Else each edge gets a label, one of an excluded vertex 0, and each vertex in `sums` the xor of those around it: 0,
+// if `first` and `order` are a spanning forest. Where they are none, the labels are of no use.
 pub fn balance(
     vertices: u16,
     ends: &[u16],
+    excluded: &[u16],
     first: &[u16],
     order: &[u16],
     labels: &mut [u64],
     sums: &mut [u64],
 ) -> Answer
-    ensures { λ r. ⌜ Labelled limits (plan vertices (now (ends .entry))) (now (first .entry)) (now (order .entry)) (now (labels .entry)) (now (sums .entry)) (now (labels .exit)) (now (sums .exit)) r ⌝ }
+    ensures { λ r. ⌜ Labelled limits (plan vertices (now (ends .entry)) (now (excluded .entry))) (now (first .entry)) (now (order .entry)) (now (labels .entry)) (now (sums .entry)) (now (labels .exit)) (now (sums .exit)) r ⌝ }
 {
     let short = is_tight(
         vertices as usize,
@@ -94,10 +87,12 @@ pub fn balance(
         labels.len(),
         sums.len(),
     );
-    let answer = graph::refusal(vertices, ends, short);
+    let answer = graph::refusal(vertices, ends, excluded, short);
     let number = answer.number;
     if number == 0 {
-        distribute(vertices, ends, first, order, labels, sums);
+        let mut dead = [0u8; Graph::MAX_EDGES];
+        graph::excluded::mask(ends, excluded, &mut dead);
+        distribute(vertices, ends, excluded, &dead, first, order, labels, sums);
     }
     answer
 }
@@ -155,18 +150,20 @@ fn is_tight(n: usize, m: usize, first: usize, order: usize, labels: usize, sums:
 fn distribute(
     vertices: u16,
     ends: &[u16],
+    excluded: &[u16],
+    dead: &[u8],
     first: &[u16],
     order: &[u16],
     labels: &mut [u64],
     sums: &mut [u64],
 )
-    requires { ⌜ Admitted limits (plan vertices (now ends)) × Room vertices (length (now ends) / 2) (length (now first)) (length (now order)) (length (now labels)) (length (now sums)) ⌝ }
-    ensures { λ _. ⌜ Settling (plan vertices (now (ends .entry))) (now (first .entry)) (now (order .entry)) (now (labels .entry)) (now (sums .entry)) (now (labels .exit)) (now (sums .exit)) 0 ⌝ }
+    requires { ⌜ Admitted limits (plan vertices (now ends) (now excluded)) × Masks (plan vertices (now ends) (now excluded)) (now dead) × Room vertices (length (now ends) / 2) (length (now first)) (length (now order)) (length (now labels)) (length (now sums)) ⌝ }
+    ensures { λ _. ⌜ Settling (plan vertices (now (ends .entry)) (now (excluded .entry))) (now (first .entry)) (now (order .entry)) (now (labels .entry)) (now (sums .entry)) (now (labels .exit)) (now (sums .exit)) 0 ⌝ }
 {
     clear(ends.len() / 2, labels);
     clear(vertices as usize, sums);
-    scatter(vertices, ends, labels, sums);
-    settle(vertices, ends, first, order, labels, sums);
+    scatter(vertices, ends, excluded, dead, labels, sums);
+    settle(vertices, ends, excluded, dead, first, order, labels, sums);
 }
 
 // The first `count` numbers become 0.
@@ -181,15 +178,22 @@ fn clear(count: usize, table: &mut [u64])
     }
 }
 
-// Xors a number into the label of each edge.
-fn scatter(vertices: u16, ends: &[u16], labels: &mut [u64], sums: &mut [u64])
-    requires { ⌜ Admitted limits (plan vertices (now ends)) × Summed (plan vertices (now ends)) (now labels) (now sums) ⌝ }
-    ensures { λ _. ⌜ Scattered (plan vertices (now (ends .entry))) (now (labels .entry)) (now (sums .entry)) (now (labels .exit)) (now (sums .exit)) ⌝ }
+// Xors a number into the label of each edge that has no mark.
+fn scatter(
+    vertices: u16,
+    ends: &[u16],
+    excluded: &[u16],
+    dead: &[u8],
+    labels: &mut [u64],
+    sums: &mut [u64],
+)
+    requires { ⌜ Admitted limits (plan vertices (now ends) (now excluded)) × Masks (plan vertices (now ends) (now excluded)) (now dead) × Summed (plan vertices (now ends) (now excluded)) (now labels) (now sums) ⌝ }
+    ensures { λ _. ⌜ Scattered (plan vertices (now (ends .entry)) (now (excluded .entry))) (now (labels .entry)) (now (sums .entry)) (now (labels .exit)) (now (sums .exit)) ⌝ }
 {
     let edges = ends.len() / 2;
     let mut e = 0;
     while e < edges {
-        toggle(ends, e, mix(e as u64), labels, sums);
+        toggle(ends, e, noise(dead[e], e), labels, sums);
         e += 1;
     }
 }
@@ -199,38 +203,65 @@ fn scatter(vertices: u16, ends: &[u16], labels: &mut [u64], sums: &mut [u64])
 fn settle(
     vertices: u16,
     ends: &[u16],
+    excluded: &[u16],
+    dead: &[u8],
     first: &[u16],
     order: &[u16],
     labels: &mut [u64],
     sums: &mut [u64],
 )
-    requires { ⌜ Admitted limits (plan vertices (now ends)) × (vertices ≤ length (now first)) × (vertices ≤ length (now order)) × Summed (plan vertices (now ends)) (now labels) (now sums) ⌝ }
-    ensures { λ _. ⌜ Settling (plan vertices (now (ends .entry))) (now (first .entry)) (now (order .entry)) (now (labels .entry)) (now (sums .entry)) (now (labels .exit)) (now (sums .exit)) 0 ⌝ }
+    requires { ⌜ Admitted limits (plan vertices (now ends) (now excluded)) × Masks (plan vertices (now ends) (now excluded)) (now dead) × (vertices ≤ length (now first)) × (vertices ≤ length (now order)) × Summed (plan vertices (now ends) (now excluded)) (now labels) (now sums) ⌝ }
+    ensures { λ _. ⌜ Settling (plan vertices (now (ends .entry)) (now (excluded .entry))) (now (first .entry)) (now (order .entry)) (now (labels .entry)) (now (sums .entry)) (now (labels .exit)) (now (sums .exit)) 0 ⌝ }
 {
     let mut k = vertices as usize;
     while 0 < k {
         k -= 1;
-        settle_one(vertices, ends, order[k], first, labels, sums);
+        settle_one(
+            vertices,
+            ends,
+            excluded,
+            dead,
+            order[k],
+            first,
+            labels,
+            sums,
+        );
     }
 }
 
-// Xors the sum of v into the label of its first edge; v has none if it is a root or no vertex.
+// Xors the sum of v into the label of its first edge; v has none if it is a root or no vertex, or if the edge is marked.
 fn settle_one(
     vertices: u16,
     ends: &[u16],
+    excluded: &[u16],
+    dead: &[u8],
     v: u16,
     first: &[u16],
     labels: &mut [u64],
     sums: &mut [u64],
 )
-    requires { ⌜ Admitted limits (plan vertices (now ends)) × (vertices ≤ length (now first)) × Summed (plan vertices (now ends)) (now labels) (now sums) ⌝ }
-    ensures { λ _. ⌜ Settled (plan vertices (now (ends .entry))) (now (first .entry)) v (now (labels .entry)) (now (sums .entry)) (now (labels .exit)) (now (sums .exit)) ⌝ }
+    requires { ⌜ Admitted limits (plan vertices (now ends) (now excluded)) × Masks (plan vertices (now ends) (now excluded)) (now dead) × (vertices ≤ length (now first)) × Summed (plan vertices (now ends) (now excluded)) (now labels) (now sums) ⌝ }
+    ensures { λ _. ⌜ Settled (plan vertices (now (ends .entry)) (now (excluded .entry))) (now (first .entry)) v (now (labels .entry)) (now (sums .entry)) (now (labels .exit)) (now (sums .exit)) ⌝ }
 {
     let e = first_edge(vertices, v, first) as usize;
-    if e < ends.len() / 2 {
+    if is_open(ends.len() / 2, e, dead) {
         let x = sums[v as usize];
         toggle(ends, e, x, labels, sums);
     }
+}
+
+// Whether e is one of m edges and has no mark.
+fn is_open(m: usize, e: usize, dead: &[u8]) -> bool
+    requires { ⌜ m ≤ length (now dead) ⌝ }
+    ensures { λ r. ⌜ Tells r (OpenAt m (now (dead .entry)) e) ⌝ }
+{
+    if e >= m {
+        return false;
+    }
+    if dead[e] != 0 {
+        return false;
+    }
+    true
 }
 
 // The edge by which v was found: one less than its mark; 65535 where there is none. A root's mark gives a number above every edge.
@@ -259,6 +290,16 @@ fn toggle(ends: &[u16], e: usize, x: u64, labels: &mut [u64], sums: &mut [u64])
     labels[e] = labels[e] ^ x;
     sums[l] = sums[l] ^ x;
     sums[r] = sums[r] ^ x;
+}
+
+// The number for an edge: none if it is marked, so that it counts at neither end.
+fn noise(mark: u8, e: usize) -> u64
+    ensures { λ r. ⌜ Silent mark r ⌝ }
+{
+    if mark != 0 {
+        return 0;
+    }
+    mix(e as u64)
 }
 
 // A number that looks random, the same for the same e: the labels are right whatever it is, and tell more apart the better it is mixed.

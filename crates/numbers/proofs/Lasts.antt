@@ -50,6 +50,13 @@ module _ {g : Graph} {t : Pointers} (tree : Tree g t) where
     handed = λ d h l. absurd (omega (arith, few d (h .vertex)));
   }
 
+  -- no vertex has the number k
+  pub lasts-skip : {k : ℕ} {last : ℕ → ℕ} → ((c : ℕ) → Vertex g c → t .rank c ≡ k → ⊥) → Lasts g t (k + 1) last → Lasts g t k last
+  lasts-skip none l = record {
+    some = l .some;
+    handed = λ d h b. l .handed d h (omega (arith, none d (h .vertex)));
+  }
+
   -- the vertex v with number k hands up its own
   pub lasts-step : {k v : ℕ} {last last' : ℕ → ℕ} → ((c : ℕ) → Vertex g c → t .rank c ≡ k → c ≡ v) → Child g t v → t .rank v ≡ k
       → Lasts g t (k + 1) last → RaisedTo (t .parent v) v last last' → Lasts g t k last'
@@ -96,6 +103,10 @@ module _ {g : Graph} {t : Pointers} (tree : Tree g t) where
   above-vertex : {c w : ℕ} → Above g t c w → Vertex g c → Vertex g w
   above-vertex same h = h
   above-vertex (higher c a) h = c .vertex
+
+  -- it is the number of a vertex
+  pub lasts-vertex : {k : ℕ} {last : ℕ → ℕ} → Lasts g t k last → (c : ℕ) → Vertex g c → (z : ℕ) × Vertex g z × (last c ≡ t .rank z)
+  lasts-vertex l c h = let (z, a, q) = l .some c h in (z, above-vertex a h, q)
 
   pub lasts-end : {last : ℕ → ℕ} → Together g t → Lasts g t 1 last → Preorder g t last
   lasts-end {last} together l = preorder-from together (l .some)

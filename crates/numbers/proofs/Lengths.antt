@@ -1,5 +1,6 @@
 -- No table changes its length.
 use mathlib.Core.Path.{_≡_, refl, _∙_}
+use mathlib.Core.Bool.{_||_}
 use mathlib.Core.List.{List}
 use Prim.Native.Nat.{ℕ, zero, suc, _+_, _-_, _/_}
 use lib.Dec.{eqb, ltb}
@@ -20,7 +21,7 @@ hand-long ends number over t x = cond-both (λ (l : List ℕ). length l ≡ leng
 
 pub own-long : (n : ℕ) (ends first number over : List ℕ) (e : ℕ) → length (ownAt n ends first number over e) ≡ length over
 unfolding ownAt
-own-long n ends first number over e = cond-both (λ (l : List ℕ). length l ≡ length over) (eqb (markOf n (length ends / 2) first (lowerEnd ends number e)) (e + 1))
+own-long n ends first number over e = let t = markOf n (length ends / 2) first (lowerEnd ends number e) in cond-both (λ (l : List ℕ). length l ≡ length over) (eqb t 0 || eqb t (e + 1))
     refl (hand-long ends number (set over e (e + 1)) (markOf n (length ends / 2) first (lowerEnd ends number e)) (e + 1) ∙ length-set over e (e + 1))
 
 pub raise-long : (last : List ℕ) (up v : ℕ) → length (raiseTo last up v) ≡ length last

@@ -26,6 +26,10 @@ pub data Entry (g : Graph) (t : Pointers) (c x : ℕ) : Type 0 where
   none : x ≡ 0 → Entry g t c x
   some : (f s w : ℕ) → x ≡ f + 1 → Near g t c f s w → Entry g t c x
 
+-- nothing stands at an entry that is no edge
+abbrev pub NoEdge : Graph → (ℕ → ℕ) → Type 0
+NoEdge g over = (e : ℕ) → e < g .size → (Edge g e → ⊥) → over e ≡ 0
+
 -- the edges that the code compares by the number of their upper end
 abbrev pub Levels : Graph → Pointers → (ℕ → ℕ) → Type 0
 Levels g t level = (f s w : ℕ) → Back g t f s w → level f ≡ t .rank s
@@ -57,22 +61,25 @@ pub record Owned (g : Graph) (t : Pointers) (level : ℕ → ℕ) (k : ℕ) (ove
   pub entry : (c : ℕ) → Child g t c → Entry g t c (over (t .first c))
   pub itself : (e s w : ℕ) → Back g t e s w → e < k → over e ≡ e + 1
   pub own : (e s w : ℕ) → Back g t e s w → e < k → NotLower level (over (t .first w)) (e + 1)
+  pub none : NoEdge g over
 
 module _ {g : Graph} {t : Pointers} {level : ℕ → ℕ} (tree : Tree g t) where
-  pub owned-start : {over : ℕ → ℕ} → ((e : ℕ) → Edge g e → over e ≡ 0) → Owned g t level 0 over
+  pub owned-start : {over : ℕ → ℕ} → ((e : ℕ) → e < g .size → over e ≡ 0) → Owned g t level 0 over
   owned-start blank = record {
-    entry = λ c h. none (blank (t .first c) (tree .joins c h .edge));
+    entry = λ c h. none (blank (t .first c) (tree .joins c h .edge .below));
     itself = λ e s w b l. absurd (omega arith);
     own = λ e s w b l. absurd (omega arith);
+    none = λ e l n. blank e l;
   }
 
   module _ {k : ℕ} {over : ℕ → ℕ} (o : Owned g t level k over) where
-    -- an edge of the tree
+    -- an edge of the tree, or none
     pub owned-other : ((s w : ℕ) → Back g t k s w → ⊥) → Owned g t level (k + 1) over
     owned-other f = record {
       entry = o .entry;
       itself = λ e s w b l. o .itself e s w b (before e s w b l);
       own = λ e s w b l. o .own e s w b (before e s w b l);
+      none = o .none;
     }
       where
         before : (e s w : ℕ) → Back g t e s w → e < k + 1 → e < k
@@ -123,7 +130,12 @@ module _ {g : Graph} {t : Pointers} {level : ℕ → ℕ} (tree : Tree g t) wher
       ]
 
       pub owned-step : ((e y z : ℕ) → Back g t e y z → Child g t z) → Owned g t level (k + 1) over'
-      owned-step child = record { entry = entry; itself = itself; own = λ e y z d l. own e y z (child e y z d) d l }
+      owned-step child = record {
+        entry = entry;
+        itself = itself;
+        own = λ e y z d l. own e y z (child e y z d) d l;
+        none = λ e l n. put' .away e (λ q. n (subst (Edge g) (sym q) (tree .joins w h .edge))) ∙ put .away e (λ q. n (subst (Edge g) (sym q) (b .joins .edge))) ∙ o .none e l n;
+      }
 
 -- The vertices, from the last to the first.
 
@@ -135,6 +147,7 @@ pub record Sofar (g : Graph) (t : Pointers) (level : ℕ → ℕ) (k : ℕ) (ove
   pub done : (c : ℕ) → Child g t c → k ≤ t .rank c → (1 ≤ over (t .first c)) × Highest g t c (over (t .first c) - 1)
   pub handed : (d : ℕ) → Child g t d → Child g t (t .parent d) → k ≤ t .rank d
       → NotLower level (over (t .first (t .parent d))) (over (t .first d))
+  pub none : NoEdge g over
 
 -- the upper end of the highest edge past the first edge of c is at most that of any other
 highest-level : {g : Graph} {t : Pointers} {level : ℕ → ℕ} {c f d s w : ℕ} → Tree g t → Levels g t level → Highest g t c f → Passing g t c d s w → level f ≤ t .rank s
@@ -153,6 +166,18 @@ module _ {g : Graph} {t : Pointers} {level : ℕ → ℕ} (tree : Tree g t) (thr
     own = λ e s w b. o .own e s w b (small e (b .joins .edge));
     done = λ c h l. absurd (omega (arith, few c (h .vertex)));
     handed = λ d h q l. absurd (omega (arith, few d (h .vertex)));
+    none = o .none;
+  }
+
+  -- no vertex has the number k
+  pub overs-skip : {k : ℕ} {over : ℕ → ℕ} → ((c : ℕ) → Vertex g c → t .rank c ≡ k → ⊥) → Sofar g t level (k + 1) over → Sofar g t level k over
+  overs-skip out l = record {
+    entry = l .entry;
+    itself = l .itself;
+    own = l .own;
+    done = λ c h b. l .done c h (omega (arith, out c (h .vertex)));
+    handed = λ d h q b. l .handed d h q (omega (arith, out d (h .vertex)));
+    none = l .none;
   }
 
   -- The vertex v, with number k, has its highest edge, and hands it to its parent.
@@ -203,6 +228,7 @@ module _ {g : Graph} {t : Pointers} {level : ℕ → ℕ} (tree : Tree g t) (thr
       own = l .own;
       done = now-done;
       handed = λ d hd hp b. l .handed d hd hp (larger t only (hd .vertex) b (λ r. hp .other (subst (λ (u : ℕ). t .parent u ≡ t .root) (sym r) q)));
+      none = l .none;
     }
 
     pub overs-some : 1 ≤ over (t .first v)
@@ -219,6 +245,7 @@ module _ {g : Graph} {t : Pointers} {level : ℕ → ℕ} (tree : Tree g t) (thr
       own = λ e s w b. improved (child e s w b) (e + 1) (l .own e s w b);
       done = λ c hc b. subst (λ (x : ℕ). (1 ≤ x) × Highest g t c (x - 1)) (sym (others hc (apart b))) (now-done c hc b);
       handed = handed;
+      none = λ e b n. put .away e (λ q. n (subst (Edge g) (sym q) (tree .joins (t .parent v) hp .edge))) ∙ l .none e b n;
     }
       where
         apart : {c : ℕ} → k ≤ t .rank c → c ≡ t .parent v → ⊥

@@ -8,7 +8,7 @@ use native.Mathlib.Decide.{decLe}
 use lib.Dec.{T, eqb, leb, ltb}
 use lib.ListN.{length, getD, set}
 use borrow.Author.Tests.{eq-eqb, ne-eqb, lt-ltb, le-ltb, le-leb, eqb-false, ltb-false}
-use Rattle.connectivity.specs.Plan.{Limits}
+use Rattle.connectivity.specs.Plan.{Plan, Limits}
 use Rattle.connectivity.proofs.Admission.{cond-both}
 use Rattle.graph.specs.Marks.{read}
 use Rattle.numbers.specs.Tables.{farEnd, lowerEnd, isNone, higherOf, markOf, handTo, ownAt, raiseTo, lowerLast, lowerOver, ownsTo, lastsDown, oversDown}
@@ -17,7 +17,7 @@ use Rattle.numbers.specs.Parts.{EndsBelow, Owning}
 -- Bounds.
 
 -- both ends of an edge have numbers
-pub ends-below : {most : Limits} {n : ℕ} {ends : List ℕ} {first number over : ℕ} → Owning most n ends first number over → EndsBelow ends number
+pub ends-below : {most : Limits} {p : Plan} {first number over : ℕ} → Owning most p first number over → EndsBelow (p .ends) number
 ends-below h e l = let f = h .admitted .fit e l in (omega (arith, f .left, h .numbers), omega (arith, f .right, h .numbers))
 
 -- there is such an edge
@@ -51,8 +51,8 @@ unfolding markOf
 mark-vertex n m first v some = elim (decLe n v) [ yes l ↦ absurd (some (rw (le-leb n v l))) | no k ↦ omega (arith, k) ]
 
 -- the other end of an edge is a vertex
-pub far-below : {most : Limits} {n : ℕ} {ends : List ℕ} {first number over : ℕ} → Owning most n ends first number over → (e v : ℕ) → e < length ends / 2 → farEnd ends e v < n
-far-below {most} {n} {ends} h e v l = cond-both (λ (x : ℕ). x < n) (eqb (getD ends (2 * e) 0) v) (h .admitted .fit e l .right) (h .admitted .fit e l .left)
+pub far-below : {most : Limits} {p : Plan} {first number over : ℕ} → Owning most p first number over → (e v : ℕ) → e < length (p .ends) / 2 → farEnd (p .ends) e v < p .vertices
+far-below {p = p} h e v l = cond-both (λ (x : ℕ). x < p .vertices) (eqb (getD (p .ends) (2 * e) 0) v) (h .admitted .fit e l .right) (h .admitted .fit e l .left)
 
 -- One place.
 
@@ -81,13 +81,17 @@ module _ (n : ℕ) (ends first : List ℕ) where
     mark-lower : markOf n (length ends / 2) first (lowerEnd ends number e) ≡ t
     mark-lower = sym (mark ∙ ap (markOf n (length ends / 2) first) lower)
 
-    pub own-other : (new : List ℕ) → (t ≡ e + 1 → ⊥) → new ≡ handTo ends number (set over e (e + 1)) t (e + 1) → new ≡ ownAt n ends first number over e
+    pub own-other : (new : List ℕ) → (t ≡ 0 → ⊥) → (t ≡ e + 1 → ⊥) → new ≡ handTo ends number (set over e (e + 1)) t (e + 1) → new ≡ ownAt n ends first number over e
     unfolding ownAt
-    own-other new other q = rw (mark-lower, ne-eqb t (e + 1) other) q
+    own-other new some other q = rw (mark-lower, ne-eqb t 0 some, ne-eqb t (e + 1) other) q
+
+    pub own-none : t ≡ 0 → over ≡ ownAt n ends first number over e
+    unfolding ownAt
+    own-none none = rw (mark-lower, eq-eqb t 0 none)
 
     pub own-first : t ≡ e + 1 → over ≡ ownAt n ends first number over e
     unfolding ownAt
-    own-first same = rw (mark-lower, eq-eqb t (e + 1) same)
+    own-first same = rw (mark-lower, ne-eqb t 0 (λ q. omega arith), eq-eqb t (e + 1) same)
 
   module _ (v t : ℕ) (mark : Mark t v) where
     pub last-none : (last : List ℕ) → t ≡ 0 → last ≡ lowerLast n ends first last v

@@ -40,11 +40,12 @@ markOf n m first v = cond (leb n v) 0 (cond (ltb m (read first v)) 0 (read first
 unfoldable pub handTo : List ℕ → List ℕ → List ℕ → ℕ → ℕ → List ℕ
 handTo ends number over t x = cond (eqb t 0) over (set over (t - 1) (higherOf ends number (read over (t - 1)) x))
 
--- an edge e that is not the first of its lower end stands for itself, and is handed to that first one
+-- an edge e that is not the first of its lower end stands for itself, and is handed to that first one; it stands for nothing where its lower
+-- end is a root
 unfoldable pub ownAt : ℕ → List ℕ → List ℕ → List ℕ → List ℕ → ℕ → List ℕ
 ownAt n ends first number over e =
     let t = markOf n (length ends / 2) first (lowerEnd ends number e) in
-    cond (eqb t (e + 1)) over (handTo ends number (set over e (e + 1)) t (e + 1))
+    cond (eqb t 0 || eqb t (e + 1)) over (handTo ends number (set over e (e + 1)) t (e + 1))
 
 -- what is last below v is below `up`, too
 unfoldable pub raiseTo : List ℕ → ℕ → ℕ → List ℕ

@@ -3,13 +3,13 @@ use crate::ends;
 ghost use mathlib.Core.Path.{_≡_};
 ghost use Prim.Native.Nat.{_-_, _/_, _≤_, _<_};
 ghost use lib.ListN.{length};
-ghost use Rattle.connectivity.specs.Plan.{limits};
+ghost use Rattle.connectivity.specs.Plan.{entire, limits};
 ghost use Rattle.numbers.specs.Tables.{handTo, ownAt, ownsTo, raiseTo, lowerLast, lowerOver, lastsDown, oversDown};
 ghost use Rattle.numbers.specs.Parts.{EndsBelow, Owning, Lowering};
 
 // Each edge that is not in the tree stands for itself, and for the first edge of its lower end if none there is higher.
 pub(crate) fn own_all(vertices: u16, ends: &[u16], first: &[u16], number: &[u16], over: &mut [u16])
-    requires { ⌜ Owning limits vertices (now ends) (length (now first)) (length (now number)) (length (now over)) ⌝ }
+    requires { ⌜ Owning limits (entire vertices (now ends)) (length (now first)) (length (now number)) (length (now over)) ⌝ }
     ensures { λ _. ⌜ now (over .exit) ≡ ownsTo vertices (now (ends .entry)) (now (first .entry)) (now (number .entry)) (now (over .entry)) (length (now (ends .entry)) / 2) ⌝ }
 {
     let edges = (ends.len() / 2) as u16;
@@ -20,16 +20,19 @@ pub(crate) fn own_all(vertices: u16, ends: &[u16], first: &[u16], number: &[u16]
     }
 }
 
-// The same of one edge: it is in the tree exactly where it is the first one of its lower end.
+// The same of one edge: it is in the tree exactly where it is the first one of its lower end. That may be an excluded vertex (02), a root; the
+// edge then stands for nothing.
 fn own_one(vertices: u16, ends: &[u16], first: &[u16], number: &[u16], e: u16, over: &mut [u16])
-    requires { ⌜ Owning limits vertices (now ends) (length (now first)) (length (now number)) (length (now over)) × (e < length (now ends) / 2) ⌝ }
+    requires { ⌜ Owning limits (entire vertices (now ends)) (length (now first)) (length (now number)) (length (now over)) × (e < length (now ends) / 2) ⌝ }
     ensures { λ _. ⌜ now (over .exit) ≡ ownAt vertices (now (ends .entry)) (now (first .entry)) (now (number .entry)) (now (over .entry)) e ⌝ }
 {
     let w = ends::lower(ends, number, e);
-    let t = ends::mark(vertices, ends.len() / 2, first, w);
-    if t != e + 1 {
-        over[e as usize] = e + 1;
-        hand(ends, number, t, e + 1, over);
+    let d = ends::mark(vertices, ends.len() / 2, first, w);
+    if d != 0 {
+        if d != e + 1 {
+            over[e as usize] = e + 1;
+            hand(ends, number, d, e + 1, over);
+        }
     }
 }
 
@@ -54,7 +57,7 @@ pub(crate) fn lower_all(
     last: &mut [u16],
     over: &mut [u16],
 )
-    requires { ⌜ Lowering limits vertices (now ends) (length (now first)) (length (now number)) (length (now last)) (length (now over)) × (vertices ≤ length (now order)) ⌝ }
+    requires { ⌜ Lowering limits (entire vertices (now ends)) (length (now first)) (length (now number)) (length (now last)) (length (now over)) × (vertices ≤ length (now order)) ⌝ }
     ensures { λ _. ⌜ (now (last .exit) ≡ lastsDown vertices (now (ends .entry)) (now (first .entry)) (now (order .entry)) (now (last .entry)) (vertices - 1)) × (now (over .exit) ≡ oversDown vertices (now (ends .entry)) (now (first .entry)) (now (order .entry)) (now (number .entry)) (now (over .entry)) (vertices - 1)) ⌝ }
 {
     let mut k = vertices;
@@ -74,7 +77,7 @@ fn lower_one(
     last: &mut [u16],
     over: &mut [u16],
 )
-    requires { ⌜ Lowering limits vertices (now ends) (length (now first)) (length (now number)) (length (now last)) (length (now over)) ⌝ }
+    requires { ⌜ Lowering limits (entire vertices (now ends)) (length (now first)) (length (now number)) (length (now last)) (length (now over)) ⌝ }
     ensures { λ _. ⌜ (now (last .exit) ≡ lowerLast vertices (now (ends .entry)) (now (first .entry)) (now (last .entry)) v) × (now (over .exit) ≡ lowerOver vertices (now (ends .entry)) (now (first .entry)) (now (number .entry)) (now (over .entry)) v) ⌝ }
 {
     let edges = ends.len() / 2;

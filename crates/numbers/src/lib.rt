@@ -4,7 +4,7 @@ ghost use mathlib.Core.Path.{_≡_};
 ghost use mathlib.Core.Bool.{not};
 ghost use Prim.Native.Nat.{_/_, _≤_};
 ghost use lib.ListN.{length};
-ghost use Rattle.connectivity.specs.Plan.{plan, limits};
+ghost use Rattle.connectivity.specs.Plan.{entire, limits};
 ghost use Rattle.graph.specs.Tells.{Tells};
 ghost use Rattle.numbers.specs.Tables.{numbersTo};
 ghost use Rattle.numbers.specs.Answered.{Filled, Looked};
@@ -16,8 +16,8 @@ mod ends; // ends.rt: the ends of edges by their numbers, and the marks of verti
 // The plan's own 1 to 5; 6 unless `first`, `order`, `number` and `last` have a place for each vertex and `over` one for each edge. Else `number`
 // gets the place of each vertex in the order. Where that and the marks in `first` are a depth-first tree, as a search leaves them, `last` gets the
 // last number at or below each vertex, and `over` for each edge one more than the edge that a Mader-path over it begins with: the edge
-// itself if it is not in the tree; else an edge from below it, not in the tree, whose upper end is highest. Where they are none, these two
-// are of no use.
+// itself if it is not in the tree; else an edge from below it, not in the tree, whose upper end is highest. Vertices that the search has left out (02:
+// slugs) stand behind the tree, each as a root: an edge whose lower end is a root has 0. Where there is no such tree, these two are of no use.
 pub fn look_below(
     vertices: u16,
     ends: &[u16],
@@ -27,7 +27,7 @@ pub fn look_below(
     last: &mut [u16],
     over: &mut [u16],
 ) -> Answer
-    ensures { λ r. ⌜ Looked limits (plan vertices (now (ends .entry))) (now (first .entry)) (now (order .entry)) (now (number .entry)) (now (last .entry)) (now (over .entry)) (now (number .exit)) (now (last .exit)) (now (over .exit)) r ⌝ }
+    ensures { λ r. ⌜ Looked limits (entire vertices (now (ends .entry))) (now (first .entry)) (now (order .entry)) (now (number .entry)) (now (last .entry)) (now (over .entry)) (now (number .exit)) (now (last .exit)) (now (over .exit)) r ⌝ }
 {
     let short = is_short(
         vertices as usize,
@@ -38,7 +38,8 @@ pub fn look_below(
         last.len(),
         over.len(),
     );
-    let answer = graph::refusal(vertices, ends, short);
+    let none = [0u16; 0];
+    let answer = graph::refusal(vertices, ends, &none, short);
     let refused = answer.number;
     if refused == 0 {
         fill(vertices, ends, first, order, number, last, over);
@@ -86,8 +87,8 @@ fn fill(
     last: &mut [u16],
     over: &mut [u16],
 )
-    requires { ⌜ Fit limits vertices (now ends) (length (now first)) (length (now order)) (length (now number)) (length (now last)) (length (now over)) ⌝ }
-    ensures { λ _. ⌜ Filled (plan vertices (now (ends .entry))) (now (first .entry)) (now (order .entry)) (now (number .entry)) (now (last .entry)) (now (over .entry)) (now (number .exit)) (now (last .exit)) (now (over .exit)) ⌝ }
+    requires { ⌜ Fit limits (entire vertices (now ends)) (length (now first)) (length (now order)) (length (now number)) (length (now last)) (length (now over)) ⌝ }
+    ensures { λ _. ⌜ Filled (entire vertices (now (ends .entry))) (now (first .entry)) (now (order .entry)) (now (number .entry)) (now (last .entry)) (now (over .entry)) (now (number .exit)) (now (last .exit)) (now (over .exit)) ⌝ }
 {
     number_all(vertices, order, number, last);
     incidence::clear(ends.len() / 2, over);

@@ -3,16 +3,18 @@
 use mathlib.Core.Path.{_≡_, refl, sym, subst}
 use mathlib.Core.Logic.{_⊎_, inl, inr}
 use mathlib.Core.List.{List, List·Memᴰ as In}
-use Prim.Native.Nat.{ℕ, suc, _+_, _*_, _-_, _≤_, _<_}
+use Prim.Native.Nat.{ℕ, suc, _+_, _*_, _-_, _/_, _≤_, _<_}
 use native.Mathlib.Omega.{arith}
 use native.Mathlib.Decide.{ℕ-discrete, decLe, decLt}
 use lib.ListN.{length}
-use Rattle.connectivity.specs.Plan.{plan, graph, Limits}
+use Rattle.connectivity.specs.Plan.{plan, entire, graph, Limits}
 use Rattle.connectivity.specs.Graph.{Graph, Edge, Joins}
 use Rattle.connectivity.specs.Walk.{Leg, allEdges, Built, Branch}
 use Rattle.connectivity.proofs.Lists.{in-dec}
 use Rattle.connectivity.proofs.Reach.{joins-sym, joins-vertex}
 use Rattle.connectivity.proofs.Degree.{hits-from, in-degree}
+use Rattle.connectivity.proofs.Build.{edges-count}
+use Rattle.connectivity.proofs.Kept.{vertex-size, bound-is}
 use Rattle.tree.specs.Tree.{Pointers, Back, Climb, Tree}
 use Rattle.tree.specs.Filed.{Tips}
 use Rattle.tree.specs.Links.{gone, tipped}
@@ -23,22 +25,22 @@ use Rattle.tree.proofs.Stuck.{exit-passes}
 use Rattle.tree.proofs.Shelving.{filed-built}
 use Rattle.tree.proofs.NewLink.{links-most}
 use Rattle.graph.specs.Marks.{read}
-use Rattle.graph.proofs.Joined.{bound-is, vertex-below, joins-edge, joins-below}
+use Rattle.graph.proofs.Joined.{joins-below, joins-edge}
 use Rattle.numbers.specs.Standing.{treeOf}
 use Rattle.record.specs.Linking.{topOf, bottomOf}
 use Rattle.record.specs.Leaving.{Leaving, Exit}
 use Rattle.record.specs.Cursors.{NextLink, Ahead, Opening, Opened}
 use Rattle.record.specs.Recording.{Chosen, Behind, Nexting}
-use Rattle.record.proofs.Counting.{done-every}
+use Rattle.record.proofs.Listing.{edge-joins, over-edge}
 
 -- over an edge at a vertex, where every climb makes a Mader-path
 module _ {most : Limits} {ends incident begins first order number last places below tips over : List ℕ} {next empty at slot : ℕ}
     (c : Nexting most ends incident begins first order number last places below tips over next empty at slot) where
   abbrev pub g : Graph
-  g = graph (plan (c .n) ends)
+  g = graph (plan (c .n) ends (c .excluded))
 
   abbrev pub t : Pointers
-  t = treeOf (c .n) ends (read order 0) first (read number)
+  t = treeOf (plan (c .n) ends (c .excluded)) (read order 0) first (read number)
 
   abbrev pub built : List ℕ
   built = allEdges (c .walks)
@@ -47,7 +49,7 @@ module _ {most : Limits} {ends incident begins first order number last places be
   tree = c .ground .rooted .tree
 
   pub tips-room : 2 * next ≤ length tips
-  tips-room = omega (arith, links-most (c .holds .links), bound-is (c .n) ends, c .holds .roomy .tips-long)
+  tips-room = omega (arith, links-most (c .holds .links), bound-is (plan (c .n) ends (c .excluded)), c .holds .roomy .tips-long)
 
   pub next-large : empty ≤ next
   next-large = c .behind .most
@@ -124,6 +126,7 @@ module _ {most : Limits} {ends incident begins first order number last places be
       abbrev pub leaving : Leaving most ends incident begins first number last places below over (topOf tips m - 1) (bottomOf tips m - 1)
       leaving = record {
         n = c .n;
+        excluded = c .excluded;
         root = read order 0;
         whole = c .whole;
         ground = c .ground;
@@ -168,14 +171,14 @@ module _ {most : Limits} {ends incident begins first order number last places be
 
       -- an edge is left, and it is ahead
       pub some-left : ((i k : ℕ) → Ahead (read order) (read begins) at slot (c .n) i k → read over (read incident k) ≡ 0) → ⊥
-      some-left f = omega (arith, c .left, done-every (c .ground .rooted .admitted) (c .holds .state .along .steps) (c .holds .state .along .once) each)
+      some-left f = omega (arith, c .left, edges-count (c .holds .state .along .steps) (c .holds .state .along .once) each)
         where
           each : (e : ℕ) → Edge g e → In e built
           each e h =
               let v = g .left e in
               let j : Joins g e v (g .right e) = record { edge = h; ends = inl (refl, refl) } in
-              let below : v < c .n = joins-below (c .n) ends e (g .right e) v (joins-sym j) in
-              let (k, a, b, p) = c .ground .grouped .listed e v (g .right e) j in
+              let below : v < c .n = joins-below (plan (c .n) ends (c .excluded)) (joins-sym j) in
+              let (k, a, b, p) = c .ground .grouped .place e v (g .right e) j in
               let (q, r) = c .listing .placed v below in
               let s = subst (λ (x : ℕ). read begins x ≤ k) (sym r) a in
               let u = subst (λ (x : ℕ). k < read begins (x + 1)) (sym r) b in
@@ -183,8 +186,7 @@ module _ {most : Limits} {ends incident begins first order number last places be
 
       abbrev pub opening : Opening most incident begins order over at slot
       opening = record {
-        n = c .n;
-        ends = ends;
+        p = plan (c .n) ends (c .excluded);
         admitted = c .ground .rooted .admitted;
         grouped = c .ground .grouped;
         valid = λ k h. c .listing .at k h .0;
@@ -209,8 +211,18 @@ module _ {most : Limits} {ends incident begins first order number last places be
         at-vertex : read order at' < c .n
         at-vertex = c .listing .at at' (o .here .most) .0
 
+        slot-listed : (u : ℕ) × Joins (graph (entire (c .n) ends)) (read incident slot') (read order at') u
+        slot-listed = c .ground .grouped .joins (read order at') slot' at-vertex (o .here .from) (o .here .to)
+
+        slot-below : read incident slot' < length ends / 2
+        slot-below = joins-edge (entire (c .n) ends) (slot-listed .1)
+
+        as-first : read over (read incident slot') ≡ c .whole (read incident slot')
+        as-first = c .holds .uses .off (read incident slot') (new-edge (o .new))
+
+        -- it is not built, and so an edge
         pub slot-joins : (u : ℕ) × Joins g (read incident slot') (read order at') u
-        slot-joins = c .ground .grouped .joins (read order at') slot' at-vertex (o .here .from) (o .here .to)
+        slot-joins = let (u, j) = slot-listed in (u, edge-joins (plan (c .n) ends (c .excluded)) j (over-edge (plan (c .n) ends (c .excluded)) (c .ground .beneath) slot-below (omega (arith, o .new, as-first))))
 
         -- the edges of its parent are built, and so its first edge is
         at-built : Built g built (read order at')
@@ -219,8 +231,8 @@ module _ {most : Limits} {ends incident begins first order number last places be
           | inr h ↦
               let v = read order at' in
               let up = parent-vertex tree h in
-              let (q, r) = c .listing .placed (t .parent v) (vertex-below (c .n) ends (t .parent v) up) in
-              let (k, a, b, p) = c .ground .grouped .listed (t .first v) (t .parent v) v (joins-sym (tree .joins v h)) in
+              let (q, r) = c .listing .placed (t .parent v) (vertex-size (plan (c .n) ends (c .excluded)) up) in
+              let (k, a, b, p) = c .ground .grouped .place (t .first v) (t .parent v) v (joins-sym (tree .joins v h)) in
               let less : read number (t .parent v) < at' = omega (arith, tree .falls v h, c .listing .at at' (o .here .most) .1) in
               let mark = passed (read number (t .parent v)) k less (subst (λ (x : ℕ). read begins x ≤ k) (sym r) a) (subst (λ (x : ℕ). k < read begins (x + 1)) (sym r) b) in
               in-degree g v (built-edge (tree .joins v h .edge) (subst (λ (x : ℕ). read over x ≡ 0) p mark)) (hits-from (tree .joins v h))
@@ -230,16 +242,15 @@ module _ {most : Limits} {ends incident begins first order number last places be
         slot-room = omega (arith, o .here .to, c .ground .grouped .inside (read order at') at-vertex, c .ground .grouped .long)
 
         pub over-room : read incident slot' < length over
-        over-room = omega (arith, joins-edge (c .n) ends (read incident slot') (read order at') (slot-joins .0) (slot-joins .1), c .holds .over-long)
+        over-room = omega (arith, slot-below, c .holds .over-long)
 
         pub slot-small : read incident slot' < most .edges
-        slot-small = omega (arith, joins-edge (c .n) ends (read incident slot') (read order at') (slot-joins .0) (slot-joins .1), c .ground .rooted .admitted .edges)
+        slot-small = omega (arith, slot-below, c .ground .rooted .admitted .edges)
 
         pub opened-chosen : Chosen g t built (read over (read incident slot') - 1)
         opened-chosen =
             let (u, j) = slot-joins in
             let n = new-edge (o .new) in
-            let as-first = c .holds .uses .off (read incident slot') n in
             let (s, w, b) = over-back tree (c .ground .beneath .overs) j in
             let (rest, y, k) = climb-built tree (c .holds .state .along .held) (joins-vertex (joins-sym (b .joins))) in
             subst (λ (d : ℕ). Chosen g t built (d - 1)) (sym as-first) (record {

@@ -1,21 +1,18 @@
--- How many edges the steps so far have built: at most those of the plan, and all of them where there are as many.
-use mathlib.Core.Path.{_≡_, sym, _∙_, refl}
+-- How many edges the steps so far have built.
+use mathlib.Core.Path.{refl}
 use mathlib.Core.Logic.{inl, inr}
 use mathlib.Core.List.{List, [], _∷_, List·Memᴰ as In, List·Memᴰ·head as first, List·Memᴰ·tail as later}
-use Prim.Native.Nat.{ℕ, _/_, _≤_}
+use Prim.Native.Nat.{ℕ, _≤_}
 use native.Mathlib.Omega.{arith}
 use lib.ListN.{length, length-append}
 use Rattle.connectivity.specs.Lists.{Distinct}
-use Rattle.connectivity.specs.Plan.{plan, graph, Limits}
-use Rattle.connectivity.specs.Graph.{Graph, Edge, edges}
+use Rattle.connectivity.specs.Graph.{Graph, edges}
 use Rattle.connectivity.specs.Walk.{Leg, Walk, last, then, edgesOf, allEdges}
 use Rattle.connectivity.specs.Mader.{Steps, theta, mader}
-use Rattle.connectivity.specs.Admission.{Admitted}
 use Rattle.connectivity.proofs.Search.{edges-are}
 use Rattle.connectivity.proofs.Degree.{part-length}
 use Rattle.connectivity.proofs.Legs.{legs-edges}
-use Rattle.connectivity.proofs.Build.{steps-edges, all-edges, edges-count}
-use Rattle.connectivity.proofs.Admission.{admitted-edges}
+use Rattle.connectivity.proofs.Build.{steps-edges}
 
 -- Each step has an edge, so there are no more steps than edges.
 
@@ -31,17 +28,7 @@ pub steps-most : {g : Graph} {walks : List (List Leg)} → Steps g walks → len
 steps-most (theta {walks = walks} t) = walks-most walks (λ legs i. elim (t .between legs i) [ inl k ↦ walk-some k | inr k ↦ walk-some k ])
 steps-most (mader {walks = walks} {legs = legs} p k) = omega (arith, steps-most p, walk-some (k .walk), legs-edges legs, length-append (edgesOf legs) (allEdges walks))
 
-module _ {most : Limits} {n : ℕ} {ends : List ℕ} (a : Admitted most (plan n ends)) {walks : List (List Leg)} (p : Steps (graph (plan n ends)) walks) (d : Distinct (allEdges walks)) where
-  abbrev g : Graph
-  g = graph (plan n ends)
+-- They are at most as many as the graph has.
 
-  pub done-most : length (allEdges walks) ≤ length ends / 2
-  done-most = omega (arith, part-length g (allEdges walks) (edges g) d (λ e i. edges-are g e .1 (steps-edges p i)), admitted-edges a)
-
-  -- where there are as many as the graph has, each is among them
-  pub done-all : length (allEdges walks) ≡ length ends / 2 → (e : ℕ) → Edge g e → In e (allEdges walks)
-  done-all q = all-edges p d (q ∙ sym (admitted-edges a))
-
-  -- and where each is among them, there are as many
-  pub done-every : ((e : ℕ) → Edge g e → In e (allEdges walks)) → length ends / 2 ≤ length (allEdges walks)
-  done-every f = omega (arith, admitted-edges a, edges-count p d f)
+pub done-most : {g : Graph} {walks : List (List Leg)} → Steps g walks → Distinct (allEdges walks) → length (allEdges walks) ≤ length (edges g)
+done-most {g} {walks} s d = part-length g (allEdges walks) (edges g) d (λ e i. edges-are g e .1 (steps-edges s i))

@@ -6,19 +6,21 @@ use Prim.Native.Nat.{ℕ, _+_, _/_, _≤_, _<_}
 use native.Mathlib.Omega.{arith}
 use native.Mathlib.Decide.{ℕ-discrete, decLt}
 use lib.ListN.{length}
-use Rattle.connectivity.specs.Plan.{plan, graph, Limits}
-use Rattle.connectivity.specs.Graph.{Graph, Joins}
-use Rattle.connectivity.proofs.Admission.{admitted-vertex}
+use Rattle.connectivity.specs.Plan.{Plan, entire, graph, listed, Limits}
+use Rattle.connectivity.specs.Graph.{Graph, Vertex, Joins}
+use Rattle.connectivity.proofs.Reach.{joins-sym, joins-vertex}
+use Rattle.connectivity.proofs.Kept.{vertex-size}
 use Rattle.tree.specs.Tree.{Pointers, Child, Passing}
 use Rattle.tree.proofs.Above.{root-above, parent-vertex, tree-cases}
 use Rattle.tree.proofs.Passing.{one-passing, two-passing, passing-root}
 use Rattle.graph.specs.Marks.{read}
-use Rattle.graph.proofs.Joined.{vertex-below, joins-below, joins-edge}
+use Rattle.graph.proofs.Joined.{joins-below, joins-edge}
 use Rattle.numbers.specs.Tables.{farEnd}
 use Rattle.numbers.specs.Standing.{Listed, treeOf}
 use Rattle.record.specs.Standing.{Ground}
 use Rattle.record.specs.Opening.{Door, DoorFits, DoorAt, Doors, NextDoor}
 use Rattle.numbers.proofs.Marking.{far-end, joins-differ}
+use Rattle.record.proofs.Listing.{kept-joins, number-vertex, place-vertex}
 
 -- From place to place.
 
@@ -44,15 +46,15 @@ module _ {most : Limits} {ends incident first number : List ℕ} {end r from k :
   pub place-fits : k < length incident
   place-fits = omega (arith, place-below, c .grouped .long)
 
-  leads : (u : ℕ) × Joins (graph (plan (c .n) ends)) (read incident k) r u
+  leads : (u : ℕ) × Joins (graph (entire (c .n) ends)) (read incident k) r u
   leads = c .grouped .joins r k (c .vertex) (omega (arith, c .start, p .least)) passed-below
 
   pub edge-fits : read incident k < length ends / 2
-  edge-fits = joins-edge (c .n) ends _ r (leads .0) (leads .1)
+  edge-fits = joins-edge (entire (c .n) ends) (leads .1)
 
   pub door-fits : DoorFits most (read incident k) (farEnd ends (read incident k) r) (length first) (length number)
   door-fits =
-      let b : farEnd ends (read incident k) r < c .n = subst (λ (u : ℕ). u < c .n) (sym (far-end (c .n) ends _ r _ (leads .1))) (joins-below (c .n) ends _ r _ (leads .1)) in
+      let b : farEnd ends (read incident k) r < c .n = subst (λ (u : ℕ). u < c .n) (sym (far-end (entire (c .n) ends) (leads .1))) (joins-below (entire (c .n) ends) (leads .1)) in
       record {
         edge = omega (arith, edge-fits, c .admitted .edges);
         marked = omega (arith, b, c .first-long);
@@ -74,62 +76,64 @@ passed-step {ends} {incident} {first} {number} {end} {r} {from} {k} p n = record
 
 -- The first child of the root, and the edges that lead past its first edge.
 
-module _ {most : Limits} {n root : ℕ} {ends incident begins first order number last : List ℕ} {over : ℕ → ℕ} (s : Ground most n root ends incident begins first number last over)
-    (l : Listed n root order number) where
+module _ {most : Limits} {p : Plan} {root : ℕ} {incident begins first order number last : List ℕ} {over : ℕ → ℕ} (s : Ground most p root incident begins first number last over)
+    (l : Listed p root order number) where
   abbrev g : Graph
-  g = graph (plan n ends)
+  g = graph p
 
   abbrev t : Pointers
-  t = treeOf n ends root first (read number)
+  t = treeOf p root first (read number)
 
   abbrev pub eldest : ℕ
   eldest = read order 1
 
-  pub eldest-below : eldest < n
+  pub eldest-below : eldest < p .vertices
   eldest-below = l .at 1 (omega (arith, s .rooted .admitted .two)) .0
 
   eldest-number : read number eldest ≡ 1
   eldest-number = l .at 1 (omega (arith, s .rooted .admitted .two)) .1
 
-  pub root-below : root < n
-  root-below = vertex-below n ends root (s .rooted .tree .start)
+  pub root-below : root < p .vertices
+  root-below = vertex-size p (s .rooted .tree .start)
 
   root-number : read number root ≡ 0
   root-number = ap (read number) (sym (l .top)) ∙ l .at 0 (omega (arith, s .rooted .admitted .two)) .1
 
   -- only the root has the number 0
-  first-number : {v : ℕ} → v < n → read number v ≡ 0 → v ≡ root
-  first-number {v} h p = sym (l .placed v h .1) ∙ ap (read order) p ∙ l .top
+  first-number : {v : ℕ} → v < p .vertices → read number v ≡ 0 → v ≡ root
+  first-number {v} h eq = sym (l .placed v h .1) ∙ ap (read order) eq ∙ l .top
 
   pub eldest-child : Child g t eldest
   eldest-child = record {
-    vertex = admitted-vertex (s .rooted .admitted) eldest eldest-below;
-    other = λ p. omega (arith, eldest-number, root-number, ap (read number) p);
+    vertex = place-vertex (s .rooted .admitted) l 1 (omega (arith, s .rooted .admitted .remain));
+    other = λ eq. omega (arith, eldest-number, root-number, ap (read number) eq);
   }
 
   pub eldest-parent : t .parent eldest ≡ root
-  eldest-parent = first-number (vertex-below n ends _ (parent-vertex (s .rooted .tree) eldest-child))
+  eldest-parent = first-number (vertex-size p (parent-vertex (s .rooted .tree) eldest-child))
       (omega (arith, s .rooted .tree .falls eldest eldest-child, eldest-number))
 
   module _ (k : ℕ) (from : read begins root ≤ k) (to : k < read begins (root + 1)) where
     -- a door leads past the first edge of the first child
-    pub door-passing : DoorAt ends incident first number (read last eldest) root k → Passing g t eldest (read incident k) root (farEnd ends (read incident k) root)
+    pub door-passing : DoorAt (p .ends) incident first number (read last eldest) root k → Passing g t eldest (read incident k) root (farEnd (p .ends) (read incident k) root)
     door-passing d =
         let (u, j) = s .grouped .joins root k root-below from to in
-        let p = far-end n ends (read incident k) root u j in
-        subst (λ (w : ℕ). Passing g t eldest (read incident k) root w) (sym p) (passing u j (subst (Door (read first) (read number) (read last eldest) (read incident k)) p d))
+        let eq = far-end (entire (p .vertices) (p .ends)) j in
+        subst (λ (w : ℕ). Passing g t eldest (read incident k) root w) (sym eq) (passing u j (subst (Door (read first) (read number) (read last eldest) (read incident k)) eq d))
       where
-        passing : (u : ℕ) → Joins g (read incident k) root u → Door (read first) (read number) (read last eldest) (read incident k) u → Passing g t eldest (read incident k) root u
-        passing u j d =
-            let below : u < n = joins-below n ends _ root u j in
-            let v = admitted-vertex (s .rooted .admitted) u below in
+        -- its number is at most that of a vertex
+        passing : (u : ℕ) → Joins (listed p) (read incident k) root u → Door (read first) (read number) (read last eldest) (read incident k) u → Passing g t eldest (read incident k) root u
+        passing u i d =
+            let below : u < p .vertices = joins-below (entire (p .vertices) (p .ends)) i in
+            let v : Vertex g u = number-vertex l below (omega (arith, d .low, s .beneath .lasts eldest (eldest-child .vertex))) in
+            let j = kept-joins p i (s .rooted .tree .start) v in
             record {
               back = record {
                 joins = j;
                 above = root-above (s .rooted .tree) v;
                 off = elim (tree-cases (s .rooted .tree) j) [
-                  | inl (inl (c, p)) ↦ absurd (c .other refl)
-                  | inl (inr (c, p)) ↦ absurd (d .off (omega (arith, p, s .rooted .marked u c)))
+                  | inl (inl (c, eq)) ↦ absurd (c .other refl)
+                  | inl (inr (c, eq)) ↦ absurd (d .off (omega (arith, eq, s .rooted .marked u c)))
                   | inr off ↦ off
                 ];
               };
@@ -137,24 +141,24 @@ module _ {most : Limits} {n root : ℕ} {ends incident begins first order number
               above = root-above (s .rooted .tree) (parent-vertex (s .rooted .tree) eldest-child);
             }
           where
-            positive : (u : ℕ) → u < n → Joins g (read incident k) root u → read number eldest ≤ read number u
+            positive : (u : ℕ) → u < p .vertices → Joins g (read incident k) root u → read number eldest ≤ read number u
             positive u h j = elim (ℕ-discrete (read number u) 0) [
-              | yes p ↦ absurd (joins-differ n root ends first number (s .rooted) j (sym (first-number h p)))
-              | no p ↦ omega (arith, p, eldest-number)
+              | yes eq ↦ absurd (joins-differ (s .rooted) j (sym (first-number h eq)))
+              | no eq ↦ omega (arith, eq, eldest-number)
             ]
 
   -- what leads past it is a door
   pub passing-door : {e y w : ℕ} → Passing g t eldest e y w
-      → (k : ℕ) × (read begins root ≤ k) × (k < read begins (root + 1)) × (read incident k ≡ e) × DoorAt ends incident first number (read last eldest) root k
+      → (k : ℕ) × (read begins root ≤ k) × (k < read begins (root + 1)) × (read incident k ≡ e) × DoorAt (p .ends) incident first number (read last eldest) root k
   passing-door {e} {y} {w} q =
       let j : Joins g e root w = subst (λ (z : ℕ). Joins g e z w) (passing-root (s .rooted .tree) eldest-parent q) (q .back .joins) in
-      let (k, a, b, p) = s .grouped .listed e root w j in (
+      let (k, a, b, eq) = s .grouped .place e root w j in (
         k,
         a,
         b,
-        p,
-        subst (λ (d : ℕ). Door (read first) (read number) (read last eldest) d (farEnd ends d root)) (sym p)
-            (subst (Door (read first) (read number) (read last eldest) e) (sym (far-end n ends e root w j)) (record {
+        eq,
+        subst (λ (d : ℕ). Door (read first) (read number) (read last eldest) d (farEnd (p .ends) d root)) (sym eq)
+            (subst (Door (read first) (read number) (read last eldest) e) (sym (far-end p j)) (record {
               off = λ m. q .back .off w (is-child j) (omega (arith, m));
               low = s .beneath .preorder .within eldest w (q .below) (eldest-child .vertex);
             })),
@@ -162,15 +166,16 @@ module _ {most : Limits} {n root : ℕ} {ends incident begins first order number
     where
       is-child : Joins g e root w → Child g t w
       is-child j = record {
-        vertex = admitted-vertex (s .rooted .admitted) w (joins-below n ends e root w j);
-        other = λ p. joins-differ n root ends first number (s .rooted) j (sym p);
+        vertex = joins-vertex (joins-sym j);
+        other = λ eq. joins-differ (s .rooted) j (sym eq);
       }
 
   abbrev doors : {from : ℕ} → read begins root ≤ from
-      → (((k : ℕ) → from ≤ k → k < read begins (root + 1) → DoorAt ends incident first number (read last eldest) root k → ⊥) → ⊥)
-      → Doors most ends incident first number (read last eldest) root from
+      → (((k : ℕ) → from ≤ k → k < read begins (root + 1) → DoorAt (p .ends) incident first number (read last eldest) root k → ⊥) → ⊥)
+      → Doors most (p .ends) incident first number (read last eldest) root from
   doors h some = record {
-    n = n;
+    n = p .vertices;
+    excluded = p .excluded;
     begins = begins;
     admitted = s .rooted .admitted;
     grouped = s .grouped;
@@ -182,32 +187,32 @@ module _ {most : Limits} {n root : ℕ} {ends incident begins first order number
   }
 
   -- there is one
-  abbrev pub some-door : Doors most ends incident first number (read last eldest) root (read begins root)
-  some-door = doors (omega arith) (λ f. one-passing (s .rooted .tree) (s .three) eldest-child (λ e y w q. let (k, a, b, p, d) = passing-door q in f k a b d))
+  abbrev pub some-door : Doors most (p .ends) incident first number (read last eldest) root (read begins root)
+  some-door = doors (omega arith) (λ f. one-passing (s .rooted .tree) (s .three) eldest-child (λ e y w q. let (k, a, b, eq, d) = passing-door q in f k a b d))
 
-  module _ {i : ℕ} (o : NextDoor ends incident begins first number (read last eldest) root (read begins root) i) where
+  module _ {i : ℕ} (o : NextDoor (p .ends) incident begins first number (read last eldest) root (read begins root) i) where
     -- were there no other, each would be it
-    pub only-door : ((k : ℕ) → i + 1 ≤ k → k < read begins (root + 1) → DoorAt ends incident first number (read last eldest) root k → ⊥)
+    pub only-door : ((k : ℕ) → i + 1 ≤ k → k < read begins (root + 1) → DoorAt (p .ends) incident first number (read last eldest) root k → ⊥)
         → {e y w : ℕ} → Passing g t eldest e y w → e ≡ read incident i
-    only-door f q = let (k, a, b, p, d) = passing-door q in elim (decLt k i) [
+    only-door f q = let (k, a, b, eq, d) = passing-door q in elim (decLt k i) [
       | yes h ↦ absurd (o .before k a h d)
-      | no h ↦ elim (decLt i k) [ yes m ↦ absurd (f k (omega (arith, m)) b d) | no m ↦ sym p ∙ ap (read incident) (same k h m) ]
+      | no h ↦ elim (decLt i k) [ yes m ↦ absurd (f k (omega (arith, m)) b d) | no m ↦ sym eq ∙ ap (read incident) (same k h m) ]
     ]
       where
         same : (k : ℕ) → (k < i → ⊥) → (i < k → ⊥) → k ≡ i
         same k h m = omega (arith, h, m)
 
     -- there is another behind it
-    abbrev pub other-door : Doors most ends incident first number (read last eldest) root (i + 1)
+    abbrev pub other-door : Doors most (p .ends) incident first number (read last eldest) root (i + 1)
     other-door = doors (omega (arith, o .least))
         (λ f. two-passing (s .rooted .tree) (s .three) eldest-child (λ d e y w v z q r. only-door f q ∙ sym (only-door f r)))
 
-    module _ {k : ℕ} (h : NextDoor ends incident begins first number (read last eldest) root (i + 1) k) where
+    module _ {k : ℕ} (h : NextDoor (p .ends) incident begins first number (read last eldest) root (i + 1) k) where
       pub doors-differ : read incident i ≡ read incident k → ⊥
       doors-differ = s .grouped .once root i k root-below (o .least) (omega (arith, h .least)) (h .most)
 
-      pub one-leads : Passing g t eldest (read incident i) root (farEnd ends (read incident i) root)
+      pub one-leads : Passing g t eldest (read incident i) root (farEnd (p .ends) (read incident i) root)
       one-leads = door-passing i (o .least) (o .most) (o .door)
 
-      pub other-leads : Passing g t eldest (read incident k) root (farEnd ends (read incident k) root)
+      pub other-leads : Passing g t eldest (read incident k) root (farEnd (p .ends) (read incident k) root)
       other-leads = door-passing k (omega (arith, o .least, h .least)) (h .most) (h .door)

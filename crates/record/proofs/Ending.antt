@@ -4,7 +4,7 @@ use mathlib.Core.List.{List}
 use Prim.Native.Nat.{ℕ, _≤_}
 use native.Mathlib.Omega.{arith}
 use lib.ListN.{length}
-use Rattle.connectivity.specs.Plan.{plan, graph, Limits}
+use Rattle.connectivity.specs.Plan.{Plan, plan, graph, Limits}
 use Rattle.connectivity.specs.Graph.{Graph}
 use Rattle.tree.specs.Tree.{Pointers, Tree}
 use Rattle.tree.specs.Filed.{Belows}
@@ -15,16 +15,16 @@ use Rattle.numbers.specs.Standing.{treeOf}
 use Rattle.record.specs.Linking.{topOf, bottomOf, Filing, Splitting, Parted, Ending, BothParted}
 
 -- a vertex has become a branch
-pub filing-parted : {most : Limits} {n root : ℕ} {ends first : List ℕ} {rank : ℕ → ℕ} {below places tips : List ℕ} (places' tips' : List ℕ) {v next next' : ℕ}
-    → Filing most n root ends first rank below places tips next → 1 ≤ read places v
-    → Parted (graph (plan n ends)) (treeOf n ends root first rank) v next (read places) (read places') (topOf tips') (bottomOf tips') next'
+pub filing-parted : {most : Limits} {p : Plan} {root : ℕ} {first : List ℕ} {rank : ℕ → ℕ} {below places tips : List ℕ} (places' tips' : List ℕ) {v next next' : ℕ}
+    → Filing most p root first rank below places tips next → 1 ≤ read places v
+    → Parted (graph p) (treeOf p root first rank) v next (read places) (read places') (topOf tips') (bottomOf tips') next'
     → length places' ≡ length places → length tips' ≡ length tips
-    → Filing most n root ends first rank below places' tips' next'
-filing-parted places' tips' f h p a b = record {
+    → Filing most p root first rank below places' tips' next'
+filing-parted places' tips' f h q a b = record {
   rooted = f .rooted;
-  shelved = marked-shelved (f .rooted .tree) (f .shelved) h (p .marked);
-  belows = marked-belows (f .rooted .tree) (f .shelved) h (p .marked) (f .belows);
-  links = p .links;
+  shelved = marked-shelved (f .rooted .tree) (f .shelved) h (q .marked);
+  belows = marked-belows (f .rooted .tree) (f .shelved) h (q .marked) (f .belows);
+  links = q .links;
   roomy = record {
     below-long = f .roomy .below-long;
     places-long = omega (arith, a, f .roomy .places-long);
@@ -56,19 +56,19 @@ module _ {g : Graph} {t : Pointers} {v w next next' : ℕ} {place place' top' bo
   pub both-belows : {below : ℕ → ℕ} → Belows g t (λ y. 1 ≤ place y) place below → Belows g t (λ y. 1 ≤ place' y) place' below
   both-belows h = marked-belows tree middle-shelved (middle-on hw) (b .marked-two) (marked-belows tree f hv (b .marked-one) h)
 
-pub filing-both : {most : Limits} {n root : ℕ} {ends first : List ℕ} {rank : ℕ → ℕ} {below places tips : List ℕ} (places' tips' : List ℕ) {v w next next' : ℕ}
-    → Filing most n root ends first rank below places tips next → 1 ≤ read places v → 1 ≤ read places w
-    → BothParted (graph (plan n ends)) (treeOf n ends root first rank) v w next (read places) (read places') (topOf tips') (bottomOf tips') next'
+pub filing-both : {most : Limits} {p : Plan} {root : ℕ} {first : List ℕ} {rank : ℕ → ℕ} {below places tips : List ℕ} (places' tips' : List ℕ) {v w next next' : ℕ}
+    → Filing most p root first rank below places tips next → 1 ≤ read places v → 1 ≤ read places w
+    → BothParted (graph p) (treeOf p root first rank) v w next (read places) (read places') (topOf tips') (bottomOf tips') next'
     → length places' ≡ length places → length tips' ≡ length tips
-    → Filing most n root ends first rank below places' tips' next'
-filing-both places' tips' f hv hw b p q = record {
+    → Filing most p root first rank below places' tips' next'
+filing-both places' tips' f hv hw b z q = record {
   rooted = f .rooted;
   shelved = both-shelved (f .rooted .tree) (f .shelved) hv hw b;
   belows = both-belows (f .rooted .tree) (f .shelved) hv hw b (f .belows);
   links = b .links;
   roomy = record {
     below-long = f .roomy .below-long;
-    places-long = omega (arith, p, f .roomy .places-long);
+    places-long = omega (arith, z, f .roomy .places-long);
     tips-long = omega (arith, q, f .roomy .tips-long);
   };
 }
@@ -76,14 +76,14 @@ filing-both places' tips' f hv hw b p q = record {
 -- from one to the other
 module _ {most : Limits} {ends first below : List ℕ} {v w next : ℕ} {places tips : List ℕ} (c : Ending most ends first below v w next places tips) where
   abbrev g : Graph
-  g = graph (plan (c .splitting .n) ends)
+  g = graph (plan (c .splitting .n) ends (c .splitting .excluded))
 
   abbrev t : Pointers
-  t = treeOf (c .splitting .n) ends (c .splitting .root) first (c .splitting .rank)
+  t = treeOf (plan (c .splitting .n) ends (c .splitting .excluded)) (c .splitting .root) first (c .splitting .rank)
 
   module _ (places₁ tips₁ : List ℕ) {next₁ : ℕ} (one : Parted g t v next (read places) (read places₁) (topOf tips₁) (bottomOf tips₁) next₁)
       (same : (length places₁ ≡ length places) × (length tips₁ ≡ length tips)) where
-    pub filing-one : Filing most (c .splitting .n) (c .splitting .root) ends first (c .splitting .rank) below places₁ tips₁ next₁
+    pub filing-one : Filing most (plan (c .splitting .n) ends (c .splitting .excluded)) (c .splitting .root) first (c .splitting .rank) below places₁ tips₁ next₁
     filing-one = filing-parted places₁ tips₁ (c .splitting .filing) (c .splitting .built) one (same .0) (same .1)
 
     pub still-built : 1 ≤ read places₁ w
@@ -92,6 +92,7 @@ module _ {most : Limits} {ends first below : List ℕ} {v w next : ℕ} {places 
     abbrev pub splitting-two : Splitting most ends first below w next₁ places₁ tips₁
     splitting-two = record {
       n = c .splitting .n;
+      excluded = c .splitting .excluded;
       root = c .splitting .root;
       rank = c .splitting .rank;
       filing = filing-one;

@@ -1,4 +1,4 @@
--- The tables of a plan, with where the last group ends behind them, tell the edges at each vertex.
+-- The tables of all that a plan lists, with where the last group ends behind them, tell the edges at each vertex.
 use mathlib.Core.Path.{_≡_, refl, sym, ap, _∙_, subst}
 use mathlib.Core.List.{List, []}
 use Prim.Native.Nat.{ℕ, suc, _+_, _/_, _≤_, _<_}
@@ -8,17 +8,15 @@ use lib.Dec.{T}
 use lib.ListN.{length, getD, set, length-set, List·getD-append}
 use lib.Seq.{getD-set-same, getD-set-other}
 use borrow.Author.Tests.{lt-ltb, le-ltb}
-use Rattle.connectivity.specs.Plan.{plan, graph, Limits}
+use Rattle.connectivity.specs.Plan.{Plan, listed, Limits}
 use Rattle.connectivity.specs.Graph.{Graph, Edge, Joins}
 use Rattle.connectivity.specs.Walk.{far}
 use Rattle.connectivity.specs.Admission.{Admitted}
 use Rattle.connectivity.proofs.Reach.{joins-vertex}
 use Rattle.connectivity.proofs.Legs.{joins-far}
-use Rattle.connectivity.proofs.Admission.{admitted-edge}
-use Rattle.graph.specs.Marks.{read}
-use Rattle.graph.proofs.Joined.{vertex-below}
+use Rattle.connectivity.proofs.Kept.{vertex-size, admitted-entire, entire-edge}
+use Rattle.graph.specs.Marks.{read, rank}
 use Rattle.incidence.specs.Tables.{touches, groups, begin, incidentTable, beginsTable, Tabled}
-use Rattle.incidence.specs.Parts.{rank}
 use Rattle.incidence.proofs.Groups.{begin-all, begin-le, place-find, place-at, place-below}
 use Rattle.incidence.proofs.Filled.{begins-long, begins-at, incident-is, tabled-room}
 use Rattle.incidence.proofs.Front.{front}
@@ -31,26 +29,33 @@ touches-joins : {g : Graph} {v e : ℕ} → Edge g e → T (touches g v e) → J
 unfolding touches
 touches-joins h t = joins-far h t
 
-module _ {most : Limits} {n : ℕ} {ends incident begins : List ℕ} (t : Tabled most (plan n ends) incident begins) where
-  abbrev g : Graph
-  g = graph (plan n ends)
+module _ {most : Limits} {p : Plan} {incident begins : List ℕ} (t : Tabled most p incident begins) where
+  abbrev n : ℕ
+  n = p .vertices
 
-  abbrev a : Admitted most (plan n ends)
+  abbrev ends : List ℕ
+  ends = p .ends
+
+  -- all that the plan lists
+  abbrev g : Graph
+  g = listed p
+
+  abbrev a : Admitted most p
   a = t .admitted
 
   begin-is : (v : ℕ) → v < n → read begins v ≡ begin g v
   begin-is v l = ap (λ (b : List ℕ). getD b v 0) (t .begins-is)
-      ∙ List·getD-append (beginsTable g) (t .begins-rest) 0 v (omega (arith, begins-long (plan n ends))) ∙ begins-at (plan n ends) v l
+      ∙ List·getD-append (beginsTable g) (t .begins-rest) 0 v (omega (arith, begins-long p)) ∙ begins-at p v l
 
   -- a number behind the table of beginnings may change
-  pub tabled-set : (x : ℕ) → n < length begins → Tabled most (plan n ends) incident (set begins n x)
+  pub tabled-set : (x : ℕ) → n < length begins → Tabled most p incident (set begins n x)
   tabled-set x room = record {
     admitted = a;
     incident-rest = t .incident-rest;
     incident-is = t .incident-is;
     begins-rest = _;
-    begins-is = front (beginsTable g) (set begins n x) (set begins n x) (omega (arith, begins-long (plan n ends), length-set begins n x)) (kept-same _ (set begins n x))
-        (λ k l. let h : k < n = omega (arith, begins-long (plan n ends)) in getD-set-other begins n k x 0 (λ q. omega arith) ∙ begin-is k h ∙ sym (begins-at (plan n ends) k h));
+    begins-is = front (beginsTable g) (set begins n x) (set begins n x) (omega (arith, begins-long p, length-set begins n x)) (kept-same _ (set begins n x))
+        (λ k l. let h : k < n = omega (arith, begins-long p) in getD-set-other begins n k x 0 (λ q. omega arith) ∙ begin-is k h ∙ sym (begins-at p k h));
   }
 
   module _ (room : n < length begins) where
@@ -91,16 +96,16 @@ module _ {most : Limits} {n : ℕ} {ends incident begins : List ℕ} (t : Tabled
       found-is =
           let f = found in
           ap (λ (i : List ℕ). getD i k 0) (t .incident-is)
-          ∙ List·getD-append (incidentTable g) (t .incident-rest) 0 k (omega (arith, ap length (incident-is (plan n ends)), next-is v l, begin-le a (suc v) n (omega arith)))
-          ∙ ap (λ (i : List ℕ). getD i k 0) (incident-is (plan n ends)) ∙ ap (λ (i : ℕ). getD (groups g n) i 0) (sym (f .3)) ∙ place-at a n v (f .0) l (f .1) (f .2)
+          ∙ List·getD-append (incidentTable g) (t .incident-rest) 0 k (omega (arith, ap length (incident-is p), next-is v l, begin-le a (suc v) n (omega arith)))
+          ∙ ap (λ (i : List ℕ). getD i k 0) (incident-is p) ∙ ap (λ (i : ℕ). getD (groups g n) i 0) (sym (f .3)) ∙ place-at a n v (f .0) l (f .1) (f .2)
 
     -- the edges at each vertex
-    pub grouped-from : Grouped n ends incident all
+    pub grouped-from : Grouped p incident all
     grouped-from = record {
-      listed = λ e v u j.
+      place = λ e v u j.
           let c = crosses (tabled-set (length ends) room) [] e v u refl j in
-          (c .place, c .group .from, omega (arith, c .group .to, end-is v (vertex-below n ends v (joins-vertex j))), c .listed);
-      joins = λ v k l x y. let f = found v k l x y in (far g (f .0) v, subst (λ (e : ℕ). Joins g e v (far g (f .0) v)) (sym (found-is v k l x y)) (touches-joins (admitted-edge a (f .0) (f .1)) (f .2)));
+          (c .place, c .group .from, omega (arith, c .group .to, end-is v (vertex-size p (joins-vertex j))), c .listed);
+      joins = λ v k l x y. let f = found v k l x y in (far g (f .0) v, subst (λ (e : ℕ). Joins g e v (far g (f .0) v)) (sym (found-is v k l x y)) (touches-joins (entire-edge (admitted-entire a) (f .0) (f .1)) (f .2)));
       ascends = λ v l. omega (arith, begins-is v (omega arith), next-is v l, begin-le a v (suc v) (omega arith));
       inside = λ v l. omega (arith, next-is v l, begin-le a (suc v) n (omega arith), size);
       once = λ v j k l x y z q.

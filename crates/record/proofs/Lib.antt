@@ -13,6 +13,7 @@ pub mod Exits
 pub mod Narrowing
 pub mod Outward
 pub mod Scanning
+pub mod Listing
 pub mod Grouping
 pub mod Grounding
 pub mod Choosing
@@ -24,4 +25,5 @@ pub mod Opening
 pub mod Beginning
 pub mod Progress
 pub mod Tabling
+pub mod Searching
 pub mod Answering

@@ -10,13 +10,13 @@ use Rattle.connectivity.specs.Plan.{plan, graph, Limits}
 use Rattle.connectivity.specs.Graph.{Graph}
 use Rattle.connectivity.specs.Walk.{Leg, froms, edgesOf}
 use Rattle.connectivity.proofs.Lists.{in-dec}
+use Rattle.connectivity.proofs.Kept.{vertex-size, bound-is}
 use Rattle.tree.specs.Tree.{Pointers, Climb, there}
 use Rattle.tree.specs.Filed.{Grown, Noted}
 use Rattle.tree.proofs.Above.{climb-same, climb-child}
 use Rattle.tree.proofs.Begin.{climb-start}
 use Rattle.tree.proofs.NewLink.{low-climb, low-on, on-low, links-room, links-grown}
 use Rattle.graph.specs.Marks.{read}
-use Rattle.graph.proofs.Joined.{bound-is, vertex-below}
 use Rattle.record.specs.Ways.{nextUp, Marking, MarkedUp, Raising, Raised, RaisedUp}
 use Rattle.numbers.specs.Standing.{treeOf}
 use Rattle.record.specs.Linking.{topOf, bottomOf, withTips, Building, Walked}
@@ -29,10 +29,10 @@ in-some (l ∷ legs) i = omega arith
 
 module _ {most : Limits} {ends first places below tips over : List ℕ} {e v stop next : ℕ} (c : Building most ends first e v stop next places below tips over) where
   abbrev pub g : Graph
-  g = graph (plan (c .n) ends)
+  g = graph (plan (c .n) ends (c .excluded))
 
   abbrev pub t : Pointers
-  t = treeOf (c .n) ends (c .root) first (c .rank)
+  t = treeOf (plan (c .n) ends (c .excluded)) (c .root) first (c .rank)
 
   -- the place `next` is free
   grown-by : {place' : ℕ → ℕ} → ((y : ℕ) → In y (froms (c .legs)) → place' y ≡ next) → ((y : ℕ) → (In y (froms (c .legs)) → ⊥) → place' y ≡ read places y)
@@ -92,7 +92,7 @@ module _ {most : Limits} {ends first places below tips over : List ℕ} {e v sto
     -- the top fits
     pub top-below : top < most .vertices
     top-below =
-        omega (arith, vertex-below (c .n) ends top (climb-child (c .filing .rooted .tree) (c .climb) top-on .vertex), c .filing .rooted .admitted .vertices)
+        omega (arith, vertex-size (plan (c .n) ends (c .excluded)) (climb-child (c .filing .rooted .tree) (c .climb) top-on .vertex), c .filing .rooted .admitted .vertices)
 
     low : (legs : List Leg) × Climb g t (λ z. z ≡ top) v legs top
     low = low-climb (c .filing .rooted .tree) (c .climb) top-on top-up
@@ -120,7 +120,7 @@ module _ {most : Limits} {ends first places below tips over : List ℕ} {e v sto
       next-room = omega (
         arith,
         links-room (c .filing .rooted .tree) (c .filing .shelved) (c .climb) (c .branch) walked-grown (c .filing .links) bottom-on top-on top-up,
-        bound-is (c .n) ends,
+        bound-is (plan (c .n) ends (c .excluded)),
       )
 
       tips-room : 2 * next + 2 ≤ length tips

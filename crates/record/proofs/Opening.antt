@@ -8,7 +8,7 @@ use native.Mathlib.Decide.{ℕ-discrete, decLe}
 use lib.ListN.{length, set, length-set}
 use lib.Seq.{getD-set-same, getD-set-other}
 use Rattle.connectivity.specs.Lists.{no-member}
-use Rattle.connectivity.specs.Plan.{plan, graph, Limits}
+use Rattle.connectivity.specs.Plan.{Plan, plan, graph, Limits}
 use Rattle.connectivity.specs.Graph.{Graph}
 use Rattle.connectivity.specs.Walk.{Leg, froms, edgesOf}
 use Rattle.connectivity.proofs.Lists.{in-dec}
@@ -57,27 +57,28 @@ up-grown tree f k z c (inl h) = inl (f z c h)
 up-grown {B = B} tree f k z c (inr i) = elim (climb-next tree k i) [ inl j ↦ inr j | inr p ↦ inl (subst B (sym p) (climb-end k)) ]
 
 -- After some of the walks: what is built, its places, the children noted below, the links, and the edges.
-pub record Stands (n root : ℕ) (ends first : List ℕ) (rank whole : ℕ → ℕ) (x : ℕ) (B : ℕ → Type 0) (built places below tips over : List ℕ) (next : ℕ) : Type 0 where
-  pub filed : Filed (graph (plan n ends)) (treeOf n ends root first rank) B (λ v. Ends (treeOf n ends root first rank) x v) (read places)
-  pub belows : Belows (graph (plan n ends)) (treeOf n ends root first rank) B (read places) (read below)
-  pub links : Links (graph (plan n ends)) (treeOf n ends root first rank) (read places) (topOf tips) (bottomOf tips) next
+pub record Stands (p : Plan) (root : ℕ) (first : List ℕ) (rank whole : ℕ → ℕ) (x : ℕ) (B : ℕ → Type 0) (built places below tips over : List ℕ) (next : ℕ) : Type 0 where
+  pub filed : Filed (graph p) (treeOf p root first rank) B (λ v. Ends (treeOf p root first rank) x v) (read places)
+  pub belows : Belows (graph p) (treeOf p root first rank) B (read places) (read below)
+  pub links : Links (graph p) (treeOf p root first rank) (read places) (topOf tips) (bottomOf tips) next
   pub uses : Uses built whole (read over)
-  pub roomy : Roomy n below places tips
-  pub over-long : length ends / 2 ≤ length over
+  pub roomy : Roomy (p .vertices) below places tips
+  pub over-long : length (p .ends) / 2 ≤ length over
 
-module _ {most : Limits} {n root : ℕ} {ends first : List ℕ} {rank : ℕ → ℕ} {x f w d u : ℕ} (c : Climbs most n root ends first rank x f w d u) where
+module _ {most : Limits} {p : Plan} {root : ℕ} {first : List ℕ} {rank : ℕ → ℕ} {x f w d u : ℕ} (c : Climbs most p root first rank x f w d u) where
   abbrev g : Graph
-  g = graph (plan n ends)
+  g = graph p
 
   abbrev t : Pointers
-  t = treeOf n ends root first rank
+  t = treeOf p root first rank
 
   module _ {B : ℕ → Type 0} {whole : ℕ → ℕ} {built places below tips over : List ℕ} {next v y e : ℕ} {legs : List Leg}
-      (s : Stands n root ends first rank whole x B built places below tips over next) (kb : (z : ℕ) → Ends t x z → B z)
-      (k : Climb g t B v legs y) (ky : Ends t x y) (hv : v < n) (he : e < length ends / 2) where
-    abbrev pub building : Building most ends first e v y next places below tips over
+      (s : Stands p root first rank whole x B built places below tips over next) (kb : (z : ℕ) → Ends t x z → B z)
+      (k : Climb g t B v legs y) (ky : Ends t x y) (hv : v < p .vertices) (he : e < length (p .ends) / 2) where
+    abbrev pub building : Building most (p .ends) first e v y next places below tips over
     building = record {
-      n = n;
+      n = p .vertices;
+      excluded = p .excluded;
       root = root;
       rank = rank;
       filing = record {
@@ -98,9 +99,9 @@ module _ {most : Limits} {n root : ℕ} {ends first : List ℕ} {rank : ℕ → 
 
     -- one walk more
     stands-grown : (places' below' tips' over' : List ℕ) (next' : ℕ)
-        → WalkedBy most ends first e v y next places below tips over places' below' tips' over' next'
+        → WalkedBy most (p .ends) first e v y next places below tips over places' below' tips' over' next'
         → (Grown (read places) (read places') legs next → Noted t (read below) (read below') legs → Belows g t (λ z. B z ⊎ In z (froms legs)) (read places') (read below'))
-        → Stands n root ends first rank whole x (λ z. B z ⊎ In z (froms legs)) (e ∷ (edgesOf legs ++ built)) places' below' tips' over' next'
+        → Stands p root first rank whole x (λ z. B z ⊎ In z (froms legs)) (e ∷ (edgesOf legs ++ built)) places' below' tips' over' next'
     stands-grown places' below' tips' over' next' b h = let m = b .4 building .0 in record {
       filed = filed-grown (c .rooted .tree) (s .filed) kb k ky (m .grown);
       belows = h (m .grown) (m .noted);
@@ -115,22 +116,22 @@ module _ {most : Limits} {n root : ℕ} {ends first : List ℕ} {rank : ℕ → 
     }
 
     stands-next : UpClosed g t B → (places' below' tips' over' : List ℕ) (next' : ℕ)
-        → WalkedBy most ends first e v y next places below tips over places' below' tips' over' next'
-        → Stands n root ends first rank whole x (λ z. B z ⊎ In z (froms legs)) (e ∷ (edgesOf legs ++ built)) places' below' tips' over' next'
+        → WalkedBy most (p .ends) first e v y next places below tips over places' below' tips' over' next'
+        → Stands p root first rank whole x (λ z. B z ⊎ In z (froms legs)) (e ∷ (edgesOf legs ++ built)) places' below' tips' over' next'
     stands-next up places' below' tips' over' next' b = stands-grown places' below' tips' over' next' b
         (λ grown noted. belows-grown (c .rooted .tree) (s .filed) kb k ky grown up (s .belows) noted)
 
 -- All three.
 
 module _ {most : Limits} {ends first : List ℕ} {root x e p f w d u : ℕ} (places below tips over : List ℕ) (c : Raw most ends first root x e p f w d u places below tips over) where
-  abbrev b : Climbs most (c .n) root ends first (c .rank) x f w d u
+  abbrev b : Climbs most (plan (c .n) ends (c .excluded)) root first (c .rank) x f w d u
   b = c .climbs
 
   abbrev gr : Graph
-  gr = graph (plan (c .n) ends)
+  gr = graph (plan (c .n) ends (c .excluded))
 
   abbrev tr : Pointers
-  tr = treeOf (c .n) ends root first (c .rank)
+  tr = treeOf (plan (c .n) ends (c .excluded)) root first (c .rank)
 
   pub root-fits : root < length places
   root-fits = omega (arith, root-below b, c .roomy .places-long)
@@ -183,7 +184,7 @@ module _ {most : Limits} {ends first : List ℕ} {root x e p f w d u : ℕ} (pla
     | no n ↦ absurd (omega (arith, h, getD-set-other below p v (x + 1) 0 n, c .below-blank v))
   ]
 
-  stands-0 : Stands (c .n) root ends first (c .rank) (read over) x (λ v. Ends tr x v) [] places-0 below-0 tips over 2
+  stands-0 : Stands (plan (c .n) ends (c .excluded)) root first (c .rank) (read over) x (λ v. Ends tr x v) [] places-0 below-0 tips over 2
   stands-0 = record {
     filed = filed-0;
     belows = record { child = below-child; only = λ y h k l. absurd (small _ l) };
@@ -243,17 +244,17 @@ module _ {most : Limits} {ends first : List ℕ} {root x e p f w d u : ℕ} (pla
 
   -- After k of the walks.
   pub data Stage (k : ℕ) (places' below' tips' over' : List ℕ) (next : ℕ) : Type 0 where
-    none : k ≡ 0 → Stands (c .n) root ends first (c .rank) (read over) x (λ v. Ends tr x v) [] places' below' tips' over' next
+    none : k ≡ 0 → Stands (plan (c .n) ends (c .excluded)) root first (c .rank) (read over) x (λ v. Ends tr x v) [] places' below' tips' over' next
         → ((place noted : ℕ → ℕ) → Noted tr (read below') noted (b .high) → Belows gr tr (λ v. Ends tr x v ⊎ In v (froms (b .high))) place noted)
         → Stage k places' below' tips' over' next
     one : k ≡ 1
-        → Stands (c .n) root ends first (c .rank) (read over) x (λ v. Ends tr x v ⊎ In v (froms (b .high))) (e ∷ (edgesOf (b .high) ++ [])) places' below' tips' over' next
+        → Stands (plan (c .n) ends (c .excluded)) root first (c .rank) (read over) x (λ v. Ends tr x v ⊎ In v (froms (b .high))) (e ∷ (edgesOf (b .high) ++ [])) places' below' tips' over' next
         → Stage k places' below' tips' over' next
     two : k ≡ 2
-        → Stands (c .n) root ends first (c .rank) (read over) x (λ v. (Ends tr x v ⊎ In v (froms (b .high))) ⊎ In v (froms (b .low)))
+        → Stands (plan (c .n) ends (c .excluded)) root first (c .rank) (read over) x (λ v. (Ends tr x v ⊎ In v (froms (b .high))) ⊎ In v (froms (b .low)))
         (f ∷ (edgesOf (b .low) ++ (e ∷ (edgesOf (b .high) ++ [])))) places' below' tips' over' next
         → Stage k places' below' tips' over' next
-    all : k ≡ 3 → Holds (c .n) root ends first (c .rank) (read over) (threeWalks root x f e d (b .low) (b .high) (b .side)) places' below' tips' over' next
+    all : k ≡ 3 → Holds (plan (c .n) ends (c .excluded)) root first (c .rank) (read over) (threeWalks root x f e d (b .low) (b .high) (b .side)) places' below' tips' over' next
         → Stage k places' below' tips' over' next
 
   pub stage-start : {places-1 below-1 : List ℕ} → places-1 ≡ places-0 → below-1 ≡ below-0 → Stage 0 places-1 below-1 tips over 2
@@ -297,7 +298,7 @@ module _ {most : Limits} {ends first : List ℕ} {root x e p f w d u : ℕ} (pla
     ]
 
   pub stage-end : {k next : ℕ} {places-1 below-1 tips-1 over-1 : List ℕ} → Stage k places-1 below-1 tips-1 over-1 next → 3 ≤ k
-      → Holds (c .n) root ends first (c .rank) (read over) (threeWalks root x f e d (b .low) (b .high) (b .side)) places-1 below-1 tips-1 over-1 next
+      → Holds (plan (c .n) ends (c .excluded)) root first (c .rank) (read over) (threeWalks root x f e d (b .low) (b .high) (b .side)) places-1 below-1 tips-1 over-1 next
   stage-end (none q _ _) h = absurd (omega (arith, q, h))
   stage-end (one q _) h = absurd (omega (arith, q, h))
   stage-end (two q _) h = absurd (omega (arith, q, h))

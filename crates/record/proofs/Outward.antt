@@ -5,10 +5,11 @@ use mathlib.Core.List.{List, List·Memᴰ as In}
 use Prim.Native.Nat.{ℕ, zero, suc, _+_, _-_, _≤_, _<_}
 use native.Mathlib.Omega.{arith}
 use lib.ListN.{length}
-use Rattle.connectivity.specs.Plan.{plan, graph, Limits}
+use Rattle.connectivity.specs.Plan.{plan, entire, graph, Limits}
 use Rattle.connectivity.specs.Graph.{Graph, Vertex, Joins}
 use Rattle.connectivity.specs.Walk.{allEdges}
 use Rattle.connectivity.proofs.Reach.{joins-sym, joins-vertex}
+use Rattle.connectivity.proofs.Kept.{vertex-size}
 use Rattle.tree.specs.Tree.{Pointers, Above, Tree, Preorder, Back}
 use Rattle.tree.proofs.Above.{above-rank}
 use Rattle.tree.proofs.Inside.{built-is-vertex}
@@ -16,7 +17,7 @@ use Rattle.tree.proofs.Step.{over-back}
 use Rattle.tree.proofs.Stuck.{exit-there}
 use Rattle.tree.proofs.Along.{along-stage}
 use Rattle.graph.specs.Marks.{read}
-use Rattle.graph.proofs.Joined.{vertex-below, joins-below, joins-edge}
+use Rattle.graph.proofs.Joined.{joins-below, joins-edge}
 use Rattle.numbers.specs.Tables.{farEnd}
 use Rattle.record.specs.Ways.{upperEnd, Rises, nextUp}
 use Rattle.numbers.specs.Standing.{treeOf}
@@ -25,6 +26,7 @@ use Rattle.record.specs.Exits.{Ranging, Under, Leads, away, hangs, Passe
 use Rattle.record.proofs.Upper.{ended, back-upper, back-lower}
 use Rattle.record.proofs.Climbing.{parent-is, child-rises}
 use Rattle.record.proofs.Exits.{leads-not, leads-as}
+use Rattle.record.proofs.Listing.{edge-joins, over-edge}
 use Rattle.record.proofs.Narrowing.{Between, between-start, between-all, Down, between-down, Up, between-up}
 
 -- no edge at y that is not built leads out
@@ -53,10 +55,10 @@ module _ {g : Graph} {t : Pointers} {last : ℕ → ℕ} {next from to : ℕ} (t
 module _ {most : Limits} {ends incident begins first number last places below over : List ℕ} {top bottom : ℕ}
     (c : Leaving most ends incident begins first number last places below over top bottom) where
   abbrev g : Graph
-  g = graph (plan (c .n) ends)
+  g = graph (plan (c .n) ends (c .excluded))
 
   abbrev t : Pointers
-  t = treeOf (c .n) ends (c .root) first (read number)
+  t = treeOf (plan (c .n) ends (c .excluded)) (c .root) first (read number)
 
   abbrev built : List ℕ
   built = allEdges (c .walks)
@@ -70,7 +72,7 @@ module _ {most : Limits} {ends incident begins first number last places below ov
   vertex {y} p = built-is-vertex tree (c .state .along .held) (c .state .filed .built y (omega (arith, p, c .large)))
 
   pub inside-below : {y : ℕ} → read places y ≡ c .link → y < c .n
-  inside-below {y} p = vertex-below (c .n) ends y (vertex p)
+  inside-below {y} p = vertex-size (plan (c .n) ends (c .excluded)) (vertex p)
 
   child-vertex : (d : ℕ) → read below bottom ≡ suc d → Vertex g d
   child-vertex d p = c .state .belows .child bottom d p .0 .vertex
@@ -80,24 +82,24 @@ module _ {most : Limits} {ends incident begins first number last places below ov
   pub ranging : Ranging number last below bottom
   ranging = record {
     room = omega (arith, inside-below (c .tips .has-bottom), c .below-long);
-    numbered = λ d p. omega (arith, c .ground .number-long, vertex-below (c .n) ends d (child-vertex d p));
-    lasting = λ d p. omega (arith, c .ground .last-long, vertex-below (c .n) ends d (child-vertex d p));
+    numbered = λ d p. omega (arith, c .ground .number-long, vertex-size (plan (c .n) ends (c .excluded)) (child-vertex d p));
+    lasting = λ d p. omega (arith, c .ground .last-long, vertex-size (plan (c .n) ends (c .excluded)) (child-vertex d p));
   }
 
   pub sized : (y : ℕ) → read places y ≡ c .link → (y + 1 < length begins) × (read begins y ≤ read begins (y + 1))
   sized y p = (omega (arith, inside-below p, c .ground .grouped .room), c .ground .grouped .ascends y (inside-below p))
 
   upper-is : {f s w : ℕ} → Back g t f s w → upperEnd ends number f ≡ s
-  upper-is b = back-upper (c .n) (c .root) ends first number (c .ground .rooted) b
+  upper-is b = back-upper number (c .ground .rooted) b
 
   lower-is : {f s w : ℕ} → Back g t f s w → farEnd ends f (upperEnd ends number f) ≡ w
-  lower-is {f} b = ap (farEnd ends f) (upper-is b) ∙ back-lower (c .n) (c .root) ends first number (c .ground .rooted) b
+  lower-is {f} b = ap (farEnd ends f) (upper-is b) ∙ back-lower number (c .ground .rooted) b
 
   testing : {f s w : ℕ} → Back g t f s w → Testing ends number places f
   testing {f} {s} {w} b = record {
-    ended = ended (c .n) (c .root) ends first number (c .ground .rooted) (c .ground .number-long) (b .joins .edge);
-    upper = omega (arith, upper-is b, joins-below (c .n) ends f w s (joins-sym (b .joins)), c .places-long);
-    lower = omega (arith, lower-is b, joins-below (c .n) ends f s w (b .joins), c .ground .number-long);
+    ended = ended number (c .ground .rooted) (c .ground .number-long) (b .joins .edge);
+    upper = omega (arith, upper-is b, joins-below (plan (c .n) ends (c .excluded)) (joins-sym (b .joins)), c .places-long);
+    lower = omega (arith, lower-is b, joins-below (plan (c .n) ends (c .excluded)) (b .joins), c .ground .number-long);
   }
 
   -- an edge that is not built stands in the table as at first
@@ -107,10 +109,15 @@ module _ {most : Limits} {ends incident begins first number last places below ov
   as-first : {e : ℕ} → 1 ≤ read over e → read over e ≡ c .whole e
   as-first {e} h = c .uses .off e (new-edge h)
 
-  reading : {e v u : ℕ} → Joins g e v u → Reading ends number places over e
+  -- and it is an edge of the graph
+  leads-to : {e v u : ℕ} → Joins (graph (entire (c .n) ends)) e v u → 1 ≤ read over e → Joins g e v u
+  leads-to j h = edge-joins (plan (c .n) ends (c .excluded)) j
+      (over-edge (plan (c .n) ends (c .excluded)) (c .ground .beneath) (joins-edge (entire (c .n) ends) j) (omega (arith, h, as-first h)))
+
+  reading : {e v u : ℕ} → Joins (graph (entire (c .n) ends)) e v u → Reading ends number places over e
   reading {e} {v} {u} j = record {
-    long = omega (arith, joins-edge (c .n) ends e v u j, c .over-long);
-    test = λ h. let (s, w, b) = over-back tree (c .ground .beneath .overs) j in subst (λ (x : ℕ). Testing ends number places (x - 1)) (sym (as-first h)) (testing b);
+    long = omega (arith, joins-edge (entire (c .n) ends) j, c .over-long);
+    test = λ h. let (s, w, b) = over-back tree (c .ground .beneath .overs) (leads-to j h) in subst (λ (x : ℕ). Testing ends number places (x - 1)) (sym (as-first h)) (testing b);
   }
 
   pub looking : {y : ℕ} → read places y ≡ c .link → Looking ends incident begins number places over y
@@ -133,7 +140,7 @@ module _ {most : Limits} {ends incident begins first number last places below ov
     leads-passes b = leads-as (sym (ap (read places) (upper-is b))) (sym p) (sym (ap (read number) (lower-is b)))
 
     pub stays-at : r ≡ 0 → Stays g t built (λ e. c .whole e - 1) (read places) (read below) (c .link) bottom v
-    stays-at z e y s w j n b = let (k, h, l, q) = c .ground .grouped .listed e v y j in
+    stays-at z e y s w j n b = let (k, h, l, q) = c .ground .grouped .place e v y j in
         leads-not-out tree (c .ground .beneath .preorder) child-vertex u (λ i. x .none z k
         (record { from = h; to = l; new = subst (λ (d : ℕ). 1 ≤ read over d) (sym q) (omega (arith, c .uses .off e n, c .ground .beneath .some e (j .edge))) })
         (subst (λ (d : ℕ). Passes ends number places (d - 1) (read places v) from to) (sym (ap (read over) q ∙ c .uses .off e n)) (leads-passes b i)))
@@ -141,7 +148,8 @@ module _ {most : Limits} {ends incident begins first number last places below ov
     pub leaves-at : (r ≡ 0 → ⊥) → Exit g t built (λ e. c .whole e - 1) (read places) (read below) (c .link) bottom (r - 1)
     leaves-at n =
         let (k, h, q, i) = x .some n in
-        let (y, j) = c .ground .grouped .joins v k (inside-below p) (h .from) (h .to) in
+        let (y, at) = c .ground .grouped .joins v k (inside-below p) (h .from) (h .to) in
+        let j = leads-to at (h .new) in
         let (s, w, b) = over-back tree (c .ground .beneath .overs) j in
         let o = as-first (h .new) in
         let a : r - 1 ≡ c .whole (read incident k) - 1 = ap (λ (d : ℕ). d - 1) (q ∙ o) in

@@ -9,13 +9,13 @@ use lib.Seq.{getD-set-same, getD-set-other}
 use Rattle.connectivity.specs.Plan.{plan, graph, Limits}
 use Rattle.connectivity.specs.Graph.{Graph, Vertex}
 use Rattle.connectivity.specs.Walk.{Leg}
+use Rattle.connectivity.proofs.Kept.{vertex-size, bound-is}
 use Rattle.tree.specs.Tree.{Pointers, Child, Above, Climb}
 use Rattle.tree.specs.Filed.{already}
 use Rattle.tree.proofs.Above.{above-cases, parent-vertex, way-up}
 use Rattle.tree.proofs.NewLink.{links-most}
 use Rattle.tree.proofs.Parting.{Lone, Renamed, Stays, Becomes, Lying, Within, within, tips-vertices, not-top, not-bottom, part-room, part-whole, part-top, part-bottom, part-upper, part-lower}
 use Rattle.graph.specs.Marks.{read}
-use Rattle.graph.proofs.Joined.{bound-is, below-vertex, vertex-below}
 use Rattle.record.specs.Ways.{nextUp, Way, Marking, MarkedOn, MarkedUp}
 use Rattle.numbers.specs.Standing.{treeOf}
 use Rattle.record.specs.Linking.{topOf, bottomOf, withTips, Splitting, Parted, PartedBy}
@@ -73,19 +73,25 @@ cut-between {v} {top} {bottom} {down} up r t b h l e k m o = subst (λ (x : ℕ)
 
 module _ {most : Limits} {ends first below places tips : List ℕ} {v next : ℕ} (c : Splitting most ends first below v next places tips) where
   abbrev here : Graph
-  here = graph (plan (c .n) ends)
+  here = graph (plan (c .n) ends (c .excluded))
 
   abbrev stem : Pointers
-  stem = treeOf (c .n) ends (c .root) first (c .rank)
+  stem = treeOf (plan (c .n) ends (c .excluded)) (c .root) first (c .rank)
 
   abbrev own : ℕ
   own = read places v
 
   at-v : Vertex here v
-  at-v = below-vertex (c .n) ends v (c .vertex)
+  at-v = c .vertex
+
+  v-below : v < c .n
+  v-below = vertex-size (plan (c .n) ends (c .excluded)) at-v
+
+  pub v-fits : v < length places
+  v-fits = omega (arith, v-below, c .filing .roomy .places-long)
 
   next-most : next ≤ c .n + 2
-  next-most = omega (arith, links-most (c .filing .links), bound-is (c .n) ends)
+  next-most = omega (arith, links-most (c .filing .links), bound-is (plan (c .n) ends (c .excluded)))
 
   pub own-room : 2 * own + 2 ≤ length tips
   own-room = omega (arith, next-most, c .filing .links .below v, c .filing .roomy .tips-long)
@@ -100,7 +106,7 @@ module _ {most : Limits} {ends first below places tips : List ℕ} {v next : ℕ
   old p = omega (arith, p, c .filing .links .below v)
 
   lone : Lone (read places) (read (set places v 1)) v
-  lone = lone-set places v (omega (arith, c .vertex, c .filing .roomy .places-long))
+  lone = lone-set places v v-fits
 
   places-long : c .n ≤ length (set places v 1)
   places-long = omega (arith, c .filing .roomy .places-long, length-set places v 1)
@@ -129,7 +135,7 @@ module _ {most : Limits} {ends first below places tips : List ℕ} {v next : ℕ
     is-low p = omega (arith, p, tips-of .at-low)
 
     tip-below : (tips-of .high < c .n) × (tips-of .low < c .n)
-    tip-below = let (a, b) = tips-vertices (c .filing .rooted .tree) (tips-of .tips) at-v in (vertex-below (c .n) ends _ a, vertex-below (c .n) ends _ b)
+    tip-below = let (a, b) = tips-vertices (c .filing .rooted .tree) (tips-of .tips) at-v in (vertex-size (plan (c .n) ends (c .excluded)) a, vertex-size (plan (c .n) ends (c .excluded)) b)
 
     high-is : tips-of .high ≡ topOf tips own - 1
     high-is = omega (arith, tips-of .at-high)
@@ -139,7 +145,7 @@ module _ {most : Limits} {ends first below places tips : List ℕ} {v next : ℕ
 
     -- the ways from v up to the top, and from the bottom up to v
     upper-whole : Way most ends first v (topOf tips own - 1)
-    upper-whole = subst (Way most ends first v) high-is (climb-way (c .filing .rooted) (way-up (tips-of .tips .highest v refl) .1) (c .vertex))
+    upper-whole = subst (Way most ends first v) high-is (climb-way (c .filing .rooted) (way-up (tips-of .tips .highest v refl) .1) v-below)
 
     lower-whole : Way most ends first (bottomOf tips own - 1) v
     lower-whole = subst (λ (w : ℕ). Way most ends first w v) low-is (climb-way (c .filing .rooted) (way-up (tips-of .tips .lowest v refl) .1) (tip-below .1))
@@ -156,12 +162,12 @@ module _ {most : Limits} {ends first below places tips : List ℕ} {v next : ℕ
       up-is = parent-is (c .filing .rooted) child
 
       up-below : stem .parent v < c .n
-      up-below = vertex-below (c .n) ends _ (parent-vertex (c .filing .rooted .tree) child)
+      up-below = vertex-size (plan (c .n) ends (c .excluded)) (parent-vertex (c .filing .rooted .tree) child)
 
     pub split-cutting : Cutting most ends first below v (topOf tips own) (bottomOf tips own)
     split-cutting = record {
-      small = omega (arith, c .vertex, c .filing .rooted .admitted .vertices);
-      below-long = omega (arith, c .vertex, c .filing .roomy .below-long);
+      small = omega (arith, v-below, c .filing .rooted .admitted .vertices);
+      below-long = omega (arith, v-below, c .filing .roomy .below-long);
       some-top = omega (arith, tips-of .at-high);
       some-bottom = omega (arith, tips-of .at-low);
       between = λ m o. record { upper = upper-whole; lower = lower-whole };
@@ -203,7 +209,7 @@ module _ {most : Limits} {ends first below places tips : List ℕ} {v next : ℕ
       down = not-bottom lying over
 
       room : next < c .n + 2
-      room = omega (arith, part-room lying (under m) over, bound-is (c .n) ends)
+      room = omega (arith, part-room lying (under m) over, bound-is (plan (c .n) ends (c .excluded)))
 
       -- the way from above v up to the top
       abbrev upper : (legs : List Leg) × Climb here stem (λ y. y ≡ tips-of .high) (stem .parent v) legs (tips-of .high)

@@ -8,7 +8,7 @@ use native.Mathlib.Omega.{arith}
 use lib.Dec.{eqb}
 use lib.ListN.{length, length-append}
 use borrow.Author.Tests.{eq-eqb, ne-eqb}
-use Rattle.connectivity.specs.Plan.{plan, graph, Limits}
+use Rattle.connectivity.specs.Plan.{Plan, plan, graph, Limits}
 use Rattle.connectivity.specs.Graph.{Graph}
 use Rattle.connectivity.specs.Walk.{Leg, froms}
 use Rattle.connectivity.specs.Lists.{Distinct}
@@ -25,28 +25,28 @@ froms-append [] r = refl
 froms-append (k ∷ l) r = ap (λ (m : List ℕ). k .from ∷ m) (froms-append l r)
 
 -- the next leg of a way up that is not at its end
-pub record OneUp (n : ℕ) (ends marks : List ℕ) (v : ℕ) (legs : List Leg) (stop : ℕ) : Type 0 where
+pub record OneUp (p : Plan) (marks : List ℕ) (v : ℕ) (legs : List Leg) (stop : ℕ) : Type 0 where
   pub rest : List Leg
   pub same : legs ≡ leg (read marks v - 1) v ∷ rest
-  pub rises : v < n
+  pub rises : v < p .vertices
   pub seen : 1 ≤ read marks v
-  pub edge : read marks v - 1 < length ends / 2
-  pub leads : nextUp ends marks v < n
-  pub path : Path (graph (plan n ends)) (read marks) (nextUp ends marks v) rest stop
+  pub edge : read marks v - 1 < length (p .ends) / 2
+  pub leads : nextUp (p .ends) marks v < p .vertices
+  pub path : Path (graph p) (read marks) (nextUp (p .ends) marks v) rest stop
 
-one-up : {n v stop : ℕ} {ends marks : List ℕ} {legs : List Leg} → Path (graph (plan n ends)) (read marks) v legs stop → (v ≡ stop → ⊥)
-    → OneUp n ends marks v legs stop
+one-up : {p : Plan} {v stop : ℕ} {marks : List ℕ} {legs : List Leg} → Path (graph p) (read marks) v legs stop → (v ≡ stop → ⊥)
+    → OneUp p marks v legs stop
 one-up there d = absurd (d refl)
-one-up {n = n} {ends = ends} {marks = marks} (up {v = v} {p = p} {w = w} {legs = legs} h j k) d =
-    let q = far-end n ends _ v p j in
+one-up {p = p} {marks = marks} (up {w = w} {legs = legs} h j k) d =
+    let q = far-end p j in
     record {
       rest = legs;
       same = refl;
-      rises = joins-below n ends _ p v (joins-sym j);
+      rises = joins-below p (joins-sym j);
       seen = h;
-      edge = joins-edge n ends _ v p j;
-      leads = subst (λ (x : ℕ). x < n) (sym q) (joins-below n ends _ v p j);
-      path = subst (λ (x : ℕ). Path (graph (plan n ends)) (read marks) x legs w) (sym q) k;
+      edge = joins-edge p j;
+      leads = subst (λ (x : ℕ). x < p .vertices) (sym q) (joins-below p j);
+      path = subst (λ (x : ℕ). Path (graph p) (read marks) x legs w) (sym q) k;
     }
 
 module _ {g : Graph} {mark : ℕ → ℕ} where
@@ -60,9 +60,9 @@ module _ {g : Graph} {mark : ℕ → ℕ} where
   path-start there = inr refl
   path-start (up h j k) = inl (here refl)
 
-path-below : (n : ℕ) (ends marks : List ℕ) {v w : ℕ} {legs : List Leg} → Path (graph (plan n ends)) (read marks) v legs w → w < n → v < n
-path-below n ends marks there l = l
-path-below n ends marks (up {v = v} {p = p} h j k) l = joins-below n ends _ p v (joins-sym j)
+path-below : (p : Plan) (marks : List ℕ) {v w : ℕ} {legs : List Leg} → Path (graph p) (read marks) v legs w → w < p .vertices → v < p .vertices
+path-below p marks there l = l
+path-below p marks (up h j k) l = joins-below p (joins-sym j)
 
 -- How many legs it takes to a vertex that passes a test, by a count that ends.
 
@@ -79,13 +79,13 @@ steps-on : (done : ℕ → Bool) (next : ℕ → ℕ) (k v : ℕ) → done v ≡
 unfolding steps
 steps-on done next k v p = rw p
 
-steps-path : (n : ℕ) (ends marks : List ℕ) {v stop : ℕ} {legs : List Leg} (done : ℕ → Bool) (k : ℕ) → Path (graph (plan n ends)) (read marks) v legs stop
-    → ((u : ℕ) → In u (froms legs) → done u ≡ false) → done stop ≡ true → length legs ≤ k → steps done (nextUp ends marks) k v ≡ length legs
-steps-path n ends marks {v = v} done k there f t l = steps-done done (nextUp ends marks) k v t
-steps-path n ends marks done zero (up h j q) f t l = absurd (omega (arith, l))
-steps-path n ends marks done (suc k) (up {v = v} {p = p} {legs = legs} h j q) f t l =
-    steps-on done (nextUp ends marks) k v (f v (here refl))
-    ∙ ap suc (ap (steps done (nextUp ends marks) k) (far-end n ends _ v p j) ∙ steps-path n ends marks done k q (λ u i. f u (later i)) t (omega (arith, l)))
+steps-path : (p : Plan) (marks : List ℕ) {v stop : ℕ} {legs : List Leg} (done : ℕ → Bool) (k : ℕ) → Path (graph p) (read marks) v legs stop
+    → ((u : ℕ) → In u (froms legs) → done u ≡ false) → done stop ≡ true → length legs ≤ k → steps done (nextUp (p .ends) marks) k v ≡ length legs
+steps-path p marks {v = v} done k there f t l = steps-done done (nextUp (p .ends) marks) k v t
+steps-path p marks done zero (up h j q) f t l = absurd (omega (arith, l))
+steps-path p marks done (suc k) (up {v = v} h j q) f t l =
+    steps-on done (nextUp (p .ends) marks) k v (f v (here refl))
+    ∙ ap suc (ap (steps done (nextUp (p .ends) marks) k) (far-end p j) ∙ steps-path p marks done k q (λ u i. f u (later i)) t (omega (arith, l)))
 
 -- how many legs are left to a vertex that passes a test
 abbrev pub ahead : Limits → List ℕ → List ℕ → (ℕ → Bool) → ℕ → ℕ
@@ -100,7 +100,7 @@ pub record Onward {most : Limits} {ends first : List ℕ} {v stop : ℕ} (w : Wa
   pub done : List Leg
   pub rest : List Leg
   pub whole : w .legs ≡ done ++ rest
-  pub path : Path (graph (plan (w .n) ends)) (read first) at rest stop
+  pub path : Path (graph (plan (w .n) ends (w .excluded))) (read first) at rest stop
 
 abbrev pub onward-start : {most : Limits} {ends first : List ℕ} {v stop : ℕ} (w : Way most ends first v stop) → Onward w v
 onward-start w = record { done = []; rest = w .legs; whole = refl; path = w .path }
@@ -119,7 +119,7 @@ module _ {most : Limits} {ends first : List ℕ} {v stop at : ℕ} {w : Way most
   onward-sum = ap length (o .whole) ∙ length-append (o .done) (o .rest)
 
   pub onward-below : at < w .n
-  onward-below = path-below (w .n) ends first (o .path) (w .to)
+  onward-below = path-below (plan (w .n) ends (w .excluded)) first (o .path) (w .to)
 
   -- it is at a vertex that a leg leaves, or at the end
   pub onward-at : In at (froms (w .legs)) ⊎ (at ≡ stop)
@@ -146,7 +146,7 @@ module _ {most : Limits} {ends first : List ℕ} {v stop at : ℕ} {w : Way most
 
   -- one leg more
   module _ (d : at ≡ stop → ⊥) where
-    pub onward-next : OneUp (w .n) ends first at (o .rest) stop
+    pub onward-next : OneUp (plan (w .n) ends (w .excluded)) first at (o .rest) stop
     onward-next = one-up (o .path) d
 
     pub onward-rises : Rises ends first at
@@ -165,7 +165,7 @@ module _ {most : Limits} {ends first : List ℕ} {v stop at : ℕ} {w : Way most
 
   -- how many legs are left, if a test tells the end
   ahead-is : (test : ℕ → Bool) → ((u : ℕ) → In u (froms (w .legs)) → test u ≡ false) → test stop ≡ true → ahead most ends first test at ≡ length (o .rest)
-  ahead-is test f t = steps-path (w .n) ends first test (most .vertices) (o .path) (λ u i. f u (rest-on i)) t (omega (arith, w .short, onward-sum))
+  ahead-is test f t = steps-path (plan (w .n) ends (w .excluded)) first test (most .vertices) (o .path) (λ u i. f u (rest-on i)) t (omega (arith, w .short, onward-sum))
 
 pub ahead-less : {most : Limits} {ends first : List ℕ} {v stop at : ℕ} {w : Way most ends first v stop} (o : Onward w at) (test : ℕ → Bool)
     → ((u : ℕ) → In u (froms (w .legs)) → test u ≡ false) → test stop ≡ true → (at ≡ stop → ⊥)

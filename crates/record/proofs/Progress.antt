@@ -1,16 +1,18 @@
 -- How a record comes on: the rows of each step are written behind those before it, the cursors stay behind what is built, and in the end every edge is.
 use mathlib.Core.Path.{_≡_, sym, _∙_, subst}
 use mathlib.Core.List.{List, _∷_, _++_, Memᴰ·append-right as in-right}
-use Prim.Native.Nat.{ℕ, _+_, _-_, _*_, _/_, _≤_, _<_}
+use Prim.Native.Nat.{ℕ, _+_, _-_, _*_, _≤_, _<_}
 use native.Mathlib.Omega.{arith}
 use lib.ListN.{length, take, drop, length-append}
-use Rattle.connectivity.specs.Plan.{plan, graph, Limits}
+use Rattle.connectivity.specs.Plan.{Plan, plan, graph, Limits}
 use Rattle.connectivity.specs.Walk.{Leg, edgesOf, allEdges}
 use Rattle.connectivity.specs.Mader.{rows, stepRows}
+use Rattle.connectivity.specs.Admission.{keptEdges}
 use Rattle.connectivity.proofs.Legs.{legs-edges}
-use Rattle.connectivity.proofs.Build.{rows-length}
+use Rattle.connectivity.proofs.Build.{rows-length, all-edges}
 use Rattle.tree.proofs.Along.{along-end}
 use Rattle.graph.specs.Marks.{read}
+use Rattle.graph.proofs.Barring.{edges-few}
 use Rattle.connectivity.proofs.Lists.{in-dec}
 use Rattle.numbers.specs.Tables.{farEnd}
 use Rattle.record.specs.Ways.{Written, MetFirst, OverUp, upperEnd}
@@ -20,16 +22,16 @@ use Rattle.record.specs.Recording.{Recording, Stepping, Stepped, Chosen,
 use Rattle.record.specs.Progress.{Adding, Added, Going, Finishing}
 use Rattle.record.proofs.Written.{written-length, written-part, part-long}
 use Rattle.record.proofs.Stepping.{stepped-by}
-use Rattle.record.proofs.Counting.{steps-most, done-most, done-all}
+use Rattle.record.proofs.Counting.{steps-most, done-most}
 
 -- what is written so far
-module _ {most : Limits} {n root : ℕ} {ends first : List ℕ} {rank whole : ℕ → ℕ} {walks : List (List Leg)} {before now places below tips over : List ℕ} {row step next : ℕ}
-    (rooted : Rooted most n ends root first rank) (r : Recording n root ends first rank whole walks before now places below tips over row step next) where
+module _ {most : Limits} {p : Plan} {root : ℕ} {first : List ℕ} {rank whole : ℕ → ℕ} {walks : List (List Leg)} {before now places below tips over : List ℕ} {row step next : ℕ}
+    (rooted : Rooted most p root first rank) (r : Recording p root first rank whole walks before now places below tips over row step next) where
   pub rows-long : length (rows walks) ≡ 3 * row
   rows-long = omega (arith, rows-length walks, r .row-is)
 
-  pub row-most : row ≤ length ends / 2
-  row-most = omega (arith, r .row-is, done-most (rooted .admitted) (r .holds .state .along .steps) (r .holds .state .along .once))
+  pub row-most : row ≤ keptEdges p
+  row-most = omega (arith, r .row-is, done-most (r .holds .state .along .steps) (r .holds .state .along .once))
 
   pub now-long : length now ≡ length before
   now-long = written-length (rows walks) before now (r .written) (omega (arith, rows-long, row-most, r .fits))
@@ -46,6 +48,7 @@ module _ {most : Limits} {ends first number : List ℕ} {f row step next : ℕ} 
   abbrev pub stepping : Stepping most ends first number f next places below tips over (length (take (length now - 3 * row) (drop (3 * row) now)))
   stepping = record {
     n = c .n;
+    excluded = c .excluded;
     root = c .root;
     whole = c .whole;
     rooted = c .rooted;
@@ -57,8 +60,8 @@ module _ {most : Limits} {ends first number : List ℕ} {f row step next : ℕ} 
   }
 
   module _ (part places' below' tips' over' : List ℕ) {count next' : ℕ}
-      (s : Stepped (c .n) (c .root) ends first (read number) (c .whole) (c .walks) step next (take (length now - 3 * row) (drop (3 * row) now)) part places places' below' tips' over' count next') where
-    recording-then : Recording (c .n) (c .root) ends first (read number) (c .whole) (s .legs ∷ c .walks) (c .before) (take (3 * row) now ++ (part ++ drop (length now - 3 * row) (drop (3 * row) now)))
+      (s : Stepped (plan (c .n) ends (c .excluded)) (c .root) first (read number) (c .whole) (c .walks) step next (take (length now - 3 * row) (drop (3 * row) now)) part places places' below' tips' over' count next') where
+    recording-then : Recording (plan (c .n) ends (c .excluded)) (c .root) first (read number) (c .whole) (s .legs ∷ c .walks) (c .before) (take (3 * row) now ++ (part ++ drop (length now - 3 * row) (drop (3 * row) now)))
         places' below' tips' over' (row + count) (step + 1) next'
     recording-then = record {
       holds = s .holds;
@@ -69,13 +72,13 @@ module _ {most : Limits} {ends first number : List ℕ} {f row step next : ℕ} 
       fits = c .recording .fits;
     }
 
-    pub row-then : row + count ≤ length ends / 2
+    pub row-then : row + count ≤ keptEdges (plan (c .n) ends (c .excluded))
     row-then = row-most (c .rooted) recording-then
 
-    pub step-then : step + 1 ≤ length ends / 2
+    pub step-then : step + 1 ≤ keptEdges (plan (c .n) ends (c .excluded))
     step-then = omega (arith, step-most (c .rooted) recording-then, row-then)
 
-    pub added : Added (c .n) (c .root) ends first (read number) (c .whole) (c .walks) (c .before) (take (3 * row) now ++ (part ++ drop (length now - 3 * row) (drop (3 * row) now)))
+    pub added : Added (plan (c .n) ends (c .excluded)) (c .root) first (read number) (c .whole) (c .walks) (c .before) (take (3 * row) now ++ (part ++ drop (length now - 3 * row) (drop (3 * row) now)))
         places places' below' tips' over' row next (row + count) (step + 1) next'
     added = record {
       legs = s .legs;
@@ -92,34 +95,35 @@ module _ {most : Limits} {ends first number : List ℕ} {f row step next : ℕ} 
     (e : BothBy most ends first below s x next places tips places₂ tips₂ next₂)
     (k : WalkedBy most ends first f w x next₂ places₂ below tips₂ over places₃ below₃ tips₃ over₃ next₃)
     (c : Adding most ends first number f row step next places below tips over now) where
-  taken : Stepped (c .n) (c .root) ends first (read number) (c .whole) (c .walks) step next (take (length now - 3 * row) (drop (3 * row) now)) part places places₃ below₃ tips₃ over₃ count next₃
+  taken : Stepped (plan (c .n) ends (c .excluded)) (c .root) first (read number) (c .whole) (c .walks) step next (take (length now - 3 * row) (drop (3 * row) now)) part places places₃ below₃ tips₃ over₃ count next₃
   taken = stepped-by step count (take (length now - 3 * row) (drop (3 * row) now)) places₂ tips₂ places₃ below₃ tips₃ over₃ part p q m r e k (stepping c)
 
   pub path-fits : (row + count ≤ most .edges) × (step + 1 ≤ most .edges)
   path-fits = (
-    omega (arith, row-then c part places₃ below₃ tips₃ over₃ taken, c .rooted .admitted .edges),
-    omega (arith, step-then c part places₃ below₃ tips₃ over₃ taken, c .rooted .admitted .edges),
+    omega (arith, row-then c part places₃ below₃ tips₃ over₃ taken, edges-few (plan (c .n) ends (c .excluded)), c .rooted .admitted .edges),
+    omega (arith, step-then c part places₃ below₃ tips₃ over₃ taken, edges-few (plan (c .n) ends (c .excluded)), c .rooted .admitted .edges),
   )
 
-  pub path-added : Added (c .n) (c .root) ends first (read number) (c .whole) (c .walks) (c .before) (take (3 * row) now ++ (part ++ drop (length now - 3 * row) (drop (3 * row) now)))
+  pub path-added : Added (plan (c .n) ends (c .excluded)) (c .root) first (read number) (c .whole) (c .walks) (c .before) (take (3 * row) now ++ (part ++ drop (length now - 3 * row) (drop (3 * row) now)))
       places places₃ below₃ tips₃ over₃ row next (row + count) (step + 1) next₃
   path-added = added c part places₃ below₃ tips₃ over₃ taken
 
 -- Step after step.
 
-module _ {most : Limits} {n : ℕ} {ends incident begins first order number last : List ℕ} {whole : ℕ → ℕ} {before now places below tips over : List ℕ} {row step next empty at slot : ℕ}
-    (r : Going most n ends incident begins first order number last whole before now places below tips over row step next empty at slot) where
-  pub going-most : row ≤ length ends / 2
+module _ {most : Limits} {p : Plan} {incident begins first order number last : List ℕ} {whole : ℕ → ℕ} {before now places below tips over : List ℕ} {row step next empty at slot : ℕ}
+    (r : Going most p incident begins first order number last whole before now places below tips over row step next empty at slot) where
+  pub going-most : row ≤ keptEdges p
   going-most = row-most (r .ground .rooted) (r .recording)
 
   pub going-long : length now ≡ length before
   going-long = now-long (r .ground .rooted) (r .recording)
 
   -- an edge is left
-  module _ (left : row < length ends / 2) where
-    abbrev pub nexting : Nexting most ends incident begins first order number last places below tips over next empty at slot
+  module _ (left : row < keptEdges p) where
+    abbrev pub nexting : Nexting most (p .ends) incident begins first order number last places below tips over next empty at slot
     nexting = record {
-      n = n;
+      n = p .vertices;
+      excluded = p .excluded;
       whole = whole;
       ground = r .ground;
       listing = r .listing;
@@ -129,10 +133,11 @@ module _ {most : Limits} {n : ℕ} {ends incident begins first order number last
       left = omega (arith, left, r .recording .row-is);
     }
 
-    module _ {f : ℕ} (h : Chosen (graph (plan n ends)) (treeOf n ends (read order 0) first (read number)) (allEdges (r .walks)) f) where
-      abbrev pub adding : Adding most ends first number f row step next places below tips over now
+    module _ {f : ℕ} (h : Chosen (graph p) (treeOf p (read order 0) first (read number)) (allEdges (r .walks)) f) where
+      abbrev pub adding : Adding most (p .ends) first number f row step next places below tips over now
       adding = record {
-        n = n;
+        n = p .vertices;
+        excluded = p .excluded;
         root = read order 0;
         whole = whole;
         rooted = r .ground .rooted;
@@ -145,9 +150,9 @@ module _ {most : Limits} {n : ℕ} {ends incident begins first order number last
 
     -- what is built stays so, and links without an inside stay without
     pub going-then : {places' : List ℕ} (below' tips' over' now' : List ℕ) {empty' at' slot' row' step' next' : ℕ}
-        → Behind n (read incident) (read begins) (read order) (read places) (read over) next empty' at' slot'
-        → Added n (read order 0) ends first (read number) whole (r .walks) before now' places places' below' tips' over' row next row' step' next'
-        → Going most n ends incident begins first order number last whole before now' places' below' tips' over' row' step' next' empty' at' slot'
+        → Behind (p .vertices) (read incident) (read begins) (read order) (read places) (read over) next empty' at' slot'
+        → Added p (read order 0) first (read number) whole (r .walks) before now' places places' below' tips' over' row next row' step' next'
+        → Going most p incident begins first order number last whole before now' places' below' tips' over' row' step' next' empty' at' slot'
     going-then {places'} below' tips' over' now' b a = record {
       ground = r .ground;
       listing = r .listing;
@@ -172,18 +177,18 @@ module _ {most : Limits} {n : ℕ} {ends incident begins first order number last
         ]
 
   -- every edge is built
-  pub recorded : length ends / 2 ≤ row → Recorded n ends before now
+  pub recorded : keptEdges p ≤ row → Recorded p before now
   recorded h = record {
     list = rows (r .walks);
     builds = along-end (r .ground .three) (r .recording .holds .state .along)
-        (done-all (r .ground .rooted .admitted) (r .recording .holds .state .along .steps) (r .recording .holds .state .along .once) (omega (arith, h, going-most, r .recording .row-is)));
+        (all-edges (r .recording .holds .state .along .steps) (r .recording .holds .state .along .once) (omega (arith, h, going-most, r .recording .row-is)));
     long = omega (arith, rows-long (r .ground .rooted) (r .recording), h, going-most);
     written = r .recording .written;
   }
 
 -- the cursors at first
-module _ {most : Limits} {ends incident begins first order number last places below tips over now : List ℕ} {row step next : ℕ}
-    (c : Finishing most ends incident begins first order number last places below tips over now row step next) where
+module _ {most : Limits} {ends : List ℕ} {edges : ℕ} {incident begins first order number last places below tips over now : List ℕ} {row step next : ℕ}
+    (c : Finishing most ends edges incident begins first order number last places below tips over now row step next) where
   some-vertex : 0 < c .n
   some-vertex = omega (arith, c .ground .rooted .admitted .two)
 
@@ -197,7 +202,7 @@ module _ {most : Limits} {ends incident begins first order number last places be
   begins-room = omega (arith, top-below, c .ground .grouped .room)
 
   pub going-first : {empty at slot : ℕ} → empty ≡ 2 → at ≡ 0 → slot ≡ read begins (read order 0)
-      → Going most (c .n) ends incident begins first order number last (c .whole) (c .before) now places below tips over row step next empty at slot
+      → Going most (plan (c .n) ends (c .excluded)) incident begins first order number last (c .whole) (c .before) now places below tips over row step next empty at slot
   going-first {empty} {at} {slot} p q u = record {
     ground = c .ground;
     listing = c .listing;

@@ -5,17 +5,17 @@ use Prim.Native.Nat.{ℕ, _+_, _≤_, _<_}
 use native.Mathlib.Omega.{arith}
 use native.Mathlib.Decide.{ℕ-discrete, decLt}
 use lib.ListN.{length}
-use Rattle.connectivity.specs.Plan.{Limits}
+use Rattle.connectivity.specs.Plan.{entire, Limits}
 use Rattle.graph.specs.Marks.{read}
 use Rattle.graph.proofs.Joined.{joins-edge}
 use Rattle.record.specs.Cursors.{NextSlot, Slots, Ahead, Opening, Opened, Scanned}
 
 module _ {most : Limits} {incident begins order over : List ℕ} {at slot : ℕ} (c : Opening most incident begins order over at slot) where
   abbrev State : ℕ → ℕ → Type 0
-  State i from = Scanned (read incident) (read begins) (read order) (read over) at slot (c .n) i from
+  State i from = Scanned (read incident) (read begins) (read order) (read over) at slot (c .p .vertices) i from
 
   abbrev At : ℕ → ℕ → Type 0
-  At i k = Ahead (read order) (read begins) at slot (c .n) i k
+  At i k = Ahead (read order) (read begins) at slot (c .p .vertices) i k
 
   pub scanned-start : State at slot
   scanned-start = record {
@@ -33,7 +33,7 @@ module _ {most : Limits} {incident begins order over : List ℕ} {at slot : ℕ}
     end = read begins (read order i + 1)
 
     -- what is read on the way is there
-    pub scanned-vertex : (read order i < c .n) × (i < length order) × (read order i + 1 < length begins)
+    pub scanned-vertex : (read order i < c .p .vertices) × (i < length order) × (read order i + 1 < length begins)
     scanned-vertex = let v = c .valid i (s .most) in (v, omega (arith, s .most, c .order-long), omega (arith, v, c .grouped .room))
 
     pub scanned-slots : Slots incident (length over) from end
@@ -42,7 +42,7 @@ module _ {most : Limits} {incident begins order over : List ℕ} {at slot : ℕ}
         record {
           low = s .high;
           long = omega (arith, c .grouped .inside (read order i) v, c .grouped .long);
-          edges = λ k a b. let j = c .grouped .joins (read order i) k v (omega (arith, s .low)) b in omega (arith, joins-edge (c .n) (c .ends) (read incident k) (read order i) (j .0) (j .1), c .over-long);
+          edges = λ k a b. let j = c .grouped .joins (read order i) k v (omega (arith, s .low)) b in omega (arith, joins-edge (entire (c .p .vertices) (c .p .ends)) (j .1), c .over-long);
         }
 
     module _ {r : ℕ} (t : NextSlot (read incident) (read over) from end r) where
@@ -50,7 +50,7 @@ module _ {most : Limits} {incident begins order over : List ℕ} {at slot : ℕ}
       up-to : (k : ℕ) → At i k → k < r → read over (read incident k) ≡ 0
       up-to k a l = elim (decLt k from) [ yes h ↦ s .before k a h | no h ↦ t .built k (omega arith) l ]
 
-      pub scanned-end : r < end → Opened (read incident) (read begins) (read order) (read over) at slot (c .n) i r
+      pub scanned-end : r < end → Opened (read incident) (read begins) (read order) (read over) at slot (c .p .vertices) i r
       scanned-end l = record {
         here = record { least = s .least; most = s .most; from = omega (arith, s .low, t .least); to = l; after = λ q. omega (arith, s .after q, t .least) };
         new = t .new l;
@@ -66,8 +66,8 @@ module _ {most : Limits} {incident begins order over : List ℕ} {at slot : ℕ}
         ]
 
         -- this was not the last vertex
-        pub scanned-more : i + 1 < c .n
-        scanned-more = elim (decLt (i + 1) (c .n)) [ yes l ↦ l | no h ↦ absurd (c .some (λ j k a. passed j k a (omega (arith, a .most)))) ]
+        pub scanned-more : i + 1 < c .p .vertices
+        scanned-more = elim (decLt (i + 1) (c .p .vertices)) [ yes l ↦ l | no h ↦ absurd (c .some (λ j k a. passed j k a (omega (arith, a .most)))) ]
 
         pub scanned-next : State (i + 1) (read begins (read order (i + 1)))
         scanned-next = record {

@@ -6,13 +6,14 @@ use Prim.Native.Nat.{ℕ, _+_, _*_, _≤_, _<_}
 use native.Mathlib.Omega.{arith}
 use native.Mathlib.Decide.{ℕ-discrete, decLe}
 use lib.ListN.{length, length-append}
-use Rattle.connectivity.specs.Plan.{plan, graph, Limits}
+use Rattle.connectivity.specs.Plan.{Plan, plan, graph, Limits}
 use Rattle.connectivity.specs.Graph.{Graph, Vertex}
 use Rattle.connectivity.specs.Walk.{Leg, edgesOf, allEdges, froms, Built, Branch}
 use Rattle.connectivity.specs.Mader.{MaderPath, stepRows}
 use Rattle.connectivity.proofs.Lists.{in-dec}
 use Rattle.connectivity.proofs.Reach.{joins-sym, joins-vertex}
 use Rattle.connectivity.proofs.Legs.{leg, legs-edges}
+use Rattle.connectivity.proofs.Kept.{vertex-size}
 use Rattle.tree.specs.Tree.{Pointers, Climb}
 use Rattle.tree.specs.Filed.{Marked}
 use Rattle.tree.specs.State.{Along}
@@ -22,7 +23,7 @@ use Rattle.tree.proofs.Along.{along-step}
 use Rattle.tree.proofs.State.{filed-marked, state-step, belows-map}
 use Rattle.tree.proofs.Shelving.{filed-built, filed-own, marked-map}
 use Rattle.graph.specs.Marks.{read}
-use Rattle.graph.proofs.Joined.{vertex-below, joins-edge}
+use Rattle.graph.proofs.Joined.{joins-edge}
 use Rattle.numbers.specs.Tables.{farEnd}
 use Rattle.record.specs.Ways.{Toward, MetFirst, OneMore, OverUp, Written, Ended, upperEnd}
 use Rattle.numbers.specs.Standing.{Rooted, treeOf}
@@ -35,18 +36,18 @@ use Rattle.record.proofs.Ending.{filing-both, both-on, both-off, both-b
 use Rattle.record.proofs.Counting.{done-most}
 
 -- what the places say of a state
-module _ {most : Limits} {n root : ℕ} {ends first : List ℕ} {rank whole : ℕ → ℕ} {walks : List (List Leg)} {places below tips over : List ℕ} {next : ℕ}
-    (rooted : Rooted most n ends root first rank) (h : Holds n root ends first rank whole walks places below tips over next) where
-  branch-built : (v : ℕ) → Branch (graph (plan n ends)) (allEdges walks) v → Built (graph (plan n ends)) (allEdges walks) v
+module _ {most : Limits} {p : Plan} {root : ℕ} {first : List ℕ} {rank whole : ℕ → ℕ} {walks : List (List Leg)} {places below tips over : List ℕ} {next : ℕ}
+    (rooted : Rooted most p root first rank) (h : Holds p root first rank whole walks places below tips over next) where
+  branch-built : (v : ℕ) → Branch (graph p) (allEdges walks) v → Built (graph p) (allEdges walks) v
   branch-built v b = omega (arith, b)
 
-  pub holds-built : (v : ℕ) → Built (graph (plan n ends)) (allEdges walks) v → 1 ≤ read places v
+  pub holds-built : (v : ℕ) → Built (graph p) (allEdges walks) v → 1 ≤ read places v
   holds-built v b = filed-built (h .state .filed) {v = v} b
 
-  pub built-holds : (v : ℕ) → 1 ≤ read places v → Built (graph (plan n ends)) (allEdges walks) v
+  pub built-holds : (v : ℕ) → 1 ≤ read places v → Built (graph p) (allEdges walks) v
   built-holds v b = h .state .filed .built v b
 
-  pub holds-filing : Filing most n root ends first rank below places tips next
+  pub holds-filing : Filing most p root first rank below places tips next
   holds-filing = record {
     rooted = rooted;
     shelved = filed-own (h .state .filed) branch-built;
@@ -58,29 +59,29 @@ module _ {most : Limits} {n root : ℕ} {ends first : List ℕ} {rank whole : �
 module _ {most : Limits} {ends first number : List ℕ} {f next : ℕ} {places below tips over : List ℕ} {room : ℕ}
     (c : Stepping most ends first number f next places below tips over room) where
   abbrev pub g : Graph
-  g = graph (plan (c .n) ends)
+  g = graph (plan (c .n) ends (c .excluded))
 
   abbrev pub t : Pointers
-  t = treeOf (c .n) ends (c .root) first (read number)
+  t = treeOf (plan (c .n) ends (c .excluded)) (c .root) first (read number)
 
   abbrev pub built : List ℕ
   built = allEdges (c .walks)
 
   -- the ends of f, as the code has them
   pub f-ended : Ended ends number f
-  f-ended = ended (c .n) (c .root) ends first number (c .rooted) (c .number-long) (c .chosen .back .joins .edge)
+  f-ended = ended number (c .rooted) (c .number-long) (c .chosen .back .joins .edge)
 
   pub upper-at : upperEnd ends number f ≡ c .chosen .upper
-  upper-at = back-upper (c .n) (c .root) ends first number (c .rooted) (c .chosen .back)
+  upper-at = back-upper number (c .rooted) (c .chosen .back)
 
   pub lower-at : farEnd ends f (c .chosen .upper) ≡ c .chosen .lower
-  lower-at = back-lower (c .n) (c .root) ends first number (c .rooted) (c .chosen .back)
+  lower-at = back-lower number (c .rooted) (c .chosen .back)
 
   pub lower-vertex : Vertex g (c .chosen .lower)
   lower-vertex = joins-vertex (joins-sym (c .chosen .back .joins))
 
   pub lower-below : c .chosen .lower < c .n
-  lower-below = vertex-below (c .n) ends (c .chosen .lower) lower-vertex
+  lower-below = vertex-size (plan (c .n) ends (c .excluded)) lower-vertex
 
   pub climb : (legs : List Leg) × (x : ℕ) × Climb g t (Built g built) (c .chosen .lower) legs x
   climb = climb-built (c .rooted .tree) (c .holds .state .along .held) lower-vertex
@@ -94,8 +95,8 @@ module _ {most : Limits} {ends first number : List ℕ} {f next : ℕ} {places b
   pub path : MaderPath g built (c .chosen .upper) (leg f (c .chosen .upper) ∷ legs) end
   path = c .chosen .path legs end (climb .2)
 
-  pub below-n : (v : ℕ) → Built g built v → v < c .n
-  below-n v b = vertex-below (c .n) ends v (built-is-vertex (c .rooted .tree) (c .holds .state .along .held) b)
+  pub built-vertex : (v : ℕ) → Built g built v → Vertex g v
+  built-vertex v b = built-is-vertex (c .rooted .tree) (c .holds .state .along .held) b
 
   -- to the first built vertex
   abbrev pub toward : Toward most ends first places (c .chosen .lower)
@@ -117,7 +118,7 @@ module _ {most : Limits} {ends first number : List ℕ} {f next : ℕ} {places b
   pub some-room : 3 * length legs + 3 ≤ room
   some-room = omega (
     arith,
-    done-most (c .rooted .admitted) (along-then .steps) (along-then .once),
+    done-most (along-then .steps) (along-then .once),
     length-append (edgesOf legs) built,
     legs-edges legs,
     c .fits,
@@ -127,7 +128,7 @@ module _ {most : Limits} {ends first number : List ℕ} {f next : ℕ} {places b
   one-more = record { way = climb-way (c .rooted) (climb .2) lower-below; fits = some-room }
 
   -- both ends become branches
-  pub filing : Filing most (c .n) (c .root) ends first (read number) below places tips next
+  pub filing : Filing most (plan (c .n) ends (c .excluded)) (c .root) first (read number) below places tips next
   filing = holds-filing (c .rooted) (c .holds)
 
   pub upper-built : 1 ≤ read places (c .chosen .upper)
@@ -136,15 +137,16 @@ module _ {most : Limits} {ends first number : List ℕ} {f next : ℕ} {places b
   abbrev pub splitting-upper : Splitting most ends first below (c .chosen .upper) next places tips
   splitting-upper = record {
     n = c .n;
+    excluded = c .excluded;
     root = c .root;
     rank = read number;
     filing = filing;
-    vertex = below-n (c .chosen .upper) (path .begins);
+    vertex = built-vertex (c .chosen .upper) (path .begins);
     built = upper-built;
   }
 
   abbrev pub ending : Ending most ends first below (c .chosen .upper) end next places tips
-  ending = record { splitting = splitting-upper; vertex = below-n end (path .ends); built = holds-built (c .rooted) (c .holds) end (path .ends) }
+  ending = record { splitting = splitting-upper; vertex = built-vertex end (path .ends); built = holds-built (c .rooted) (c .holds) end (path .ends) }
 
   -- both are branches
   module _ (places₂ tips₂ : List ℕ) {next₂ : ℕ}
@@ -156,7 +158,7 @@ module _ {most : Limits} {ends first number : List ℕ} {f next : ℕ} {places b
     marked-end : Marked g t (λ v. Branch g built v ⊎ (v ≡ c .chosen .upper)) (both .middle) (read places₂) end
     marked-end = marked-map (λ p. filed-marked (c .rooted .tree) (c .holds .state .filed) marked-upper .branch end p) (both .marked-two)
 
-    pub filing-two : Filing most (c .n) (c .root) ends first (read number) below places₂ tips₂ next₂
+    pub filing-two : Filing most (plan (c .n) ends (c .excluded)) (c .root) first (read number) below places₂ tips₂ next₂
     filing-two = filing-both places₂ tips₂ filing upper-built (ending .built) both (same₂ .0) (same₂ .1)
 
     pub on-two : (v : ℕ) → Built g built v → 1 ≤ read places₂ v
@@ -168,6 +170,7 @@ module _ {most : Limits} {ends first number : List ℕ} {f next : ℕ} {places b
     abbrev pub building : Building most ends first f (c .chosen .lower) end next₂ places₂ below tips₂ over
     building = record {
       n = c .n;
+      excluded = c .excluded;
       root = c .root;
       rank = read number;
       filing = filing-two;
@@ -175,8 +178,8 @@ module _ {most : Limits} {ends first number : List ℕ} {f next : ℕ} {places b
       climb = climb-as (climb .2) (on-two end (path .ends)) (λ v i b. climb-new (climb .2) i (off-two v b));
       branch = both-branch (c .rooted .tree) (filing .shelved) upper-built (ending .built) both;
       from = lower-below;
-      to = below-n end (path .ends);
-      edge = joins-edge (c .n) ends f (c .chosen .upper) (c .chosen .lower) (c .chosen .back .joins);
+      to = vertex-size (plan (c .n) ends (c .excluded)) (built-vertex end (path .ends));
+      edge = joins-edge (plan (c .n) ends (c .excluded)) (c .chosen .back .joins);
       over-long = c .holds .over-long;
     }
 
@@ -199,7 +202,7 @@ module _ {most : Limits} {ends first number : List ℕ} {f next : ℕ} {places b
         off = λ e m. three .over-off e (λ p. m (first-in p)) (λ i. m (later (in-left built i))) ∙ c .holds .uses .off e (λ i. m (later (in-right (edgesOf legs) i)));
       }
 
-      holds-then : Holds (c .n) (c .root) ends first (read number) (c .whole) ((leg f (c .chosen .upper) ∷ legs) ∷ c .walks) places₃ below₃ tips₃ over₃ next₃
+      holds-then : Holds (plan (c .n) ends (c .excluded)) (c .root) first (read number) (c .whole) ((leg f (c .chosen .upper) ∷ legs) ∷ c .walks) places₃ below₃ tips₃ over₃ next₃
       holds-then = record {
         state = state-step (c .rooted .tree) (c .holds .state) (c .chosen .back) (c .chosen .new) (climb .2) path marked-upper marked-end (three .grown) (three .noted);
         links = three .links;
@@ -220,7 +223,7 @@ module _ {most : Limits} {ends first number : List ℕ} {f next : ℕ} {places b
 
       pub stepped : {step count : ℕ} {before after : List ℕ} → next₂ ≤ next₃
           → Written (stepRows step (leg f (c .chosen .upper) ∷ legs)) before after → count ≡ length legs + 1
-          → Stepped (c .n) (c .root) ends first (read number) (c .whole) (c .walks) step next before after places places₃ below₃ tips₃ over₃ count next₃
+          → Stepped (plan (c .n) ends (c .excluded)) (c .root) first (read number) (c .whole) (c .walks) step next before after places places₃ below₃ tips₃ over₃ count next₃
       stepped d w q = record {
         legs = leg f (c .chosen .upper) ∷ legs;
         holds = holds-then;
@@ -290,6 +293,6 @@ module _ {most : Limits} {ends first number : List ℕ} {f next : ℕ} (step cou
   written : Written (stepRows step (leg f (d .chosen .upper) ∷ legs d)) rows rows₃ × (count ≡ length (legs d) + 1)
   written = written-by (one-more d)
 
-  pub stepped-by : Stepped (d .n) (d .root) ends first (read number) (d .whole) (d .walks) step next rows rows₃ places places₃ below₃ tips₃ over₃ count next₃
+  pub stepped-by : Stepped (plan (d .n) ends (d .excluded)) (d .root) first (read number) (d .whole) (d .walks) step next rows rows₃ places places₃ below₃ tips₃ over₃ count next₃
   stepped-by = stepped d places₂ tips₂ (both d p q m places₂ tips₂ e) (same₂ d p q m places₂ tips₂ e) places₃ below₃ tips₃ over₃
       (walked .0) (k .0, k .1, k .2, k .3) (walked .1) (written .0) (written .1)

@@ -4,18 +4,21 @@ use mathlib.Core.List.{List, [], _∷_, _++_, append-nil}
 use Prim.Native.Nat.{ℕ, _+_, _*_, _-_, _/_, _≤_, _<_}
 use native.Mathlib.Omega.{arith}
 use lib.ListN.{length, take, drop, length-append}
-use Rattle.connectivity.specs.Plan.{plan, graph, Limits}
+use Rattle.connectivity.specs.Plan.{Plan, plan, graph, Limits}
 use Rattle.connectivity.specs.Graph.{Graph}
 use Rattle.connectivity.specs.Walk.{Leg, edgesOf, allEdges}
 use Rattle.connectivity.specs.Mader.{stepRows, rows}
+use Rattle.connectivity.specs.Admission.{keptEdges}
 use Rattle.connectivity.proofs.Legs.{leg, legs-edges}
 use Rattle.connectivity.proofs.Build.{step-length}
+use Rattle.connectivity.proofs.Kept.{vertex-size}
 use Rattle.tree.specs.Tree.{Pointers, Child, Climb}
 use Rattle.tree.specs.State.{Along}
 use Rattle.tree.proofs.Above.{parent-vertex}
 use Rattle.tree.proofs.Begin.{meeting-child}
 use Rattle.tree.proofs.Opening.{to-root, along-begin}
-use Rattle.graph.proofs.Joined.{vertex-below, joins-below, joins-edge}
+use Rattle.graph.proofs.Joined.{joins-below, joins-edge}
+use Rattle.graph.proofs.Barring.{edges-few}
 use Rattle.record.specs.Ways.{Written, Way, OneMore, OverUp}
 use Rattle.numbers.specs.Standing.{treeOf}
 use Rattle.record.specs.Opening.{Climbs, threeWalks, Rowed}
@@ -25,46 +28,46 @@ use Rattle.record.proofs.Written.{written-length, part-long, written-pa
 
 -- The walks.
 
-module _ {most : Limits} {n root : ℕ} {ends first : List ℕ} {rank : ℕ → ℕ} {x f w d u : ℕ} (c : Climbs most n root ends first rank x f w d u) where
+module _ {most : Limits} {p : Plan} {root : ℕ} {first : List ℕ} {rank : ℕ → ℕ} {x f w d u : ℕ} (c : Climbs most p root first rank x f w d u) where
   abbrev g : Graph
-  g = graph (plan n ends)
+  g = graph p
 
   abbrev t : Pointers
-  t = treeOf n ends root first rank
+  t = treeOf p root first rank
 
   pub x-child : Child g t x
   x-child = meeting-child (c .rooted .tree) (c .child) (c .one) (c .other) (c .meets)
 
-  pub x-below : x < n
-  x-below = vertex-below n ends x (x-child .vertex)
+  pub x-below : x < p .vertices
+  x-below = vertex-size p (x-child .vertex)
 
-  pub root-below : root < n
-  root-below = vertex-below n ends root (c .rooted .tree .start)
+  pub root-below : root < p .vertices
+  root-below = vertex-size p (c .rooted .tree .start)
 
-  pub parent-below : t .parent x < n
-  parent-below = vertex-below n ends _ (parent-vertex (c .rooted .tree) x-child)
+  pub parent-below : t .parent x < p .vertices
+  parent-below = vertex-size p (parent-vertex (c .rooted .tree) x-child)
 
-  pub w-below : w < n
-  w-below = joins-below n ends f root w (c .one .back .joins)
+  pub w-below : w < p .vertices
+  w-below = joins-below p (c .one .back .joins)
 
-  pub u-below : u < n
-  u-below = joins-below n ends d root u (c .other .back .joins)
+  pub u-below : u < p .vertices
+  u-below = joins-below p (c .other .back .joins)
 
-  pub f-below : f < length ends / 2
-  f-below = joins-edge n ends f root w (c .one .back .joins)
+  pub f-below : f < length (p .ends) / 2
+  f-below = joins-edge p (c .one .back .joins)
 
-  pub d-below : d < length ends / 2
-  d-below = joins-edge n ends d root u (c .other .back .joins)
+  pub d-below : d < length (p .ends) / 2
+  d-below = joins-edge p (c .other .back .joins)
 
-  pub e-below : t .first x < length ends / 2
-  e-below = joins-edge n ends _ x _ (c .rooted .tree .joins x x-child)
+  pub e-below : t .first x < length (p .ends) / 2
+  e-below = joins-edge p (c .rooted .tree .joins x x-child)
 
   pub along : Along g t (threeWalks root x f (t .first x) d (c .low) (c .high) (c .side))
   along = along-begin (c .rooted .tree) (c .child) (c .one) (c .other) (c .differ) (c .meets) (c .to-x)
       (to-root (c .rooted .tree) (c .child) (c .one) (c .other) (c .differ) (c .meets) (c .to-x) (c .up))
 
-  three-few : length (allEdges (threeWalks root x f (t .first x) d (c .low) (c .high) (c .side))) ≤ length ends / 2
-  three-few = done-most (c .rooted .admitted) (along .steps) (along .once)
+  three-few : length (allEdges (threeWalks root x f (t .first x) d (c .low) (c .high) (c .side))) ≤ keptEdges p
+  three-few = done-most (along .steps) (along .once)
 
 three-count : (root x f e d : ℕ) (low high side : List Leg)
     → length (allEdges (threeWalks root x f e d low high side)) ≡ length high + length low + length side + 3
@@ -82,18 +85,18 @@ three-count root x f e d low high side =
 -- Their rows.
 
 module _ {most : Limits} {ends first : List ℕ} {root x e p f w d u : ℕ} (before : List ℕ) (c : Rowed most ends first root x e p f w d u (length before)) where
-  abbrev b : Climbs most (c .n) root ends first (c .rank) x f w d u
+  abbrev b : Climbs most (plan (c .n) ends (c .excluded)) root first (c .rank) x f w d u
   b = c .climbs
 
   pub fits : 3 * (length (b .high) + length (b .low) + length (b .side) + 3) ≤ length before
-  fits = omega (arith, three-few b, three-count root x f (treeOf (c .n) ends root first (c .rank) .first x) d (b .low) (b .high) (b .side), c .fits)
+  fits = omega (arith, three-few b, three-count root x f (treeOf (plan (c .n) ends (c .excluded)) root first (c .rank) .first x) d (b .low) (b .high) (b .side), c .fits)
 
   few : length (b .high) + length (b .low) + length (b .side) + 3 ≤ most .edges
-  few = omega (arith, three-few b, three-count root x f (treeOf (c .n) ends root first (c .rank) .first x) d (b .low) (b .high) (b .side), b .rooted .admitted .edges)
+  few = omega (arith, three-few b, three-count root x f (treeOf (plan (c .n) ends (c .excluded)) root first (c .rank) .first x) d (b .low) (b .high) (b .side), edges-few (plan (c .n) ends (c .excluded)), b .rooted .admitted .edges)
 
   abbrev pub high-way : Way most ends first p root
   high-way = climb-way (b .rooted)
-      (subst (λ (y : ℕ). Climb (graph (plan (c .n) ends)) (treeOf (c .n) ends root first (c .rank)) (λ v. v ≡ root) y (b .high) root) (sym (c .parent)) (b .up))
+      (subst (λ (y : ℕ). Climb (graph (plan (c .n) ends (c .excluded))) (treeOf (plan (c .n) ends (c .excluded)) root first (c .rank)) (λ v. v ≡ root) y (b .high) root) (sym (c .parent)) (b .up))
       (subst (λ (y : ℕ). y < c .n) (sym (c .parent)) (parent-below b))
 
   abbrev pub high-room : OneMore most ends first p root (length before)

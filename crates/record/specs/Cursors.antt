@@ -3,7 +3,7 @@ use mathlib.Core.Path.{_≡_}
 use mathlib.Core.List.{List}
 use Prim.Native.Nat.{ℕ, _+_, _/_, _≤_, _<_}
 use lib.ListN.{length}
-use Rattle.connectivity.specs.Plan.{plan, Limits}
+use Rattle.connectivity.specs.Plan.{Plan, Limits}
 use Rattle.connectivity.specs.Admission.{Admitted}
 use Rattle.graph.specs.Marks.{read}
 use Rattle.record.specs.Standing.{Grouped}
@@ -38,17 +38,16 @@ pub record Ahead (order begins : ℕ → ℕ) (at slot n i k : ℕ) : Type 0 whe
 
 -- what `next_open` asks: some edge ahead is not built
 pub record Opening (most : Limits) (incident begins order over : List ℕ) (at slot : ℕ) : Type 0 where
-  pub n : ℕ
-  pub ends : List ℕ
-  pub admitted : Admitted most (plan n ends)
-  pub grouped : Grouped n ends incident begins
-  pub valid : (k : ℕ) → k < n → read order k < n
-  pub order-long : n ≤ length order
-  pub over-long : length ends / 2 ≤ length over
-  pub at-below : at < n
+  pub p : Plan
+  pub admitted : Admitted most p
+  pub grouped : Grouped p incident begins
+  pub valid : (k : ℕ) → k < p .vertices → read order k < p .vertices
+  pub order-long : p .vertices ≤ length order
+  pub over-long : length (p .ends) / 2 ≤ length over
+  pub at-below : at < p .vertices
   pub slot-from : read begins (read order at) ≤ slot
   pub slot-to : slot ≤ read begins (read order at + 1)
-  pub some : ((i k : ℕ) → Ahead (read order) (read begins) at slot n i k → read over (read incident k) ≡ 0) → ⊥
+  pub some : ((i k : ℕ) → Ahead (read order) (read begins) at slot (p .vertices) i k → read over (read incident k) ≡ 0) → ⊥
 
 -- it comes to an edge that is not built, and those that it passes are built
 pub record Opened (incident begins order over : ℕ → ℕ) (at slot n at' slot' : ℕ) : Type 0 where
@@ -59,7 +58,7 @@ pub record Opened (incident begins order over : ℕ → ℕ) (at slot n at' slot
 
 abbrev pub OpenedAt : Limits → List ℕ → List ℕ → List ℕ → List ℕ → ℕ → ℕ → ℕ → ℕ → Type 0
 OpenedAt most incident begins order over at slot at' slot' =
-    (c : Opening most incident begins order over at slot) → Opened (read incident) (read begins) (read order) (read over) at slot (c .n) at' slot'
+    (c : Opening most incident begins order over at slot) → Opened (read incident) (read begins) (read order) (read over) at slot (c .p .vertices) at' slot'
 
 -- on the way, at place `from` of the group of the vertex at place i: all that is ahead of the cursor and before this is built
 pub record Scanned (incident begins order over : ℕ → ℕ) (at slot n i from : ℕ) : Type 0 where
@@ -73,4 +72,4 @@ pub record Scanned (incident begins order over : ℕ → ℕ) (at slot n i from 
 
 abbrev pub ScannedTo : Limits → List ℕ → List ℕ → List ℕ → List ℕ → ℕ → ℕ → ℕ → ℕ → Type 0
 ScannedTo most incident begins order over at slot i from =
-    (c : Opening most incident begins order over at slot) → Scanned (read incident) (read begins) (read order) (read over) at slot (c .n) i from
+    (c : Opening most incident begins order over at slot) → Scanned (read incident) (read begins) (read order) (read over) at slot (c .p .vertices) i from

@@ -22,15 +22,16 @@ pub record Uses (built : List ℕ) (whole over : ℕ → ℕ) : Type 0 where
 -- what `leave_link` asks
 pub record Leaving (most : Limits) (ends incident begins first number last places below over : List ℕ) (top bottom : ℕ) : Type 0 where
   pub n : ℕ
+  pub excluded : List ℕ
   pub root : ℕ
   pub whole : ℕ → ℕ
-  pub ground : Ground most n root ends incident begins first number last whole
+  pub ground : Ground most (plan n ends excluded) root incident begins first number last whole
   pub walks : List (List Leg)
-  pub state : State (graph (plan n ends)) (treeOf n ends root first (read number)) walks (read places) (read below)
+  pub state : State (graph (plan n ends excluded)) (treeOf (plan n ends excluded) root first (read number)) walks (read places) (read below)
   pub uses : Uses (allEdges walks) whole (read over)
   pub link : ℕ
   pub large : 2 ≤ link
-  pub tips : Tips (graph (plan n ends)) (treeOf n ends root first (read number)) (read places) link top bottom
+  pub tips : Tips (graph (plan n ends excluded)) (treeOf (plan n ends excluded) root first (read number)) (read places) link top bottom
   pub places-long : n ≤ length places
   pub below-long : n ≤ length below
   pub over-long : length ends / 2 ≤ length over
@@ -53,4 +54,4 @@ pub record Exit (g : Graph) (t : Pointers) (built : List ℕ) (over place below 
 abbrev pub LeftBy : Limits → List ℕ → List ℕ → List ℕ → List ℕ → List ℕ → List ℕ → List ℕ → List ℕ → List ℕ → ℕ → ℕ → ℕ → Type 0
 LeftBy most ends incident begins first number last places below over top bottom r =
     (c : Leaving most ends incident begins first number last places below over top bottom)
-    → Exit (graph (plan (c .n) ends)) (treeOf (c .n) ends (c .root) first (read number)) (allEdges (c .walks)) (λ e. c .whole e - 1) (read places) (read below) (c .link) bottom r
+    → Exit (graph (plan (c .n) ends (c .excluded))) (treeOf (plan (c .n) ends (c .excluded)) (c .root) first (read number)) (allEdges (c .walks)) (λ e. c .whole e - 1) (read places) (read below) (c .link) bottom r

@@ -3,8 +3,8 @@ use mathlib.Core.Path.{_≡_}
 use mathlib.Core.List.{List, List·Memᴰ as In}
 use Prim.Native.Nat.{ℕ, _+_, _*_, _/_, _≤_, _<_}
 use lib.ListN.{length, set}
-use Rattle.connectivity.specs.Plan.{plan, graph, Limits}
-use Rattle.connectivity.specs.Graph.{Graph}
+use Rattle.connectivity.specs.Plan.{Plan, plan, graph, Limits}
+use Rattle.connectivity.specs.Graph.{Graph, Vertex}
 use Rattle.connectivity.specs.Walk.{Leg, edgesOf}
 use Rattle.tree.specs.Tree.{Pointers, Climb}
 use Rattle.tree.specs.Filed.{Marked, Grown, Noted, Belows}
@@ -30,20 +30,21 @@ pub record Roomy (n : ℕ) (below places tips : List ℕ) : Type 0 where
   pub tips-long : 2 * (n + 2) ≤ length tips
 
 -- the places of some vertices of the tree, the children noted below, and the links
-pub record Filing (most : Limits) (n root : ℕ) (ends first : List ℕ) (rank : ℕ → ℕ) (below places tips : List ℕ) (next : ℕ) : Type 0 where
-  pub rooted : Rooted most n ends root first rank
-  pub shelved : Shelved (graph (plan n ends)) (treeOf n ends root first rank) (read places)
-  pub belows : Belows (graph (plan n ends)) (treeOf n ends root first rank) (λ v. 1 ≤ read places v) (read places) (read below)
-  pub links : Links (graph (plan n ends)) (treeOf n ends root first rank) (read places) (topOf tips) (bottomOf tips) next
-  pub roomy : Roomy n below places tips
+pub record Filing (most : Limits) (p : Plan) (root : ℕ) (first : List ℕ) (rank : ℕ → ℕ) (below places tips : List ℕ) (next : ℕ) : Type 0 where
+  pub rooted : Rooted most p root first rank
+  pub shelved : Shelved (graph p) (treeOf p root first rank) (read places)
+  pub belows : Belows (graph p) (treeOf p root first rank) (λ v. 1 ≤ read places v) (read places) (read below)
+  pub links : Links (graph p) (treeOf p root first rank) (read places) (topOf tips) (bottomOf tips) next
+  pub roomy : Roomy (p .vertices) below places tips
 
 -- what `split` asks: v is built
 pub record Splitting (most : Limits) (ends first below : List ℕ) (v next : ℕ) (places tips : List ℕ) : Type 0 where
   pub n : ℕ
+  pub excluded : List ℕ
   pub root : ℕ
   pub rank : ℕ → ℕ
-  pub filing : Filing most n root ends first rank below places tips next
-  pub vertex : v < n
+  pub filing : Filing most (plan n ends excluded) root first rank below places tips next
+  pub vertex : Vertex (graph (plan n ends excluded)) v
   pub built : 1 ≤ read places v
 
 -- v is a branch now, and the links are known again
@@ -57,7 +58,7 @@ abbrev pub PartedBy : Limits → List ℕ → List ℕ → List ℕ → ℕ → 
 PartedBy most ends first below v next places tips places' tips' r =
     (length places' ≡ length places) × (length tips' ≡ length tips)
     × ((c : Splitting most ends first below v next places tips)
-    → Parted (graph (plan (c .n) ends)) (treeOf (c .n) ends (c .root) first (c .rank)) v next (read places) (read places') (topOf tips') (bottomOf tips') r × (next ≤ r))
+    → Parted (graph (plan (c .n) ends (c .excluded))) (treeOf (plan (c .n) ends (c .excluded)) (c .root) first (c .rank)) v next (read places) (read places') (topOf tips') (bottomOf tips') r × (next ≤ r))
 
 -- two vertices have become branches, one after the other
 pub record BothParted (g : Graph) (t : Pointers) (v w next : ℕ) (place place' top' bottom' : ℕ → ℕ) (next' : ℕ) : Type 0 where
@@ -71,23 +72,24 @@ pub record BothParted (g : Graph) (t : Pointers) (v w next : ℕ) (place place' 
 -- what `split_both` asks: both are built
 pub record Ending (most : Limits) (ends first below : List ℕ) (v w next : ℕ) (places tips : List ℕ) : Type 0 where
   pub splitting : Splitting most ends first below v next places tips
-  pub vertex : w < splitting .n
+  pub vertex : Vertex (graph (plan (splitting .n) ends (splitting .excluded))) w
   pub built : 1 ≤ read places w
 
 abbrev pub BothBy : Limits → List ℕ → List ℕ → List ℕ → ℕ → ℕ → ℕ → List ℕ → List ℕ → List ℕ → List ℕ → ℕ → Type 0
 BothBy most ends first below v w next places tips places' tips' r =
     (length places' ≡ length places) × (length tips' ≡ length tips)
     × ((c : Ending most ends first below v w next places tips)
-    → BothParted (graph (plan (c .splitting .n) ends)) (treeOf (c .splitting .n) ends (c .splitting .root) first (c .splitting .rank)) v w next (read places) (read places') (topOf tips') (bottomOf tips') r)
+    → BothParted (graph (plan (c .splitting .n) ends (c .splitting .excluded))) (treeOf (plan (c .splitting .n) ends (c .splitting .excluded)) (c .splitting .root) first (c .splitting .rank)) v w next (read places) (read places') (topOf tips') (bottomOf tips') r)
 
 -- what `build_walk` asks: an edge, and a climb from v to the branch `stop`
 pub record Building (most : Limits) (ends first : List ℕ) (e v stop next : ℕ) (places below tips over : List ℕ) : Type 0 where
   pub n : ℕ
+  pub excluded : List ℕ
   pub root : ℕ
   pub rank : ℕ → ℕ
-  pub filing : Filing most n root ends first rank below places tips next
+  pub filing : Filing most (plan n ends excluded) root first rank below places tips next
   pub legs : List Leg
-  pub climb : Climb (graph (plan n ends)) (treeOf n ends root first rank) (λ y. 1 ≤ read places y) v legs stop
+  pub climb : Climb (graph (plan n ends excluded)) (treeOf (plan n ends excluded) root first rank) (λ y. 1 ≤ read places y) v legs stop
   pub branch : read places stop ≡ 1
   pub from : v < n
   pub to : stop < n
@@ -107,5 +109,5 @@ abbrev pub WalkedBy : Limits → List ℕ → List ℕ → ℕ → ℕ → ℕ �
 WalkedBy most ends first e v stop next places below tips over places' below' tips' over' r =
     (length places' ≡ length places) × (length below' ≡ length below) × (length tips' ≡ length tips) × (length over' ≡ length over)
     × ((c : Building most ends first e v stop next places below tips over)
-    → Walked (graph (plan (c .n) ends)) (treeOf (c .n) ends (c .root) first (c .rank)) e (c .legs) next
+    → Walked (graph (plan (c .n) ends (c .excluded))) (treeOf (plan (c .n) ends (c .excluded)) (c .root) first (c .rank)) e (c .legs) next
     (read places) (read below) (read over) (read places') (read below') (topOf tips') (bottomOf tips') (read over') r × (next ≤ r))

@@ -3,11 +3,11 @@ use mathlib.Core.Path.{_≡_}
 use mathlib.Core.List.{List, [], _∷_}
 use Prim.Native.Nat.{ℕ, _+_, _*_, _/_, _≤_, _<_}
 use lib.ListN.{length}
-use Rattle.connectivity.specs.Plan.{plan, graph, Limits}
-use Rattle.connectivity.specs.Graph.{Graph}
+use Rattle.connectivity.specs.Plan.{Plan, plan, graph, Limits}
+use Rattle.connectivity.specs.Graph.{Graph, Vertex}
 use Rattle.connectivity.specs.Walk.{Leg, allEdges}
 use Rattle.connectivity.specs.Mader.{rows}
-use Rattle.connectivity.specs.Admission.{Admitted}
+use Rattle.connectivity.specs.Admission.{keptEdges, Admitted}
 use Rattle.connectivity.proofs.Legs.{leg}
 use Rattle.tree.specs.Tree.{Pointers, Child, Above, Passing, Climb}
 use Rattle.graph.specs.Marks.{read}
@@ -37,9 +37,10 @@ DoorAt ends incident first number end r k = Door (read first) (read number) end 
 -- what `next_door` asks: the edges at each vertex, and that some place from `from` on is that of a door
 pub record Doors (most : Limits) (ends incident first number : List ℕ) (end r from : ℕ) : Type 0 where
   pub n : ℕ
+  pub excluded : List ℕ
   pub begins : List ℕ
-  pub admitted : Admitted most (plan n ends)
-  pub grouped : Grouped n ends incident begins
+  pub admitted : Admitted most (plan n ends excluded)
+  pub grouped : Grouped (plan n ends excluded) incident begins
   pub vertex : r < n
   pub first-long : n ≤ length first
   pub number-long : n ≤ length number
@@ -62,10 +63,11 @@ NextDoorBy most ends incident first number end r from k =
 -- what `meeting` asks: no mark is set
 pub record Meets (most : Limits) (ends first : List ℕ) (w u r : ℕ) (marks : List ℕ) : Type 0 where
   pub n : ℕ
+  pub excluded : List ℕ
   pub rank : ℕ → ℕ
-  pub rooted : Rooted most n ends r first rank
-  pub one : w < n
-  pub other : u < n
+  pub rooted : Rooted most (plan n ends excluded) r first rank
+  pub one : Vertex (graph (plan n ends excluded)) w
+  pub other : Vertex (graph (plan n ends excluded)) u
   pub room : n ≤ length marks
   pub blank : (v : ℕ) → read marks v ≡ 0
 
@@ -77,25 +79,25 @@ pub record Meeting (g : Graph) (t : Pointers) (w u x : ℕ) : Type 0 where
 abbrev pub Met : Limits → List ℕ → List ℕ → ℕ → ℕ → ℕ → List ℕ → List ℕ → ℕ → Type 0
 Met most ends first w u r marks marks' x =
     (length marks' ≡ length marks)
-    × ((c : Meets most ends first w u r marks) → ((v : ℕ) → read marks' v ≡ 0) × Meeting (graph (plan (c .n) ends)) (treeOf (c .n) ends r first (c .rank)) w u x)
+    × ((c : Meets most ends first w u r marks) → ((v : ℕ) → read marks' v ≡ 0) × Meeting (graph (plan (c .n) ends (c .excluded))) (treeOf (plan (c .n) ends (c .excluded)) r first (c .rank)) w u x)
 
 -- The three walks.
 
 -- two edges f and d from the root past the first edge of c, and the ways up: from w to x, from the parent of x to the root, and from u to the first
 -- vertex above w, which is x
-pub record Climbs (most : Limits) (n root : ℕ) (ends first : List ℕ) (rank : ℕ → ℕ) (x f w d u : ℕ) : Type 0 where
-  pub rooted : Rooted most n ends root first rank
+pub record Climbs (most : Limits) (p : Plan) (root : ℕ) (first : List ℕ) (rank : ℕ → ℕ) (x f w d u : ℕ) : Type 0 where
+  pub rooted : Rooted most p root first rank
   pub c : ℕ
-  pub child : Child (graph (plan n ends)) (treeOf n ends root first rank) c
-  pub one : Passing (graph (plan n ends)) (treeOf n ends root first rank) c f root w
-  pub other : Passing (graph (plan n ends)) (treeOf n ends root first rank) c d root u
+  pub child : Child (graph p) (treeOf p root first rank) c
+  pub one : Passing (graph p) (treeOf p root first rank) c f root w
+  pub other : Passing (graph p) (treeOf p root first rank) c d root u
   pub differ : f ≡ d → ⊥
   pub low : List Leg
-  pub to-x : Climb (graph (plan n ends)) (treeOf n ends root first rank) (λ v. v ≡ x) w low x
+  pub to-x : Climb (graph p) (treeOf p root first rank) (λ v. v ≡ x) w low x
   pub high : List Leg
-  pub up : Climb (graph (plan n ends)) (treeOf n ends root first rank) (λ v. v ≡ root) (treeOf n ends root first rank .parent x) high root
+  pub up : Climb (graph p) (treeOf p root first rank) (λ v. v ≡ root) (treeOf p root first rank .parent x) high root
   pub side : List Leg
-  pub meets : Climb (graph (plan n ends)) (treeOf n ends root first rank) (λ v. Above (graph (plan n ends)) (treeOf n ends root first rank) v w) u side x
+  pub meets : Climb (graph p) (treeOf p root first rank) (λ v. Above (graph p) (treeOf p root first rank) v w) u side x
 
 -- the walks, the latest first: over d, over f, from x over its first edge e
 abbrev pub threeWalks : ℕ → ℕ → ℕ → ℕ → ℕ → List Leg → List Leg → List Leg → List (List Leg)
@@ -104,58 +106,61 @@ threeWalks root x f e d low high side = (leg d root ∷ side) ∷ (leg f root �
 -- what `find` asks: the tables of the tree, and no mark in `places`
 pub record Finding (most : Limits) (ends incident begins first order number last : List ℕ) (root : ℕ) (places : List ℕ) : Type 0 where
   pub n : ℕ
+  pub excluded : List ℕ
   pub over : ℕ → ℕ
-  pub ground : Ground most n root ends incident begins first number last over
-  pub listing : Listed n root order number
+  pub ground : Ground most (plan n ends excluded) root incident begins first number last over
+  pub listing : Listed (plan n ends excluded) root order number
   pub places-blank : (v : ℕ) → read places v ≡ 0
   pub places-long : n ≤ length places
 
--- e leads from x to its parent p
-pub record Forked (most : Limits) (n root : ℕ) (ends first : List ℕ) (rank : ℕ → ℕ) (places : List ℕ) (x e p f w d u : ℕ) : Type 0 where
-  pub climbs : Climbs most n root ends first rank x f w d u
-  pub edge : e ≡ treeOf n ends root first rank .first x
-  pub parent : p ≡ treeOf n ends root first rank .parent x
+-- e leads from x to its parent y
+pub record Forked (most : Limits) (p : Plan) (root : ℕ) (first : List ℕ) (rank : ℕ → ℕ) (places : List ℕ) (x e y f w d u : ℕ) : Type 0 where
+  pub climbs : Climbs most p root first rank x f w d u
+  pub edge : e ≡ treeOf p root first rank .first x
+  pub parent : y ≡ treeOf p root first rank .parent x
   pub blank : (v : ℕ) → read places v ≡ 0
 
 abbrev pub ForkedBy : Limits → List ℕ → List ℕ → List ℕ → List ℕ → List ℕ → List ℕ → List ℕ → ℕ → List ℕ → List ℕ → ℕ → ℕ → ℕ → ℕ → ℕ → ℕ → ℕ → Type 0
-ForkedBy most ends incident begins first order number last root places places' x e p f w d u =
+ForkedBy most ends incident begins first order number last root places places' x e y f w d u =
     (length places' ≡ length places)
-    × ((c : Finding most ends incident begins first order number last root places) → Forked most (c .n) root ends first (read number) places' x e p f w d u)
+    × ((c : Finding most ends incident begins first order number last root places) → Forked most (plan (c .n) ends (c .excluded)) root first (read number) places' x e y f w d u)
 
 -- what writing them asks
-pub record Rowed (most : Limits) (ends first : List ℕ) (root x e p f w d u room : ℕ) : Type 0 where
+pub record Rowed (most : Limits) (ends first : List ℕ) (root x e y f w d u room : ℕ) : Type 0 where
   pub n : ℕ
+  pub excluded : List ℕ
   pub rank : ℕ → ℕ
-  pub climbs : Climbs most n root ends first rank x f w d u
-  pub edge : e ≡ treeOf n ends root first rank .first x
-  pub parent : p ≡ treeOf n ends root first rank .parent x
-  pub fits : 3 * (length ends / 2) ≤ room
+  pub climbs : Climbs most (plan n ends excluded) root first rank x f w d u
+  pub edge : e ≡ treeOf (plan n ends excluded) root first rank .first x
+  pub parent : y ≡ treeOf (plan n ends excluded) root first rank .parent x
+  pub fits : 3 * keptEdges (plan n ends excluded) ≤ room
 
 abbrev pub RowedBy : Limits → List ℕ → List ℕ → ℕ → ℕ → ℕ → ℕ → ℕ → ℕ → ℕ → ℕ → List ℕ → List ℕ → ℕ → Type 0
-RowedBy most ends first root x e p f w d u before after count =
-    (c : Rowed most ends first root x e p f w d u (length before))
+RowedBy most ends first root x e y f w d u before after count =
+    (c : Rowed most ends first root x e y f w d u (length before))
     → Written (rows (threeWalks root x f e d (c .climbs .low) (c .climbs .high) (c .climbs .side))) before after
     × (count ≡ length (allEdges (threeWalks root x f e d (c .climbs .low) (c .climbs .high) (c .climbs .side))))
 
 -- what building them asks: nothing in the tables by vertex
-pub record Raw (most : Limits) (ends first : List ℕ) (root x e p f w d u : ℕ) (places below tips over : List ℕ) : Type 0 where
+pub record Raw (most : Limits) (ends first : List ℕ) (root x e y f w d u : ℕ) (places below tips over : List ℕ) : Type 0 where
   pub n : ℕ
+  pub excluded : List ℕ
   pub rank : ℕ → ℕ
-  pub climbs : Climbs most n root ends first rank x f w d u
-  pub edge : e ≡ treeOf n ends root first rank .first x
-  pub parent : p ≡ treeOf n ends root first rank .parent x
+  pub climbs : Climbs most (plan n ends excluded) root first rank x f w d u
+  pub edge : e ≡ treeOf (plan n ends excluded) root first rank .first x
+  pub parent : y ≡ treeOf (plan n ends excluded) root first rank .parent x
   pub places-blank : (v : ℕ) → read places v ≡ 0
   pub below-blank : (v : ℕ) → read below v ≡ 0
   pub roomy : Roomy n below places tips
   pub over-long : length ends / 2 ≤ length over
 
 abbrev pub RaisedBy : Limits → List ℕ → List ℕ → ℕ → ℕ → ℕ → ℕ → ℕ → ℕ → ℕ → ℕ → List ℕ → List ℕ → List ℕ → List ℕ → List ℕ → List ℕ → List ℕ → List ℕ → ℕ → Type 0
-RaisedBy most ends first root x e p f w d u places below tips over places' below' tips' over' next =
-    (c : Raw most ends first root x e p f w d u places below tips over)
-    → Holds (c .n) root ends first (c .rank) (read over) (threeWalks root x f e d (c .climbs .low) (c .climbs .high) (c .climbs .side)) places' below' tips' over' next
+RaisedBy most ends first root x e y f w d u places below tips over places' below' tips' over' next =
+    (c : Raw most ends first root x e y f w d u places below tips over)
+    → Holds (plan (c .n) ends (c .excluded)) root first (c .rank) (read over) (threeWalks root x f e d (c .climbs .low) (c .climbs .high) (c .climbs .side)) places' below' tips' over' next
 
 -- the edge of the walk k, where it leads, and where the way up from there ends
-pub record WayAt (k root x e p f w d u edge v stop : ℕ) : Type 0 where
-  pub one : k ≡ 0 → (edge ≡ e) × (v ≡ p) × (stop ≡ root)
+pub record WayAt (k root x e y f w d u edge v stop : ℕ) : Type 0 where
+  pub one : k ≡ 0 → (edge ≡ e) × (v ≡ y) × (stop ≡ root)
   pub two : k ≡ 1 → (edge ≡ f) × (v ≡ w) × (stop ≡ x)
   pub three : k ≡ 2 → (edge ≡ d) × (v ≡ u) × (stop ≡ x)

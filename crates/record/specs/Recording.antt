@@ -3,12 +3,12 @@ use mathlib.Core.Path.{_≡_}
 use mathlib.Core.List.{List, _∷_, List·Memᴰ as In}
 use Prim.Native.Nat.{ℕ, _+_, _-_, _*_, _/_, _≤_, _<_}
 use lib.ListN.{length}
-use Rattle.connectivity.specs.Plan.{plan, graph, Limits}
+use Rattle.connectivity.specs.Plan.{Plan, plan, graph, Limits}
 use Rattle.connectivity.specs.Graph.{Graph}
 use Rattle.connectivity.specs.Reach.{ThreeEdgeConnected}
 use Rattle.connectivity.specs.Walk.{Leg, allEdges, Built}
 use Rattle.connectivity.specs.Mader.{MaderPath, rows, stepRows, Builds}
-use Rattle.connectivity.specs.Admission.{Admitted}
+use Rattle.connectivity.specs.Admission.{keptEdges, Admitted}
 use Rattle.connectivity.proofs.Legs.{leg}
 use Rattle.tree.specs.Tree.{Pointers, Back, Climb}
 use Rattle.tree.specs.State.{State}
@@ -21,56 +21,57 @@ use Rattle.record.specs.Linking.{Roomy, topOf, bottomOf}
 use Rattle.record.specs.Leaving.{Uses}
 
 -- a plan with no cut of at most two edges, and a list with room for its rows
-pub record Sturdy (most : Limits) (n : ℕ) (ends : List ℕ) (room : ℕ) : Type 0 where
-  pub admitted : Admitted most (plan n ends)
-  pub three : ThreeEdgeConnected (graph (plan n ends))
-  pub fits : 3 * (length ends / 2) ≤ room
+pub record Sturdy (most : Limits) (p : Plan) (room : ℕ) : Type 0 where
+  pub admitted : Admitted most p
+  pub three : ThreeEdgeConnected (graph p)
+  pub fits : 3 * keptEdges p ≤ room
 
 -- a record that builds the plan stands at the front, and what stands behind stays
-pub record Recorded (n : ℕ) (ends before after : List ℕ) : Type 0 where
+pub record Recorded (p : Plan) (before after : List ℕ) : Type 0 where
   pub list : List ℕ
-  pub builds : Builds (graph (plan n ends)) list
-  pub long : length list ≡ 3 * (length ends / 2)
+  pub builds : Builds (graph p) list
+  pub long : length list ≡ 3 * keptEdges p
   pub written : Written list before after
 
 -- the steps so far, and what the tables say of them
-pub record Holds (n root : ℕ) (ends first : List ℕ) (rank whole : ℕ → ℕ) (walks : List (List Leg)) (places below tips over : List ℕ) (next : ℕ) : Type 0 where
-  pub state : State (graph (plan n ends)) (treeOf n ends root first rank) walks (read places) (read below)
-  pub links : Links (graph (plan n ends)) (treeOf n ends root first rank) (read places) (topOf tips) (bottomOf tips) next
+pub record Holds (p : Plan) (root : ℕ) (first : List ℕ) (rank whole : ℕ → ℕ) (walks : List (List Leg)) (places below tips over : List ℕ) (next : ℕ) : Type 0 where
+  pub state : State (graph p) (treeOf p root first rank) walks (read places) (read below)
+  pub links : Links (graph p) (treeOf p root first rank) (read places) (topOf tips) (bottomOf tips) next
   pub uses : Uses (allEdges walks) whole (read over)
-  pub roomy : Roomy n below places tips
-  pub over-long : length ends / 2 ≤ length over
+  pub roomy : Roomy (p .vertices) below places tips
+  pub over-long : length (p .ends) / 2 ≤ length over
 
 -- and their rows at the front of the list
-pub record Recording (n root : ℕ) (ends first : List ℕ) (rank whole : ℕ → ℕ) (walks : List (List Leg)) (before now places below tips over : List ℕ) (row step next : ℕ) : Type 0 where
-  pub holds : Holds n root ends first rank whole walks places below tips over next
+pub record Recording (p : Plan) (root : ℕ) (first : List ℕ) (rank whole : ℕ → ℕ) (walks : List (List Leg)) (before now places below tips over : List ℕ) (row step next : ℕ) : Type 0 where
+  pub holds : Holds p root first rank whole walks places below tips over next
   pub written : Written (rows walks) before now
   pub row-is : row ≡ length (allEdges walks)
   pub step-is : step ≡ length walks
-  pub fits : 3 * (length ends / 2) ≤ length before
+  pub fits : 3 * keptEdges p ≤ length before
 
 -- The first three walks.
 
 -- what they ask: the tables of the tree, nothing in the others, and room for the rows
 pub record Beginning (most : Limits) (ends incident begins first order number last : List ℕ) (places below tips over : List ℕ) (room : ℕ) : Type 0 where
   pub n : ℕ
-  pub ground : Ground most n (read order 0) ends incident begins first number last (read over)
-  pub listing : Listed n (read order 0) order number
+  pub excluded : List ℕ
+  pub ground : Ground most (plan n ends excluded) (read order 0) incident begins first number last (read over)
+  pub listing : Listed (plan n ends excluded) (read order 0) order number
   pub places-blank : (v : ℕ) → read places v ≡ 0
   pub below-blank : (v : ℕ) → read below v ≡ 0
   pub roomy : Roomy n below places tips
   pub over-long : length ends / 2 ≤ length over
-  pub fits : 3 * (length ends / 2) ≤ room
+  pub fits : 3 * keptEdges (plan n ends excluded) ≤ room
 
 -- they are written and built
-pub record Begun (n root : ℕ) (ends first : List ℕ) (rank whole : ℕ → ℕ) (before after places below tips over : List ℕ) (row step next : ℕ) : Type 0 where
+pub record Begun (p : Plan) (root : ℕ) (first : List ℕ) (rank whole : ℕ → ℕ) (before after places below tips over : List ℕ) (row step next : ℕ) : Type 0 where
   pub walks : List (List Leg)
-  pub recording : Recording n root ends first rank whole walks before after places below tips over row step next
+  pub recording : Recording p root first rank whole walks before after places below tips over row step next
 
 abbrev pub BegunBy : Limits → List ℕ → List ℕ → List ℕ → List ℕ → List ℕ → List ℕ → List ℕ → List ℕ → List ℕ → List ℕ → List ℕ → List ℕ → List ℕ → List ℕ → List ℕ → List ℕ → List ℕ → ℕ → ℕ → ℕ → Type 0
 BegunBy most ends incident begins first order number last places below tips over rows places' below' tips' over' rows' row step next =
     (c : Beginning most ends incident begins first order number last places below tips over (length rows))
-    → Begun (c .n) (read order 0) ends first (read number) (read over) rows rows' places' below' tips' over' row step next
+    → Begun (plan (c .n) ends (c .excluded)) (read order 0) first (read number) (read over) rows rows' places' below' tips' over' row step next
 
 -- One step more.
 
@@ -97,36 +98,38 @@ pub record Behind (n : ℕ) (incident begins order place over : ℕ → ℕ) (ne
 -- what `next_edge` asks: an edge is left
 pub record Nexting (most : Limits) (ends incident begins first order number last places below tips over : List ℕ) (next empty at slot : ℕ) : Type 0 where
   pub n : ℕ
+  pub excluded : List ℕ
   pub whole : ℕ → ℕ
-  pub ground : Ground most n (read order 0) ends incident begins first number last whole
-  pub listing : Listed n (read order 0) order number
+  pub ground : Ground most (plan n ends excluded) (read order 0) incident begins first number last whole
+  pub listing : Listed (plan n ends excluded) (read order 0) order number
   pub walks : List (List Leg)
-  pub holds : Holds n (read order 0) ends first (read number) whole walks places below tips over next
+  pub holds : Holds (plan n ends excluded) (read order 0) first (read number) whole walks places below tips over next
   pub behind : Behind n (read incident) (read begins) (read order) (read places) (read over) next empty at slot
-  pub left : length (allEdges walks) < length ends / 2
+  pub left : length (allEdges walks) < keptEdges (plan n ends excluded)
 
 abbrev pub NextBy : Limits → List ℕ → List ℕ → List ℕ → List ℕ → List ℕ → List ℕ → List ℕ → List ℕ → List ℕ → List ℕ → List ℕ → ℕ → ℕ → ℕ → ℕ → ℕ → ℕ → ℕ → ℕ → Type 0
 NextBy most ends incident begins first order number last places below tips over next empty at slot empty' at' slot' f =
     (c : Nexting most ends incident begins first order number last places below tips over next empty at slot)
     → Behind (c .n) (read incident) (read begins) (read order) (read places) (read over) next empty' at' slot'
-    × Chosen (graph (plan (c .n) ends)) (treeOf (c .n) ends (read order 0) first (read number)) (allEdges (c .walks)) f
+    × Chosen (graph (plan (c .n) ends (c .excluded))) (treeOf (plan (c .n) ends (c .excluded)) (read order 0) first (read number)) (allEdges (c .walks)) f
 
 -- what one more asks: room for its rows
 pub record Stepping (most : Limits) (ends first number : List ℕ) (f next : ℕ) (places below tips over : List ℕ) (room : ℕ) : Type 0 where
   pub n : ℕ
+  pub excluded : List ℕ
   pub root : ℕ
   pub whole : ℕ → ℕ
-  pub rooted : Rooted most n ends root first (read number)
+  pub rooted : Rooted most (plan n ends excluded) root first (read number)
   pub walks : List (List Leg)
-  pub holds : Holds n root ends first (read number) whole walks places below tips over next
-  pub chosen : Chosen (graph (plan n ends)) (treeOf n ends root first (read number)) (allEdges walks) f
+  pub holds : Holds (plan n ends excluded) root first (read number) whole walks places below tips over next
+  pub chosen : Chosen (graph (plan n ends excluded)) (treeOf (plan n ends excluded) root first (read number)) (allEdges walks) f
   pub number-long : n ≤ length number
-  pub fits : 3 * (length ends / 2 - length (allEdges walks)) ≤ room
+  pub fits : 3 * (keptEdges (plan n ends excluded) - length (allEdges walks)) ≤ room
 
 -- it is written and built
-pub record Stepped (n root : ℕ) (ends first : List ℕ) (rank whole : ℕ → ℕ) (walks : List (List Leg)) (step next : ℕ) (before after places places' below tips over : List ℕ) (count next' : ℕ) : Type 0 where
+pub record Stepped (p : Plan) (root : ℕ) (first : List ℕ) (rank whole : ℕ → ℕ) (walks : List (List Leg)) (step next : ℕ) (before after places places' below tips over : List ℕ) (count next' : ℕ) : Type 0 where
   pub legs : List Leg
-  pub holds : Holds n root ends first rank whole (legs ∷ walks) places' below tips over next'
+  pub holds : Holds p root first rank whole (legs ∷ walks) places' below tips over next'
   pub written : Written (stepRows step legs) before after
   pub counted : count ≡ length legs
   pub some : 1 ≤ count

@@ -51,11 +51,12 @@ pub data Path (g : Graph) (mark : ℕ → ℕ) : ℕ → List Leg → ℕ → Ty
 -- a way up that passes each vertex once
 pub record Way (most : Limits) (ends first : List ℕ) (v stop : ℕ) : Type 0 where
   pub n : ℕ
-  pub admitted : Admitted most (plan n ends)
+  pub excluded : List ℕ
+  pub admitted : Admitted most (plan n ends excluded)
   pub long : n ≤ length first
   pub to : stop < n
   pub legs : List Leg
-  pub path : Path (graph (plan n ends)) (read first) v legs stop
+  pub path : Path (graph (plan n ends excluded)) (read first) v legs stop
   pub once : Distinct (froms legs)
   pub apart : In stop (froms legs) → ⊥
   pub short : length legs ≤ most .vertices

@@ -9,22 +9,23 @@ ghost use Prim.Native.Nat.{_<_};
 ghost use lib.ListN.{length};
 ghost use Rattle.connectivity.specs.Plan.{limits};
 ghost use Rattle.graph.specs.Marks.{read};
-ghost use Rattle.record.specs.Recording.{Sturdy, Recorded};
 ghost use Rattle.record.specs.Progress.{Finishing, FinishedBy, Ready, AllBuilt};
-ghost use Rattle.record.specs.Tabling.{Searched};
+ghost use Rattle.record.specs.Tabling.{Prepared, RecordedBy};
 
-// Writes the record at the front of `rows`, over the tables by vertex and the search of the lowest cut. What stands behind stays.
+// Writes the record of a plan that keeps `edges` edges at the front of `rows`, over the tables by vertex and the search of the lowest cut. What stands
+// behind stays.
 pub(crate) fn build_record(
     vertices: u16,
     ends: &[u16],
+    edges: u16,
     incident: &[u16],
     begins: &[u16],
     first: &[u16],
     order: &[u16],
     rows: &mut [u16],
 )
-    requires { ⌜ Sturdy limits vertices (now ends) (length (now rows)) × Searched limits vertices (now ends) (now incident) (now begins) (now first) (now order) ⌝ }
-    ensures { λ _. ⌜ Recorded vertices (now (ends .entry)) (now (rows .entry)) (now (rows .exit)) ⌝ }
+    requires { ⌜ Prepared limits vertices (now ends) edges (now incident) (now begins) (now first) (now order) (length (now rows)) ⌝ }
+    ensures { λ _. ⌜ RecordedBy limits vertices (now (ends .entry)) edges (now (incident .entry)) (now (begins .entry)) (now (first .entry)) (now (order .entry)) (now (rows .entry)) (now (rows .exit)) ⌝ }
 {
     let mut number = [0u16; Graph::MAX_VERTICES];
     let mut last = [0u16; Graph::MAX_VERTICES];
@@ -40,6 +41,7 @@ pub(crate) fn build_record(
     );
     build_all(
         ends,
+        edges,
         incident,
         begins,
         first,
@@ -51,9 +53,10 @@ pub(crate) fn build_record(
     );
 }
 
-// Writes and builds the first three walks, and goes on. An edge that is built has nothing in `over` any more.
+// Writes and builds the first three walks, and goes on. An edge that is built has nothing in `over` any more, one of an excluded vertex (02) never had.
 fn build_all(
     ends: &[u16],
+    edges: u16,
     incident: &[u16],
     begins: &[u16],
     first: &[u16],
@@ -63,8 +66,8 @@ fn build_all(
     over: &mut [u16],
     rows: &mut [u16],
 )
-    requires { ⌜ Ready limits (now ends) (now incident) (now begins) (now first) (now order) (now number) (now last) (now over) (length (now rows)) ⌝ }
-    ensures { λ _. ⌜ AllBuilt limits (now (ends .entry)) (now (incident .entry)) (now (begins .entry)) (now (first .entry)) (now (order .entry)) (now (number .entry)) (now (last .entry)) (now (over .entry)) (now (rows .entry)) (now (rows .exit)) ⌝ }
+    requires { ⌜ Ready limits (now ends) edges (now incident) (now begins) (now first) (now order) (now number) (now last) (now over) (length (now rows)) ⌝ }
+    ensures { λ _. ⌜ AllBuilt limits (now (ends .entry)) edges (now (incident .entry)) (now (begins .entry)) (now (first .entry)) (now (order .entry)) (now (number .entry)) (now (last .entry)) (now (over .entry)) (now (rows .entry)) (now (rows .exit)) ⌝ }
 {
     let mut places = [0u16; Graph::MAX_VERTICES];
     let mut below = [0u16; Graph::MAX_VERTICES];
@@ -85,6 +88,7 @@ fn build_all(
     );
     finish(
         ends,
+        edges,
         incident,
         begins,
         first,
@@ -100,9 +104,10 @@ fn build_all(
     );
 }
 
-// Adds Mader-paths until every edge is built.
+// Adds Mader-paths until all `edges` edges are built.
 fn finish(
     ends: &[u16],
+    edges: u16,
     incident: &[u16],
     begins: &[u16],
     first: &[u16],
@@ -116,10 +121,9 @@ fn finish(
     over: &mut [u16],
     rows: &mut [u16],
 )
-    requires { ⌜ Finishing limits (now ends) (now incident) (now begins) (now first) (now order) (now number) (now last) (now places) (now below) (now tips) (now over) (now rows) (begun .row) (begun .step) (begun .next) ⌝ }
-    ensures { λ _. ⌜ FinishedBy limits (now (ends .entry)) (now (incident .entry)) (now (begins .entry)) (now (first .entry)) (now (order .entry)) (now (number .entry)) (now (last .entry)) (now (places .entry)) (now (below .entry)) (now (tips .entry)) (now (over .entry)) (now (rows .entry)) (begun .row) (begun .step) (begun .next) (now (rows .exit)) ⌝ }
+    requires { ⌜ Finishing limits (now ends) edges (now incident) (now begins) (now first) (now order) (now number) (now last) (now places) (now below) (now tips) (now over) (now rows) (begun .row) (begun .step) (begun .next) ⌝ }
+    ensures { λ _. ⌜ FinishedBy limits (now (ends .entry)) edges (now (incident .entry)) (now (begins .entry)) (now (first .entry)) (now (order .entry)) (now (number .entry)) (now (last .entry)) (now (places .entry)) (now (below .entry)) (now (tips .entry)) (now (over .entry)) (now (rows .entry)) (begun .row) (begun .step) (begun .next) (now (rows .exit)) ⌝ }
 {
-    let edges = (ends.len() / 2) as u16;
     let mut done = begun;
     let mut stage = first_stage(begins, order);
     while done.row < edges {

@@ -97,7 +97,8 @@ fn find(
     }
 }
 
-// The first place from `from` on of an edge at the root `r` that is not in the tree and leads to a vertex whose number is at most `end`.
+// The first place from `from` on of an edge at the root `r` that is not in the tree and leads to a vertex whose number is at most `end`; that of an
+// excluded one (02) is higher.
 fn next_door(
     ends: &[u16],
     incident: &[u16],

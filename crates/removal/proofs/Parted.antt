@@ -1,30 +1,40 @@
--- What a search from vertex 0 over the edges that are left says of a cut, and what is then answered.
+-- What a search from the lowest vertex over the edges that are left says of a cut, and what is then answered.
 use mathlib.Core.Path.{_≡_, refl, sym, ap, _∙_}
 use mathlib.Core.Bool.{Bool, true, false, not}
 use mathlib.Core.List.{List}
-use Prim.Native.Nat.{ℕ, _*_, _<_}
+use Prim.Native.Nat.{ℕ, _*_, _/_, _≤_, _<_}
 use native.Mathlib.Omega.{arith}
-use lib.Dec.{ltb}
+use lib.Dec.{eqb, ltb}
 use lib.ListN.{length, getD, replicate, length-replicate}
-use Rattle.connectivity.specs.Plan.{Plan, Limits}
-use Rattle.connectivity.specs.Admission.{Answer, passed, Admitted, admission}
+use Rattle.connectivity.specs.Plan.{Plan, entire, graph, Limits}
+use Rattle.connectivity.specs.Graph.{isVertex, isEdge}
+use Rattle.connectivity.specs.Admission.{Answer, passed, keptVertices, Admitted, admission}
+use Rattle.connectivity.proofs.Lists.{T-dec, T-true, T-false}
+use Rattle.connectivity.proofs.Search.{is-vertex, is-edge}
+use Rattle.connectivity.proofs.CutOff.{Lowest}
+use Rattle.connectivity.proofs.Admission.{admission-number}
+use Rattle.connectivity.proofs.Kept.{vertex-size, edge-size, admitted-entire}
 use Rattle.graph.specs.Admission.{toldBy, lent}
 use Rattle.graph.specs.Marks.{read}
+use Rattle.graph.specs.Excluded.{firstGap, Masked, MarkedAll}
 use Rattle.graph.specs.declared.Answer as code
 use Rattle.graph.proofs.Lent.{RefusedBy}
 use Rattle.graph.proofs.Tally.{zeros}
-use Rattle.graph.proofs.Handed.{refused-not, refused-answer}
+use Rattle.graph.proofs.Handed.{lent-own, refused-not, refused-answer}
+use Rattle.graph.proofs.Telling.{told-refused}
+use Rattle.graph.proofs.Barring.{lowest-is, masked-out, masked-in}
 use Rattle.incidence.specs.Tables.{Filled, Tabled}
-use Rattle.incidence.proofs.Filled.{filled-own, filled-tabled, tabled-room}
+use Rattle.incidence.proofs.Filled.{filled-for, tabled-room}
 use Rattle.depth.specs.declared.Explored.{Explored}
 use Rattle.depth.specs.declared.Explored.the-variants.{Refused, Seen}
 use Rattle.depth.specs.Depth as search
-use Rattle.depth.specs.Depth.{Cutting}
+use Rattle.depth.specs.Depth.{Crossing, Found, Cutting}
 use Rattle.depth.proofs.Counts.{Enough}
 use Rattle.depth.proofs.Outcomes.{not-refused, found-from}
-use Rattle.depth.proofs.Left.{fresh-0, fewer, mark-is}
+use Rattle.depth.proofs.Masking.{found-kept}
+use Rattle.depth.proofs.Left.{fresh-at, fewer, mark-is, mark-none}
 use Rattle.removal.specs.declared.Split.the-variants as split
-use Rattle.removal.specs.Cut.{handed, enough, Answered, Ready, Left, Searched, Removed, Copied}
+use Rattle.removal.specs.Cut.{handed, enough, isReached, Answered, Ready, Left, Searched, Copied}
 use Rattle.removal.proofs.Splits.{said, said-served, said-refused}
 
 -- tables of zeros that are as long as the limits ask
@@ -46,36 +56,65 @@ ready most =
 
 -- What `without` says: the plan's own refusal, or what the search has left.
 
-module _ {most : Limits} {p : Plan} {incident₀ begins₀ dead₀ first₀ order₀ cursor₀ : List ℕ} (s : Ready most incident₀ begins₀ dead₀ first₀ order₀ cursor₀)
-    {incident begins : List ℕ} {a : code.Answer} (f : Filled most p incident₀ begins₀ incident begins a) where
-  pub own-refusal : (a .number ≡ 0 → ⊥) → (Admitted most p → ⊥) × (a ≡ toldBy (admission most p))
-  own-refusal h = filled-own f (λ d. (omega (arith, d .edges, s .incident-room), omega (arith, d .vertices, s .begins-room))) h
+pub own-refusal : {most : Limits} {p : Plan} {a : code.Answer} → a ≡ toldBy (lent most p true) → (a .number ≡ 0 → ⊥) → (Admitted most p → ⊥) × (a ≡ toldBy (admission most p))
+own-refusal {most} {p} q h =
+    let r = rw (lent-own most p true (λ d. tt)) at (told-refused most p true q h) in
+    (λ d. r .0 (admission-number most p .1 d), r .1)
 
-  module _ (z : a .number ≡ 0) {cut dead : List ℕ} (r : Removed cut dead₀ dead) where
-    t : Tabled most p incident begins
-    t = filled-tabled f z
+-- the marks of the cut, then of the edges that end at an excluded vertex
+module _ {most : Limits} {p : Plan} (d : Admitted most p) {cut dead₀ dead₁ dead : List ℕ} (long : length (p .ends) / 2 ≤ length dead₀) (live : (e : ℕ) → getD dead₀ e 0 ≡ 0)
+    (r : MarkedAll cut dead₀ dead₁) (m : Masked most (p .ends) (p .excluded) dead₁ dead) where
+  cutting : Cutting p cut (read dead)
+  cutting = record {
+    masking = λ e l z. elim (T-dec (isEdge (graph p) e)) [
+      | yes t ↦ is-edge (graph p) e .0 t
+      | no n ↦ absurd (omega (arith, z, masked-out d m e l (omega (arith, r .long)) (λ k. n (is-edge (graph p) e .1 k))))
+    ];
+    gone = λ e k i z. omega (arith, z, masked-in d m e k, r .named e (omega (arith, edge-size p k)) i);
+    kept = λ e k o. masked-in d m e k ∙ r .other e o ∙ live e;
+  }
 
-    cutting : Cutting p cut (read dead)
-    cutting = record {
-      gone = λ e l i q. omega (arith, r .in-cut e (omega (arith, t .admitted .edges, s .dead-room)) i);
-      kept = λ e l o. r .out e o ∙ s .live e;
-    }
+module _ {most : Limits} {p : Plan} (d : Admitted most p) {incident₀ begins₀ dead₀ first₀ order₀ cursor₀ : List ℕ} (s : Ready most incident₀ begins₀ dead₀ first₀ order₀ cursor₀)
+    {incident begins : List ℕ} {a : code.Answer} (f : Filled most (entire (p .vertices) (p .ends)) incident₀ begins₀ incident begins a)
+    {cut dead₁ dead : List ℕ} (r : MarkedAll cut dead₀ dead₁) (m : Masked most (p .ends) (p .excluded) dead₁ dead) where
+  abbrev whole : Plan
+  whole = entire (p .vertices) (p .ends)
 
-    clear : (v : ℕ) → v < p .vertices → getD first₀ v 0 ≡ 0
-    clear v l = s .unmarked v
+  abbrev root : ℕ
+  root = firstGap 0 (p .excluded)
 
-    room : Enough p (length incident) (length begins) (length dead) (length first₀) (length order₀) (length cursor₀)
-    room =
-        let d = t .admitted in
-        let l = tabled-room t in
-        (l .0, (l .1, (omega (arith, d .edges, s .dead-room, r .long), (omega (arith, d .vertices, s .first-room), (omega (arith, d .vertices, s .order-room), omega (arith, d .vertices, s .cursor-room))))))
+  t : Tabled most p incident begins
+  t = filled-for p d f (omega (arith, d .edges, s .incident-room)) (omega (arith, d .vertices, s .begins-room))
 
-    module _ (first order cursor : List ℕ) where
-      pub searched : (x : Explored) → search.Answered most p incident begins dead 0 0 first₀ order₀ cursor₀ first order cursor x → Searched most p cut first x
-      searched (Refused b) c = absurd (not-refused most p incident begins dead 0 0 first₀ order₀ cursor₀ first order cursor (t .admitted) room c)
-      searched (Seen count) c =
-          let f = found-from most p incident begins dead 0 0 first₀ order₀ cursor₀ first order cursor (fresh-0 (t .admitted) first₀ clear) c in
-          record { admitted = t .admitted; fewer = fewer t f cutting clear; unseen = mark-is t f cutting clear }
+  c : Cutting p cut (read dead)
+  c = cutting d (omega (arith, d .edges, s .dead-room)) (s .live) r m
+
+  low : Lowest (graph p) root
+  low = lowest-is d
+
+  clear : (v : ℕ) → v < p .vertices → getD first₀ v 0 ≡ 0
+  clear v l = s .unmarked v
+
+  room : Enough whole (length incident) (length begins) (length dead) (length first₀) (length order₀) (length cursor₀)
+  room =
+      let l = tabled-room t in
+      (l .0, (l .1, (omega (arith, d .edges, s .dead-room, r .long, m .long), (omega (arith, d .vertices, s .first-room), (omega (arith, d .vertices, s .order-room), omega (arith, d .vertices, s .cursor-room))))))
+
+  module _ (first order cursor : List ℕ) where
+    -- a number has a mark exactly if it is a vertex that the lowest one reaches
+    marks : {count : ℕ} → Found (Crossing p incident begins dead) (p .vertices) root 0 first₀ order₀ cursor₀ first order cursor count
+        → (v : ℕ) → v < p .vertices → not (eqb (getD first v 0) 0) ≡ isReached p cut v
+    marks f v l = elim (T-dec (isVertex (graph p) v)) [
+      | yes h ↦ rw (T-true (isVertex (graph p) v) h, mark-is t f c clear low v (is-vertex (graph p) v .0 h))
+      | no n ↦ rw (T-false (isVertex (graph p) v) n, mark-none t f c clear low v l (λ h. n (is-vertex (graph p) v .1 h)))
+    ]
+
+    pub searched : (x : Explored) → search.Answered most whole incident begins dead root 0 first₀ order₀ cursor₀ first order cursor x → Searched most p cut first x
+    searched (Refused b) x = absurd (not-refused most whole incident begins dead root 0 first₀ order₀ cursor₀ first order cursor (admitted-entire d) room x)
+    searched (Seen count) x =
+        let fresh = fresh-at (p .vertices) root first₀ (vertex-size p (low .vertex)) clear in
+        let f = found-kept p (c .masking) (found-from most whole incident begins dead root 0 first₀ order₀ cursor₀ first order cursor fresh x) in
+        record { admitted = d; fewer = fewer t f c clear (low .vertex); marks = marks f }
 
 -- What `disconnects` then answers.
 
@@ -92,10 +131,10 @@ module _ (most : Limits) (p : Plan) (cut : List ℕ) (reached₀ : List Bool) wh
   }
 
   pub answers-said : {first : List ℕ} {count : ℕ} {reached : List Bool} {t : Bool} → b ≡ passed → Left most p cut first count → Copied (p .vertices) first reached₀ reached
-      → ltb count (p .vertices) ≡ t → Answered most p cut reached₀ reached (said t)
+      → ltb count (keptVertices p) ≡ t → Answered most p cut reached₀ reached (said t)
   answers-said {t = t} q l c e = record {
     answer = said-served b p cut (ap (λ (x : Answer). x .number) q) (sym e ∙ l .fewer);
-    marks = λ z v h. c .marks v h ∙ ap not (l .unseen v h);
+    marks = λ z v h. c .marks v h ∙ l .marks v h;
     behind = c .rest;
     unchanged = λ h. absurd (not-refused t h);
   }

@@ -5,9 +5,9 @@ use graph::Graph;
 ghost use mathlib.Core.Path.{_≡_};
 ghost use mathlib.Core.List.{List};
 ghost use Prim.Native.Nat.{ℕ, _≤_};
-ghost use lib.ListN.{length, set};
+ghost use lib.ListN.{length};
 ghost use Rattle.connectivity.specs.Plan.{plan, limits};
-ghost use Rattle.removal.specs.Cut.{handed, splitBy, Answered, Ready, Left, Searched, Removed, Copied};
+ghost use Rattle.removal.specs.Cut.{handed, splitBy, Answered, Ready, Left, Searched, Copied};
 
 // What is said of a set of edges (01: a set of tabs): refused; the rest is connected (one body); or it is not (the set parts the sheet).
 pub enum Split {
@@ -16,10 +16,16 @@ pub enum Split {
     Disconnected,
 }
 
-// Removes the edges of `cut`; a number that is no edge's removes nothing. `reached` then tells of each vertex whether the lowest one
-// reaches it.
-pub fn disconnects(vertices: u16, ends: &[u16], cut: &[u16], reached: &mut [bool]) -> Split
-    ensures { λ r. ⌜ Answered limits (plan vertices (now (ends .entry))) (now (cut .entry)) (now (reached .entry)) (now (reached .exit)) r ⌝ }
+// Removes the edges of `cut`; a number that is no edge's removes nothing. `reached` then tells of each number below `vertices` whether it
+// is a vertex that the lowest one reaches; an excluded one (02: a slug) is none.
+pub fn disconnects(
+    vertices: u16,
+    ends: &[u16],
+    excluded: &[u16],
+    cut: &[u16],
+    reached: &mut [bool],
+) -> Split
+    ensures { λ r. ⌜ Answered limits (plan vertices (now (ends .entry)) (now (excluded .entry))) (now (cut .entry)) (now (reached .entry)) (now (reached .exit)) r ⌝ }
 {
     let mut incident = [0u16; 2 * Graph::MAX_EDGES];
     let mut begins = [0u16; Graph::MAX_VERTICES];
@@ -30,6 +36,7 @@ pub fn disconnects(vertices: u16, ends: &[u16], cut: &[u16], reached: &mut [bool
     let found = without(
         vertices,
         ends,
+        excluded,
         cut,
         &mut incident,
         &mut begins,
@@ -40,22 +47,23 @@ pub fn disconnects(vertices: u16, ends: &[u16], cut: &[u16], reached: &mut [bool
     );
     match found {
         Explored::Refused(answer) => Split::Refused(answer),
-        Explored::Seen(count) => tell(vertices, count, &first, reached),
+        Explored::Seen(count) => tell(vertices, excluded, count, &first, reached),
     }
 }
 
 // The same, just whether: no space is lent, so no plan is refused by 6.
-pub fn split_by(vertices: u16, ends: &[u16], cut: &[u16]) -> Split
-    ensures { λ r. ⌜ handed r ≡ splitBy limits (plan vertices (now (ends .entry))) (now (cut .entry)) ⌝ }
+pub fn split_by(vertices: u16, ends: &[u16], excluded: &[u16], cut: &[u16]) -> Split
+    ensures { λ r. ⌜ handed r ≡ splitBy limits (plan vertices (now (ends .entry)) (now (excluded .entry))) (now (cut .entry)) ⌝ }
 {
     let mut reached = [false; Graph::MAX_VERTICES];
-    disconnects(vertices, ends, cut, &mut reached)
+    disconnects(vertices, ends, excluded, cut, &mut reached)
 }
 
-// Searches from vertex 0 over the edges that are left. The lent tables have room for every plan, and no mark is set.
+// Searches from the lowest vertex over the edges that are left. The lent tables have room for every plan, and no mark is set.
 fn without(
     vertices: u16,
     ends: &[u16],
+    excluded: &[u16],
     cut: &[u16],
     incident: &mut [u16],
     begins: &mut [u16],
@@ -65,21 +73,24 @@ fn without(
     cursor: &mut [u16],
 ) -> Explored
     requires { ⌜ Ready limits (now incident) (now begins) (now dead) (now first) (now order) (now cursor) ⌝ }
-    ensures { λ r. ⌜ Searched limits (plan vertices (now (ends .entry))) (now (cut .entry)) (now (first .exit)) r ⌝ }
+    ensures { λ r. ⌜ Searched limits (plan vertices (now (ends .entry)) (now (excluded .entry))) (now (cut .entry)) (now (first .exit)) r ⌝ }
 {
-    let filled = incidence::fill(vertices, ends, incident, begins);
-    let number = filled.number;
+    let own = graph::refusal(vertices, ends, excluded, false);
+    let number = own.number;
     if number != 0 {
-        return Explored::Refused(filled);
+        return Explored::Refused(own);
     }
-    remove(cut, dead);
+    incidence::fill(vertices, ends, incident, begins);
+    graph::excluded::mark(cut, dead);
+    graph::excluded::mask(ends, excluded, dead);
+    let root = graph::excluded::lowest_kept(excluded) as u16;
     depth::explore(
         vertices,
         ends,
         incident,
         begins,
         dead,
-        0,
+        root,
         0,
         first,
         order,
@@ -87,30 +98,10 @@ fn without(
     )
 }
 
-// Marks the edges of `cut`.
-fn remove(cut: &[u16], dead: &mut [u8])
-    ensures { λ _. ⌜ Removed (now (cut .entry)) (now (dead .entry)) (now (dead .exit)) ⌝ }
-{
-    let mut i = 0;
-    while i < cut.len() {
-        remove_one(cut[i], dead);
-        i += 1;
-    }
-}
-
-fn remove_one(e: u16, dead: &mut [u8])
-    ensures { λ _. ⌜ now (dead .exit) ≡ set (now (dead .entry)) e 1 ⌝ }
-{
-    let at = e as usize;
-    if at < dead.len() {
-        dead[at] = 1;
-    }
-}
-
 // What a search that has seen `count` vertices says of a cut: refused by 6 where `reached` is too short.
-fn tell(vertices: u16, count: u16, first: &[u16], reached: &mut [bool]) -> Split
-    requires { ⌜ vertices ≤ length (now first) ⌝ }
-    ensures { λ r. ⌜ ((ends cut : List ℕ) → Left limits (plan vertices ends) cut (now (first .entry)) count → Answered limits (plan vertices ends) cut (now (reached .entry)) (now (reached .exit)) r) ⌝ }
+fn tell(vertices: u16, excluded: &[u16], count: u16, first: &[u16], reached: &mut [bool]) -> Split
+    requires { ⌜ (length (now excluded) ≤ vertices) × (vertices ≤ length (now first)) ⌝ }
+    ensures { λ r. ⌜ ((ends cut : List ℕ) → Left limits (plan vertices ends (now (excluded .entry))) cut (now (first .entry)) count → Answered limits (plan vertices ends (now (excluded .entry))) cut (now (reached .entry)) (now (reached .exit)) r) ⌝ }
 {
     if reached.len() < vertices as usize {
         return Split::Refused(Answer {
@@ -119,7 +110,8 @@ fn tell(vertices: u16, count: u16, first: &[u16], reached: &mut [bool]) -> Split
         });
     }
     copy(vertices, first, reached);
-    if count < vertices {
+    let kept = vertices as usize - excluded.len();
+    if (count as usize) < kept {
         return Split::Disconnected;
     }
     Split::Connected

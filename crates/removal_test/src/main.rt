@@ -1,7 +1,7 @@
 // Runs the test for cuts on the plans of a table, and prints what document 01's terms call the outcome.
 //
 // The table is the standard input, a line for each case:
-//     name; pieces; ends of the tabs; tabs that are lost;
+//     name; pieces; ends of the tabs; tabs that are lost; slugs;
 // A digit stands for itself, a letter for a larger number (`worth`). A letter in place of the ends stands for those of a large plan (`large`).
 use graph::Answer;
 use libc::STDIN_FILENO;
@@ -40,12 +40,13 @@ fn worth(byte: u8) -> u16 {
     }
 }
 
-// A line as far as it is read: `n` numbers, and how many there were at the last three semicolons.
+// A line as far as it is read: `n` numbers, and how many there were at the last four semicolons.
 struct Case {
     named: bool,
     first: usize,
     second: usize,
     third: usize,
+    fourth: usize,
     n: usize,
     numbers: [u16; 32],
 }
@@ -57,6 +58,7 @@ impl Case {
             first: 0,
             second: 0,
             third: 0,
+            fourth: 0,
             n: 0,
             numbers: [0; 32],
         }
@@ -73,7 +75,8 @@ impl Case {
             self.named = true;
             self.first = self.second;
             self.second = self.third;
-            self.third = self.n;
+            self.third = self.fourth;
+            self.fourth = self.n;
             return self;
         }
         if !self.named {
@@ -99,7 +102,8 @@ impl Case {
         let all = self.numbers;
         let pieces = all[0];
         let ends = part(&all, self.first, self.second);
-        lose(pieces, ends, part(&all, self.second, self.third));
+        let cut = part(&all, self.second, self.third);
+        lose(pieces, ends, part(&all, self.third, self.fourth), cut);
     }
 }
 
@@ -115,11 +119,11 @@ fn part(list: &[u16], from: usize, to: usize) -> &[u16] {
 }
 
 // The test for cuts.
-fn lose(pieces: u16, ends: &[u16], cut: &[u16]) {
+fn lose(pieces: u16, ends: &[u16], excluded: &[u16], cut: &[u16]) {
     if ends.len() == 1 {
-        large(pieces, ends[0], cut);
+        large(pieces, ends[0], excluded, cut);
     } else {
-        tell(pieces, ends, cut);
+        tell(pieces, ends, excluded, cut);
     }
 }
 
@@ -130,11 +134,11 @@ const ROW: u16 = 65535;
 const KNOT: u16 = 10999;
 
 // A plan of 4,000 tabs that jump about among as many pieces as the rule says, or of a row of them.
-fn large(pieces: u16, rule: u16, cut: &[u16]) {
+fn large(pieces: u16, rule: u16, excluded: &[u16], cut: &[u16]) {
     let mut ends = [0u16; 8002];
     fill(&mut ends, rule);
     let more = (rule / ROW * 2) as usize;
-    tell(pieces, part(&ends, 0, 8000 + more), cut);
+    tell(pieces, part(&ends, 0, 8000 + more), excluded, cut);
 }
 
 fn fill(ends: &mut [u16], rule: u16) {
@@ -177,10 +181,10 @@ fn jump(i: u16, side: u16, pieces: u16) -> u16 {
     b
 }
 
-// Whether the plan is one body after the tabs of `cut` are lost.
-fn tell(pieces: u16, ends: &[u16], cut: &[u16]) {
+// Whether the kept pieces are one body after the tabs of `cut` are lost.
+fn tell(pieces: u16, ends: &[u16], excluded: &[u16], cut: &[u16]) {
     let mut reached = [false; 1000];
-    let split = removal::disconnects(pieces, ends, cut, &mut reached);
+    let split = removal::disconnects(pieces, ends, excluded, cut, &mut reached);
     match split {
         Split::Refused(answer) => refused(answer),
         Split::Connected => say(b": one body"),

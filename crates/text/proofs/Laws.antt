@@ -11,7 +11,7 @@ use lib.Dec.{eqb, leb}
 use lib.ListN.{length, take, drop, getD, set, length-take, length-drop, length-append, drop-of-length-le}
 use lib.Seq.{sets, length-take-le, drop-cons, take-suc, take-suc-set, take-take, drop-drop, getD-drop, getD-take, take-nil}
 use borrow.Author.Tests.{leb-true, eqb-true, eq-eqb, ne-eqb}
-use Rattle.text.specs.Column.{worths, byteAt, column, line, lines, lineSize, digit, value, same, columnFits, lineFits, numbers, linesFit, linesNumbers}
+use Rattle.text.specs.Column.{worths, byteAt, column, line, lines, lineSize, digit, value, same, columnFits, lineFits, numbers, linesBegin, behindLines, linesFit, linesNumbers}
 
 -- lists and tests
 
@@ -231,22 +231,26 @@ line-short ws text most k h = go (lineFits ws most k text) refl
     go true p = absurd (omega (arith, line-long ws most k text p))
     go false p = p
 
--- the two numbers of a copied line
-module _ (ws copy text : List ℕ) (p : take (lineSize ws 2) copy ≡ take (lineSize ws 2) text) where
-  pub first-copied : value ws (take (length ws) copy) ≡ getD (numbers ws 2 text) 0 0
+-- the first number of a copied line of k and one more
+module _ (ws : List ℕ) (k : ℕ) (copy text : List ℕ) (p : take (lineSize ws (suc k)) copy ≡ take (lineSize ws (suc k)) text) where
+  pub first-copied : value ws (take (length ws) copy) ≡ getD (numbers ws (suc k) text) 0 0
   unfolding numbers
-  first-copied = ap (λ (l : List ℕ). getD l 0 0) (numbers-copied ws 2 copy text p)
+  first-copied = ap (λ (l : List ℕ). getD l 0 0) (numbers-copied ws (suc k) copy text p)
 
+  pub first-true : (most : ℕ) → lineFits ws most (suc k) text ≡ true → (value ws (take (length ws) copy) ≤ most) × (lineFits ws most k (drop (length ws) copy) ≡ true)
+  unfolding lineFits
+  first-true most q =
+      let r = and-true (columnFits ws most (take (length ws) copy)) (lineFits ws most k (drop (length ws) copy)) (line-copied ws (suc k) copy text p most ∙ q) in
+      (column-true ws most (take (length ws) copy) (r .0) .0, r .1)
+
+-- and the second of two
+module _ (ws copy text : List ℕ) (p : take (lineSize ws 2) copy ≡ take (lineSize ws 2) text) where
   pub second-copied : value ws (take (length ws) (drop (length ws) copy)) ≡ getD (numbers ws 2 text) 1 0
   unfolding numbers
   second-copied = ap (λ (l : List ℕ). getD l 1 0) (numbers-copied ws 2 copy text p)
 
-  pub pair-true : (most : ℕ) → lineFits ws most 2 text ≡ true → (value ws (take (length ws) copy) ≤ most) × (value ws (take (length ws) (drop (length ws) copy)) ≤ most)
-  unfolding lineFits
-  pair-true most q =
-      let r = and-true (columnFits ws most (take (length ws) copy)) (lineFits ws most 1 (drop (length ws) copy)) (line-copied ws 2 copy text p most ∙ q) in
-      let s = and-true (columnFits ws most (take (length ws) (drop (length ws) copy))) (lineFits ws most 0 (drop (length ws) (drop (length ws) copy))) (r .1) in
-      (column-true ws most (take (length ws) copy) (r .0) .0, column-true ws most (take (length ws) (drop (length ws) copy)) (s .0) .0)
+  pub second-true : (most : ℕ) → lineFits ws most 2 text ≡ true → value ws (take (length ws) (drop (length ws) copy)) ≤ most
+  second-true most q = first-true ws 0 (drop (length ws) copy) (drop (length ws) copy) refl most (first-true ws 1 copy text p most q .1) .0
 
 -- m lines, from a place on
 module _ (ws : List ℕ) (columns left at : ℕ) (text : List ℕ) (h : 0 < left) where
@@ -256,13 +260,13 @@ module _ (ws : List ℕ) (columns left at : ℕ) (text : List ℕ) (h : 0 < left
   next : drop (lineSize ws columns) (drop at text) ≡ drop (at + lineSize ws columns) text
   next = drop-drop (lineSize ws columns) at text
 
-  pub lines-next : (most : ℕ) → linesFit ws most columns left (drop at text)
-      ≡ (lineFits ws most columns (drop at text) && linesFit ws most columns (left - 1) (drop (at + lineSize ws columns) text))
-  unfolding linesFit
+  pub lines-next : (most : ℕ) → linesBegin ws most columns left (drop at text)
+      ≡ (lineFits ws most columns (drop at text) && linesBegin ws most columns (left - 1) (drop (at + lineSize ws columns) text))
+  unfolding linesBegin
   lines-next most = go left some
     where
-      go : (m : ℕ) → m ≡ suc (left - 1) → linesFit ws most columns m (drop at text)
-          ≡ (lineFits ws most columns (drop at text) && linesFit ws most columns (left - 1) (drop (at + lineSize ws columns) text))
+      go : (m : ℕ) → m ≡ suc (left - 1) → linesBegin ws most columns m (drop at text)
+          ≡ (lineFits ws most columns (drop at text) && linesBegin ws most columns (left - 1) (drop (at + lineSize ws columns) text))
       go m p = rw (p, next)
 
   pub lines-numbers-next : linesNumbers ws columns left (drop at text)
@@ -274,11 +278,11 @@ module _ (ws : List ℕ) (columns left at : ℕ) (text : List ℕ) (h : 0 < left
           ≡ numbers ws columns (drop at text) ++ linesNumbers ws columns (left - 1) (drop (at + lineSize ws columns) text)
       go m p = rw (p, next)
 
-  pub lines-true : (most : ℕ) → linesFit ws most columns left (drop at text) ≡ true
-      → (lineFits ws most columns (drop at text) ≡ true) × (linesFit ws most columns (left - 1) (drop (at + lineSize ws columns) text) ≡ true)
+  pub lines-true : (most : ℕ) → linesBegin ws most columns left (drop at text) ≡ true
+      → (lineFits ws most columns (drop at text) ≡ true) × (linesBegin ws most columns (left - 1) (drop (at + lineSize ws columns) text) ≡ true)
       × (lineSize ws columns ≤ length (drop at text))
   lines-true most p =
-      let q = and-true (lineFits ws most columns (drop at text)) (linesFit ws most columns (left - 1) (drop (at + lineSize ws columns) text))
+      let q = and-true (lineFits ws most columns (drop at text)) (linesBegin ws most columns (left - 1) (drop (at + lineSize ws columns) text))
       (sym (lines-next most) ∙ p) in
       (q .0, q .1, line-long ws most columns (drop at text) (q .0))
 
@@ -327,13 +331,9 @@ write-lines-next ws text list at from columns left h j = go left (omega arith)
     go m p = rw (p, drop-drop columns from list) (sets-append text at first rest ∙ ap (λ (n : ℕ). sets (sets text at first) (at + n) rest) long)
 
 -- after the last line
-pub lines-last : (ws : List ℕ) (most columns left next : ℕ) (text : List ℕ) → left ≡ 0 → next ≤ length text
-    → linesFit ws most columns left (drop next text) ≡ eqb next (length text)
-unfolding linesFit same
-lines-last ws most columns left next text p h = rw p (elim (ℕ-discrete next (length text)) [
-  | yes q ↦ rw (eq-eqb next (length text) q, drop-of-length-le text {i = next} (omega arith))
-  | no q ↦ rw (ne-eqb next (length text) q, drop-cons text next 0 (omega arith))
-])
+pub lines-last : (ws : List ℕ) (most columns left : ℕ) (text : List ℕ) → left ≡ 0 → linesBegin ws most columns left text ≡ true
+unfolding linesBegin
+lines-last ws most columns left text p = rw p
 
 pub lines-numbers-last : (ws : List ℕ) (columns left : ℕ) (text : List ℕ) → left ≡ 0 → linesNumbers ws columns left text ≡ []
 unfolding linesNumbers
@@ -364,3 +364,35 @@ one-less a b h = let p : b ≡ suc (b - 1) = omega arith in ap (λ (n : ℕ). a 
 
 pub less-one : (a b : ℕ) → 0 < b → b * a ≡ (b - 1) * a + a
 less-one a b h = let p : b ≡ suc (b - 1) = omega arith in ap (λ (n : ℕ). n * a) p ∙ suc-mul (b - 1) a
+
+-- m lines in the form are there
+pub begin-long : (ws : List ℕ) (most k m : ℕ) (text : List ℕ) → linesBegin ws most k m text ≡ true → m * lineSize ws k ≤ length text
+unfolding linesBegin
+begin-long ws most k zero text p = omega arith
+begin-long ws most k (suc m) text p =
+    let rest = drop (lineSize ws k) text in
+    let q = and-true (lineFits ws most k text) (linesBegin ws most k m rest) p in
+    omega (arith, suc-mul m (lineSize ws k), line-long ws most k text (q .0), begin-long ws most k m rest (q .1), length-drop (lineSize ws k) text)
+
+-- nothing follows them
+nothing-behind : (text : List ℕ) (k : ℕ) → k ≤ length text → same (drop k text) [] ≡ eqb (length text) k
+unfolding same
+nothing-behind text k h = elim (ℕ-discrete (length text) k) [
+  | yes q ↦ rw (eq-eqb (length text) k q, drop-of-length-le text {i = k} (omega arith))
+  | no q ↦ rw (ne-eqb (length text) k q, drop-cons text k 0 (omega arith))
+]
+
+module _ (ws : List ℕ) (most k m : ℕ) (text : List ℕ) where
+  pub fit-none : linesBegin ws most k m text ≡ false → linesFit ws most k m text ≡ false
+  unfolding linesFit
+  fit-none p = rw p
+
+  pub fit-some : linesBegin ws most k m text ≡ true → linesFit ws most k m text ≡ eqb (length text) (m * lineSize ws k)
+  unfolding linesFit
+  fit-some p = rw p (nothing-behind text (m * lineSize ws k) (begin-long ws most k m text p))
+
+  pub fit-true : linesFit ws most k m text ≡ true → (linesBegin ws most k m text ≡ true) × (length text ≡ m * lineSize ws k)
+  unfolding linesFit
+  fit-true p =
+      let q = and-true (linesBegin ws most k m text) (same (behindLines ws k m text) []) p in
+      (q .0, eqb-true (length text) (m * lineSize ws k) (sym (fit-some (q .0)) ∙ p))

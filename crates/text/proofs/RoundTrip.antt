@@ -1,27 +1,32 @@
 -- A text that is read is the text written of what was read, for all byte lists; and what is written of an admitted plan, or of a verdict
 -- with a text form, is read as the same. Stated for any worths, largest value and limits; the columns of w digits are the last section's.
 use mathlib.Core.Path.{_≡_, refl, sym, ap, _∙_, subst}
-use mathlib.Core.Bool.{Bool, true, false, cond, _&&_, _||_}
+use mathlib.Core.Bool.{Bool, true, false, cond, _&&_}
 use mathlib.Core.Logic.{⊎-elim}
-use mathlib.Core.List.{List, [], _∷_, _++_, append-assoc}
+use mathlib.Core.List.{List, [], _∷_, _++_, append-assoc, append-nil, List·Memᴰ as In, List·Memᴰ·head as first, List·Memᴰ·tail as later}
 use Prim.Native.Nat.{ℕ, zero, suc, _+_, _*_, _/_, _%_, _^_, _≤_, _<_}
 use native.Mathlib.Omega.{arith}
-use native.Mathlib.Nat.{mul-suc, mul-zero, mul-div-cancel-left}
+use native.Mathlib.Nat.{suc-mul, mul-suc, mul-zero, mul-div-cancel-left}
 use native.Mathlib.Decide.{ℕ-discrete, decLt}
-use lib.Dec.{eqb, ltb}
-use lib.ListN.{length, take, drop, getD, length-take, length-drop, take-append-drop, List·getD-eq-default}
+use lib.Dec.{eqb, ltb, leb}
+use lib.ListN.{length, take, drop, getD, length-take, length-drop, take-append-drop, drop-of-length-le, List·getD-eq-default}
 use lib.Seq.{take-at, drop-at, drop-drop, length-take-le, getD-take, getD-drop}
-use borrow.Author.Tests.{le-leb, le-ltb, eq-eqb, ne-eqb, ltb-false, eqb-true}
+use borrow.Author.Tests.{le-leb, leb-true, le-ltb, eq-eqb, ne-eqb, eqb-true}
 use Rattle.connectivity.specs.Plan.{Plan, plan, Limits}
-use Rattle.connectivity.specs.Admission.{Answer, Admitted, endsAnswer, admission}
+use Rattle.connectivity.specs.Admission.{Answer, Admitted, admission}
 use Rattle.connectivity.proofs.Admission.{admission-number}
-use Rattle.text.specs.Column.{worths, column, line, lines, lineSize, value, same, columnFits, lineFits, numbers, linesFit, linesNumbers}
-use Rattle.text.specs.Plan.{PlanReading, Writing, headerFirst, headerSecond, behindHeader, planText, readEnds, readPlan, writePlan}
+use Rattle.connectivity.proofs.Kept.{admitted-count}
+use Rattle.text.specs.Column.{worths, byteAt, column, line, lines, lineSize, value, same, columnFits, lineFits, numbers, linesBegin, behindLines, linesFit, linesNumbers}
+use Rattle.text.specs.Plan.{PlanReading, Writing, headerOf, planText, headerFirst, headerSecond, behindHeader, headerThird, headerFits, edgeLines, excludedLines, spelled, listedAnswer, readAnswer, readPlan, writePlan}
 use Rattle.text.specs.Verdict.{VerdictReading, perLine, linesOf, needed, countOf, countFits, hasText, verdictText, listRead, readVerdict, writeVerdict}
-use Rattle.text.proofs.Laws.{and-true, same-true, same-refl, length-column, column-true, size-suc, length-line, length-numbers}
-use Rattle.text.proofs.Reading.{noPlan, noVerdict, length-lines-numbers, fits, verdict-fits, refusal-read, lines-read}
-use Rattle.text.proofs.Writing.{form, count-most, kind-most, has-text-is, plan-written, verdict-written}
+use Rattle.text.proofs.Laws.{and-true, same-true, same-refl, length-column, column-true, size-suc, length-line, length-numbers, lines-last, fit-some, fit-true}
+use Rattle.text.proofs.Reading.{noVerdict, length-lines-numbers, short-header, short-third, short-lines, long-header, long-third, long-lines, to-lines, Met, met, read-listed, verdict-fits, refusal-read, lines-read}
+use Rattle.text.proofs.Writing.{length-lines, header-two, header-three, form, count-most, kind-most, has-text-is, plan-written, verdict-written}
 use Rattle.text.proofs.Digits.{read-back}
+
+and-false : (a : Bool) → (a && false) ≡ false
+and-false true = refl
+and-false false = refl
 
 -- every byte list that fits is what writing gives
 
@@ -40,16 +45,27 @@ line-is ws most (suc k) text p =
     ∙ ap (λ (l : List ℕ). column ws (value ws (take w text)) ++ l) (r ∙ ap (λ (l : List ℕ). line ws (numbers ws k (drop w text)) ++ l) s)
     ∙ sym (append-assoc (column ws (value ws (take w text))) (line ws (numbers ws k (drop w text))) (drop (lineSize ws (suc k)) text))
 
-lines-are : (ws : List ℕ) (most k m : ℕ) (text : List ℕ) → linesFit ws most k m text ≡ true → text ≡ lines ws k m (linesNumbers ws k m text)
-unfolding linesFit linesNumbers lines
-lines-are ws most k zero text p = same-true text [] p
-lines-are ws most k (suc m) text p =
-    let rest = drop (lineSize ws k) text in
-    let q = and-true (lineFits ws most k text) (linesFit ws most k m rest) p in
+begun-is : (ws : List ℕ) (most k m : ℕ) (text : List ℕ) → linesBegin ws most k m text ≡ true → text ≡ lines ws k m (linesNumbers ws k m text) ++ behindLines ws k m text
+unfolding linesBegin linesNumbers lines
+begun-is ws most k zero text p = let q : 0 * lineSize ws k ≡ 0 = omega arith in rw q
+begun-is ws most k (suc m) text p =
+    let size = lineSize ws k in
+    let rest = drop size text in
+    let q = and-true (lineFits ws most k text) (linesBegin ws most k m rest) p in
     let n = numbers ws k text in
     let r = linesNumbers ws k m rest in
-    line-is ws most k text (q .0) ∙ ap (λ (l : List ℕ). line ws n ++ l) (lines-are ws most k m rest (q .1))
+    let t : size + m * size ≡ suc m * size = omega (arith, suc-mul m size) in
+    let s : drop (m * size) rest ≡ drop (suc m * size) text = drop-drop (m * size) size text ∙ ap (λ (j : ℕ). drop j text) t in
+    line-is ws most k text (q .0)
+    ∙ ap (λ (l : List ℕ). line ws n ++ l) (begun-is ws most k m rest (q .1) ∙ ap (λ (l : List ℕ). lines ws k m r ++ l) s)
+    ∙ sym (append-assoc (line ws n) (lines ws k m r) (drop (suc m * size) text))
     ∙ sym (rw (take-at n r k (length-numbers ws k text), drop-at n r k (length-numbers ws k text)))
+
+lines-are : (ws : List ℕ) (most k m : ℕ) (text : List ℕ) → linesFit ws most k m text ≡ true → text ≡ lines ws k m (linesNumbers ws k m text)
+lines-are ws most k m text p =
+    let q = fit-true ws most k m text p in
+    let l = lines ws k m (linesNumbers ws k m text) in
+    begun-is ws most k m text (q .0) ∙ ap (λ (r : List ℕ). l ++ r) (drop-of-length-le text {i = m * lineSize ws k} (omega (arith, q .1))) ∙ append-nil l
 
 -- what is written of numbers not above the largest value fits, and gives these numbers
 module _ (ws : List ℕ) (most : ℕ) (exact : (x : ℕ) → x ≤ most → value ws (column ws x) ≡ x) where
@@ -90,20 +106,30 @@ module _ (ws : List ℕ) (most : ℕ) (exact : (x : ℕ) → x ≤ most → valu
   rest-most : (k : ℕ) (list : List ℕ) → ((i : ℕ) → getD list i 0 ≤ most) → (i : ℕ) → getD (drop k list) i 0 ≤ most
   rest-most k list h i = rw (getD-drop k list i 0) (h (k + i))
 
-  lines-back : (k m : ℕ) (list : List ℕ) → k * m ≡ length list → ((i : ℕ) → getD list i 0 ≤ most)
-      → (linesFit ws most k m (lines ws k m list) ≡ true) × (linesNumbers ws k m (lines ws k m list) ≡ list)
-  unfolding linesFit linesNumbers lines same
-  lines-back k zero [] e h = (refl, refl)
-  lines-back k zero (x ∷ list) e h = absurd (omega (arith, mul-zero k))
-  lines-back k (suc m) list e h =
+  begun-back : (k m : ℕ) (list behind : List ℕ) → k * m ≡ length list → ((i : ℕ) → getD list i 0 ≤ most)
+      → (linesBegin ws most k m (lines ws k m list ++ behind) ≡ true) × (linesNumbers ws k m (lines ws k m list ++ behind) ≡ list)
+  unfolding linesBegin linesNumbers lines
+  begun-back k zero [] behind e h = (refl, refl)
+  begun-back k zero (x ∷ list) behind e h = absurd (omega (arith, mul-zero k))
+  begun-back k (suc m) list behind e h =
       let xs = take k list in
-      let rest = lines ws k m (drop k list) in
+      let rest = lines ws k m (drop k list) ++ behind in
       let l : length xs ≡ k = length-take-le k list (omega (arith, mul-suc k m)) in
-      let r = lines-back k m (drop k list) (omega (arith, mul-suc k m, length-drop k list)) (rest-most k list h) in
+      let r = begun-back k m (drop k list) behind (omega (arith, mul-suc k m, length-drop k list)) (rest-most k list h) in
       let a : lineFits ws most k (line ws xs ++ rest) ≡ true = rw l at (line-fits xs rest (part-most k list h)) in
       let b : numbers ws k (line ws xs ++ rest) ≡ xs = rw l at (numbers-back xs rest (part-most k list h)) in
       let d : drop (lineSize ws k) (line ws xs ++ rest) ≡ rest = rw l at (behind-line xs rest) in
-      (rw (a, d) (r .0), rw (b, d, r .1) (take-append-drop k list))
+      rw (append-assoc (line ws xs) (lines ws k m (drop k list)) behind, a, b, d) (r .0, rw (r .1) (take-append-drop k list))
+
+  behind-begun : (k m : ℕ) (list behind : List ℕ) → k * m ≡ length list → behindLines ws k m (lines ws k m list ++ behind) ≡ behind
+  behind-begun k m list behind e = drop-at (lines ws k m list) behind (m * lineSize ws k) (length-lines ws k m list (omega arith))
+
+  lines-back : (k m : ℕ) (list : List ℕ) → k * m ≡ length list → ((i : ℕ) → getD list i 0 ≤ most)
+      → (linesFit ws most k m (lines ws k m list) ≡ true) × (linesNumbers ws k m (lines ws k m list) ≡ list)
+  lines-back k m list e h =
+      let l = lines ws k m list in
+      let r = rw (append-nil l) at (begun-back k m list [] e h) in
+      (fit-some ws most k m l (r .0) ∙ eq-eqb (length l) (m * lineSize ws k) (length-lines ws k m list (omega arith)), r .1)
 
 -- plan text
 
@@ -119,51 +145,44 @@ headed : (ws : List ℕ) (most : ℕ) (text : List ℕ) → lineFits ws most 2 t
     → text ≡ line ws (headerFirst ws text ∷ headerSecond ws text ∷ []) ++ behindHeader ws text
 headed ws most text h = line-is ws most 2 text h ∙ ap (λ (l : List ℕ). line ws l ++ behindHeader ws text) (header-is ws text)
 
--- the plan that the numbers of a text list
-abbrev listed : List ℕ → List ℕ → Plan
-listed ws text = plan (headerFirst ws text) (linesNumbers ws 2 (headerSecond ws text) (behindHeader ws text))
+-- the same of a plan's header, of two columns or three
+module _ (ws : List ℕ) (most : ℕ) (text : List ℕ) where
+  abbrev drawn : Plan
+  drawn = spelled ws most text
 
--- the tests that a plan text has met once it is read, and what was read
-record PlanRead (ws : List ℕ) (most : ℕ) (limits : Limits) (text : List ℕ) (p : Plan) : Type 0 where
-  header : lineFits ws most 2 text ≡ true
-  few : (ltb (headerFirst ws text) 2 || ltb (limits .vertices) (headerFirst ws text)) ≡ false
-  short : ltb (limits .edges) (headerSecond ws text) ≡ false
-  fit : linesFit ws most 2 (headerSecond ws text) (behindHeader ws text) ≡ true
-  joined : eqb ((endsAnswer (headerFirst ws text) 0 (listed ws text .ends)) .number) 0 ≡ true
-  found : listed ws text ≡ p
+  half : length (drawn .ends) / 2 ≡ headerSecond ws text
+  half = omega (arith, length-lines-numbers ws 2 (headerSecond ws text) (edgeLines ws most text))
 
+  named : length (drawn .excluded) ≡ headerThird ws most text
+  named = omega (arith, length-lines-numbers ws 1 (headerThird ws most text) (excludedLines ws most text))
+
+  three-numbers : lineFits ws most 2 text ≡ false → numbers ws 3 text ≡ headerFirst ws text ∷ headerSecond ws text ∷ headerThird ws most text ∷ []
+  unfolding numbers
+  three-numbers h = rw (long-third ws most text h)
+
+  plan-headed : headerFits ws most text ≡ true → text ≡ line ws (headerOf drawn) ++ edgeLines ws most text
+  plan-headed f = go (lineFits ws most 2 text) refl
+    where
+      go : (t : Bool) → lineFits ws most 2 text ≡ t → text ≡ line ws (headerOf drawn) ++ edgeLines ws most text
+      go true h =
+          let z : length (drawn .excluded) ≡ 0 = named ∙ short-third ws most text h in
+          headed ws most text h ∙ rw (header-two drawn z, half, short-lines ws most text h)
+      go false h =
+          let q = and-true (lineFits ws most 3 text) (leb 1 (headerThird ws most text) && leb (headerThird ws most text) (headerFirst ws text)) (sym (long-header ws most text h) ∙ f) in
+          let some = leb-true 1 (headerThird ws most text) (and-true (leb 1 (headerThird ws most text)) (leb (headerThird ws most text) (headerFirst ws text)) (q .1) .0) in
+          line-is ws most 3 text (q .0) ∙ rw (three-numbers h, header-three drawn (λ z. omega (arith, named)), half, named, long-lines ws most text h)
+
+-- what a plan text that is read lists, and the tests that it has met
 plan-read : (ws : List ℕ) (most : ℕ) (limits : Limits) (text : List ℕ) (space : ℕ) (p : Plan)
-    → readPlan ws most limits text space ≡ PlanReading.read p → PlanRead ws most limits text p
-unfolding readPlan readEnds
-plan-read ws most limits text space p r =
-    go (lineFits ws most 2 text) refl (ltb first 2 || ltb (limits .vertices) first) refl (ltb (limits .edges) m) refl (ltb space (2 * m)) (linesFit ws most 2 m rest) refl
-    (eqb ((endsAnswer first 0 found) .number) 0) refl r
+    → readPlan ws most limits text space ≡ PlanReading.read p → Met ws most limits text space × (spelled ws most text ≡ p)
+unfolding readPlan
+plan-read ws most limits text space p = go (eqb ((readAnswer ws most limits text space) .number) 0) refl
   where
-    first : ℕ
-    first = headerFirst ws text
-
-    m : ℕ
-    m = headerSecond ws text
-
-    rest : List ℕ
-    rest = behindHeader ws text
-
-    found : List ℕ
-    found = linesNumbers ws 2 m rest
-
-    go : (a : Bool) → lineFits ws most 2 text ≡ a → (b : Bool) → (ltb first 2 || ltb (limits .vertices) first) ≡ b → (c : Bool) → ltb (limits .edges) m ≡ c
-        → (d f : Bool) → linesFit ws most 2 m rest ≡ f → (g : Bool) → eqb ((endsAnswer first 0 found) .number) 0 ≡ g
-        → cond a (cond b (noPlan 2) (cond c (noPlan 3) (cond d (noPlan 6)
-        (cond f (cond g (PlanReading.read (plan first found)) (PlanReading.refused (endsAnswer first 0 found))) (noPlan 7))))) (noPlan 7)
-        ≡ PlanReading.read p
-        → PlanRead ws most limits text p
-    go false h b i c j d f k g l q = not-read _ _ q
-    go true h true i c j d f k g l q = not-read _ _ q
-    go true h false i true j d f k g l q = not-read _ _ q
-    go true h false i false j true f k g l q = not-read _ _ q
-    go true h false i false j false false k g l q = not-read _ _ q
-    go true h false i false j false true k false l q = not-read _ _ q
-    go true h false i false j false true k true l q = record { header = h; few = i; short = j; fit = k; joined = l; found = cc }
+    go : (t : Bool) → eqb ((readAnswer ws most limits text space) .number) 0 ≡ t
+        → cond t (PlanReading.read (spelled ws most text)) (PlanReading.refused (readAnswer ws most limits text space)) ≡ PlanReading.read p
+        → Met ws most limits text space × (spelled ws most text ≡ p)
+    go true z q = (met ws most limits text space (eqb-true ((readAnswer ws most limits text space) .number) 0 z), cc)
+    go false z q = not-read _ _ q
 
 -- 01: each text that is read is the very text that writing gives
 pub plan-is : (ws : List ℕ) (most : ℕ) (limits : Limits) (text : List ℕ) (space : ℕ) (p : Plan)
@@ -171,15 +190,14 @@ pub plan-is : (ws : List ℕ) (most : ℕ) (limits : Limits) (text : List ℕ) (
 unfolding planText
 plan-is ws most limits text space p h =
     let r = plan-read ws most limits text space p h in
-    let first = headerFirst ws text in
-    let m = headerSecond ws text in
-    let rest = behindHeader ws text in
-    let found = linesNumbers ws 2 m rest in
-    let half : length found / 2 ≡ m = omega (arith, length-lines-numbers ws 2 m rest) in
-    headed ws most text (r .header)
-    ∙ ap (λ (l : List ℕ). line ws (first ∷ m ∷ []) ++ l) (lines-are ws most 2 m rest (r .fit))
-    ∙ ap (λ (j : ℕ). line ws (first ∷ j ∷ []) ++ lines ws 2 j found) (sym half)
-    ∙ ap (planText ws) (r .found)
+    let d = spelled ws most text in
+    let edges = begun-is ws most 2 (headerSecond ws text) (edgeLines ws most text) (r .0 .edges) in
+    let excluded = lines-are ws most 1 (headerThird ws most text) (excludedLines ws most text) (r .0 .excluded) in
+    plan-headed ws most text (r .0 .header)
+    ∙ ap (λ (l : List ℕ). line ws (headerOf d) ++ l) (edges ∙ ap (λ (l : List ℕ). lines ws 2 (headerSecond ws text) (d .ends) ++ l) excluded)
+    ∙ ap (λ (m : ℕ). line ws (headerOf d) ++ (lines ws 2 m (d .ends) ++ lines ws 1 (headerThird ws most text) (d .excluded))) (sym (half ws most text))
+    ∙ ap (λ (k : ℕ). line ws (headerOf d) ++ (lines ws 2 (length (d .ends) / 2) (d .ends) ++ lines ws 1 k (d .excluded))) (sym (named ws most text))
+    ∙ ap (planText ws) (r .1)
 
 -- verdict text
 
@@ -262,35 +280,29 @@ verdict-is ws most limits text space kind list p =
 
 -- what is read is an admitted plan, or a verdict with a text form
 
-or-false : (a b : Bool) → (a || b) ≡ false → (a ≡ false) × (b ≡ false)
-or-false true true p = (p, p)
-or-false true false p = (p, refl)
-or-false false true p = (refl, p)
-or-false false false p = (refl, refl)
+-- past the tests of its counts, admission is the judgement of the ends and of the excluded vertices
+to-listed : (limits : Limits) (p : Plan) → length (p .ends) % 2 ≡ 0 → 2 ≤ p .vertices → p .vertices ≤ limits .vertices → length (p .ends) / 2 ≤ limits .edges
+    → admission limits p ≡ listedAnswer p
+unfolding admission listedAnswer
+to-listed limits p even two few short =
+    let size = length (p .ends) in
+    rw (eq-eqb (size % 2) 0 even, le-ltb (p .vertices) 2 two, le-ltb (limits .vertices) (p .vertices) few, le-ltb (limits .edges) (size / 2) short)
 
--- past the tests of its counts, admission is the judgement of the ends
-module _ (limits : Limits) (p : Plan) where
-  to-ends : length (p .ends) % 2 ≡ 0 → 2 ≤ p .vertices → p .vertices ≤ limits .vertices → length (p .ends) / 2 ≤ limits .edges
-      → (admission limits p) .number ≡ (endsAnswer (p .vertices) 0 (p .ends)) .number
-  unfolding admission
-  to-ends even two few short =
-      let size = length (p .ends) in
-      rw (eq-eqb (size % 2) 0 even, le-ltb (p .vertices) 2 two, le-ltb (limits .vertices) (p .vertices) few, le-ltb (limits .edges) (size / 2) short)
+admitted-listed : (limits : Limits) (p : Plan) → Admitted limits p → (listedAnswer p) .number ≡ 0
+admitted-listed limits p a = ap (λ (x : Answer). x .number) (sym (to-listed limits p (a .even) (a .two) (a .vertices) (a .edges))) ∙ admission-number limits p .1 a
 
-  admitted-ends : Admitted limits p → (endsAnswer (p .vertices) 0 (p .ends)) .number ≡ 0
-  admitted-ends a = sym (to-ends (a .even) (a .two) (a .vertices) (a .edges)) ∙ admission-number limits p .1 a
+pub met-admitted : (ws : List ℕ) (most : ℕ) (limits : Limits) (text : List ℕ) (space : ℕ) → Met ws most limits text space → Admitted limits (spelled ws most text)
+met-admitted ws most limits text space r =
+    let p = spelled ws most text in
+    let size = length-lines-numbers ws 2 (headerSecond ws text) (edgeLines ws most text) in
+    let own = to-listed limits p (omega (arith, size)) (r .two) (r .few) (omega (arith, half ws most text, r .short)) in
+    admission-number limits p .0 (ap (λ (x : Answer). x .number) own ∙ r .own)
 
 pub plan-admitted : (ws : List ℕ) (most : ℕ) (limits : Limits) (text : List ℕ) (space : ℕ) (p : Plan)
     → readPlan ws most limits text space ≡ PlanReading.read p → Admitted limits p
 plan-admitted ws most limits text space p h =
     let r = plan-read ws most limits text space p h in
-    let first = headerFirst ws text in
-    let m = headerSecond ws text in
-    let size = length-lines-numbers ws 2 m (behindHeader ws text) in
-    let o = or-false (ltb first 2) (ltb (limits .vertices) first) (r .few) in
-    let counts = to-ends limits (listed ws text) (omega (arith, size)) (ltb-false first 2 (o .0)) (ltb-false (limits .vertices) first (o .1)) (omega (arith, size, ltb-false (limits .edges) m (r .short))) in
-    let joined = eqb-true ((endsAnswer first 0 (listed ws text .ends)) .number) 0 (r .joined) in
-    subst (Admitted limits) (r .found) (admission-number limits (listed ws text) .0 (counts ∙ joined))
+    subst (Admitted limits) (r .1) (met-admitted ws most limits text space (r .0))
 
 module _ (ws : List ℕ) (kind count : ℕ) (rest : List ℕ) where
   length-read : length (listRead ws kind count rest) ≡ needed kind count
@@ -349,9 +361,42 @@ ends-most limits p most a h i = elim (decLt i (length (p .ends))) [
   | no l ↦ omega (arith, List·getD-eq-default (p .ends) 0 {n = i} (omega arith))
 ]
 
+triple-most : (most a b c : ℕ) → a ≤ most → b ≤ most → c ≤ most → (i : ℕ) → getD (a ∷ b ∷ c ∷ []) i 0 ≤ most
+triple-most most a b c h k l zero = h
+triple-most most a b c h k l (suc i) = pair-most most b c k l i
+
+excluded-most : (most : ℕ) (list : List ℕ) → ((v : ℕ) → In v list → v ≤ most) → (i : ℕ) → getD list i 0 ≤ most
+excluded-most most [] h i = omega arith
+excluded-most most (x ∷ list) h zero = h x (first refl)
+excluded-most most (x ∷ list) h (suc i) = excluded-most most list (λ v j. h v (later j)) i
+
+-- a line of more numbers is no line of fewer: behind them stands a column, which does not begin with a line feed
+first-byte : (p x : ℕ) → eqb (byteAt p x) 10 ≡ false
+unfolding byteAt
+first-byte p x = go (ltb 1 p && ltb x p)
+  where
+    go : (t : Bool) → eqb (cond t 32 (48 + x / p % 10)) 10 ≡ false
+    go true = refl
+    go false = ne-eqb (48 + x / p % 10) 10 (λ z. omega arith)
+
+no-feed : (ws : List ℕ) (x : ℕ) (rest : List ℕ) → 0 < length ws → same (take 1 (column ws x ++ rest)) (10 ∷ []) ≡ false
+unfolding column same
+no-feed [] x rest h = absurd (omega arith)
+no-feed (p ∷ ws) x rest h = rw (first-byte p x)
+
+line-longer : (ws : List ℕ) (most k : ℕ) (xs rest : List ℕ) → 0 < length ws → k < length xs → lineFits ws most k (line ws xs ++ rest) ≡ false
+unfolding lineFits line
+line-longer ws most k [] rest w h = absurd (omega arith)
+line-longer ws most zero (x ∷ xs) rest w h = rw (append-assoc (column ws x) (line ws xs) rest) (no-feed ws x (line ws xs ++ rest) w)
+line-longer ws most (suc k) (x ∷ xs) rest w h =
+    rw (append-assoc (column ws x) (line ws xs) rest, drop-at (column ws x) (line ws xs ++ rest) (length ws) (length-column ws x), line-longer ws most k xs rest w (omega arith))
+    (and-false (columnFits ws most (take (length ws) (column ws x ++ (line ws xs ++ rest)))))
+
 empty-fits : (ws : List ℕ) (most k m : ℕ) (list : List ℕ) → m ≡ 0 → linesFit ws most k m (lines ws k m list) ≡ true
-unfolding linesFit lines same
-empty-fits ws most k m list p = rw p
+empty-fits ws most k m list p =
+    let l = lines ws k m list in
+    let none : k * m ≡ 0 = rw p (mul-zero k) in
+    fit-some ws most k m l (lines-last ws most k m l p) ∙ eq-eqb (length l) (m * lineSize ws k) (length-lines ws k m list (omega arith))
 
 no-lines : (kind count : ℕ) → kind ≡ 2 → linesOf kind count ≡ 0
 unfolding linesOf
@@ -367,6 +412,15 @@ one-member (x ∷ []) h = refl
 one-member (x ∷ y ∷ list) h = absurd (omega arith)
 
 module _ (ws : List ℕ) (most : ℕ) (exact : (x : ℕ) → x ≤ most → value ws (column ws x) ≡ x) (limits : Limits) (edges : limits .edges ≤ most) where
+  -- a number that is read back has a digit
+  some-worth : 1 ≤ most → 0 < length ws
+  unfolding value
+  some-worth h = go ws (exact 1 h)
+    where
+      go : (l : List ℕ) → value l (column l 1) ≡ 1 → 0 < length l
+      go [] p = absurd (omega arith)
+      go (x ∷ l) p = omega arith
+
   -- the header of a text, and what stands behind it
   module _ (a b : ℕ) (rest : List ℕ) (h : a ≤ most) (k : b ≤ most) where
     header-fits : lineFits ws most 2 (line ws (a ∷ b ∷ []) ++ rest) ≡ true
@@ -378,25 +432,83 @@ module _ (ws : List ℕ) (most : ℕ) (exact : (x : ℕ) → x ≤ most → valu
     behind-back : behindHeader ws (line ws (a ∷ b ∷ []) ++ rest) ≡ rest
     behind-back = behind-line ws most exact (a ∷ b ∷ []) rest
 
-  plan-back : limits .vertices ≤ most → (p : Plan) (space : ℕ) → Admitted limits p → length (p .ends) ≤ space
+  -- a plan's header, of two columns or three
+  module _ (p : Plan) (a : Admitted limits p) (vertices : limits .vertices ≤ most) (rest : List ℕ) where
+    abbrev written : List ℕ
+    written = line ws (headerOf p) ++ rest
+
+    record HeaderBack : Type 0 where
+      fits : headerFits ws most written ≡ true
+      first : p .vertices ≡ headerFirst ws written
+      second : length (p .ends) / 2 ≡ headerSecond ws written
+      third : length (p .excluded) ≡ headerThird ws most written
+      behind : rest ≡ edgeLines ws most written
+
+    few : length (p .excluded) ≤ p .vertices
+    few = omega (arith, admitted-count a)
+
+    two-back : length (p .excluded) ≡ 0 → HeaderBack
+    two-back z =
+        let n = p .vertices in
+        let m = length (p .ends) / 2 in
+        let h : n ≤ most = omega (arith, a .vertices) in
+        let k : m ≤ most = omega (arith, a .edges) in
+        let is : written ≡ line ws (n ∷ m ∷ []) ++ rest = ap (λ (l : List ℕ). line ws l ++ rest) (header-two p z) in
+        let fits : lineFits ws most 2 written ≡ true = ap (lineFits ws most 2) is ∙ header-fits n m rest h k in
+        let back : numbers ws 2 written ≡ n ∷ m ∷ [] = ap (numbers ws 2) is ∙ header-back n m rest h k in
+        record {
+          fits = short-header ws most written fits;
+          first = sym (ap (λ (l : List ℕ). getD l 0 0) back);
+          second = sym (ap (λ (l : List ℕ). getD l 1 0) back);
+          third = z ∙ sym (short-third ws most written fits);
+          behind = sym (short-lines ws most written fits ∙ ap (behindHeader ws) is ∙ behind-back n m rest h k);
+        }
+
+    three-back : (length (p .excluded) ≡ 0 → ⊥) → HeaderBack
+    unfolding numbers
+    three-back z =
+        let n = p .vertices in
+        let m = length (p .ends) / 2 in
+        let k = length (p .excluded) in
+        let xs = n ∷ m ∷ k ∷ [] in
+        let small : (i : ℕ) → getD xs i 0 ≤ most = triple-most most n m k (omega (arith, a .vertices)) (omega (arith, a .edges)) (omega (arith, few, a .vertices)) in
+        let is : written ≡ line ws xs ++ rest = ap (λ (l : List ℕ). line ws l ++ rest) (header-three p z) in
+        let more : lineFits ws most 2 written ≡ false = ap (lineFits ws most 2) is ∙ line-longer ws most 2 xs rest (some-worth (omega (arith, a .two, a .vertices))) (omega arith) in
+        let fits : lineFits ws most 3 written ≡ true = ap (lineFits ws most 3) is ∙ line-fits ws most exact xs rest small in
+        let back : numbers ws 3 written ≡ xs = ap (numbers ws 3) is ∙ numbers-back ws most exact xs rest small in
+        let third : k ≡ headerThird ws most written = sym (long-third ws most written more ∙ ap (λ (l : List ℕ). getD l 2 0) back) in
+        let first : n ≡ headerFirst ws written = sym (ap (λ (l : List ℕ). getD l 0 0) back) in
+        record {
+          fits = long-header ws most written more ∙ rw (fits, ← third, ← first, le-leb 1 k (omega arith), le-leb k n few);
+          first = first;
+          second = sym (ap (λ (l : List ℕ). getD l 1 0) back);
+          third = third;
+          behind = sym (long-lines ws most written more ∙ ap (drop (lineSize ws 3)) is ∙ behind-line ws most exact xs rest);
+        }
+
+    header-of-back : HeaderBack
+    header-of-back = elim (ℕ-discrete (length (p .excluded)) 0) [ yes z ↦ two-back z | no z ↦ three-back z ]
+
+  plan-back : limits .vertices ≤ most → (p : Plan) (space : ℕ) → Admitted limits p → length (p .ends) + length (p .excluded) ≤ space
       → readPlan ws most limits (planText ws p) space ≡ PlanReading.read p
   unfolding planText
   plan-back vertices p space a room =
       let n = p .vertices in
-      let ends = p .ends in
-      let m = length ends / 2 in
-      let rest = lines ws 2 m ends in
-      let text = line ws (n ∷ m ∷ []) ++ rest in
-      let h : n ≤ most = omega (arith, a .vertices) in
-      let k : m ≤ most = omega (arith, a .edges) in
-      let numbers-are = header-back n m rest h k in
-      let rest-is = behind-back n m rest h k in
-      let back = lines-back ws most exact 2 m ends (omega (arith, a .even)) (ends-most limits p most a h) in
-      let ends-are : linesNumbers ws 2 m (behindHeader ws text) ≡ ends = ap (linesNumbers ws 2 m) rest-is ∙ back .1 in
-      fits ws most limits text space n m (sym (ap (λ (l : List ℕ). getD l 0 0) numbers-are)) (sym (ap (λ (l : List ℕ). getD l 1 0) numbers-are))
-      (header-fits n m rest h k) (a .two) (a .vertices) (a .edges) (omega (arith, a .even)) (ap (linesFit ws most 2 m) rest-is ∙ back .0)
-      (ap (λ (l : List ℕ). (endsAnswer n 0 l) .number) ends-are ∙ admitted-ends limits p a)
-      ∙ ap (λ (l : List ℕ). PlanReading.read (plan n l)) ends-are
+      let m = length (p .ends) / 2 in
+      let k = length (p .excluded) in
+      let last = lines ws 1 k (p .excluded) in
+      let rest = lines ws 2 m (p .ends) ++ last in
+      let text = line ws (headerOf p) ++ rest in
+      let h = header-of-back p a vertices rest in
+      let even : 2 * m ≡ length (p .ends) = omega (arith, a .even) in
+      let edges = begun-back ws most exact 2 m (p .ends) last even (ends-most limits p most a (omega (arith, a .vertices))) in
+      let behind = behind-begun ws most exact 2 m (p .ends) last even in
+      let excluded = lines-back ws most exact 1 k (p .excluded) (omega arith) (excluded-most most (p .excluded) (λ v i. omega (arith, a .inside v i, a .vertices))) in
+      let same : plan n (linesNumbers ws 2 m rest) (linesNumbers ws 1 k (behindLines ws 2 m rest)) ≡ p = rw (edges .1, behind, excluded .1) in
+      let fit : (linesBegin ws most 2 m rest && linesFit ws most 1 k (behindLines ws 2 m rest)) ≡ true = rw (edges .0, behind) (excluded .0) in
+      let answered = to-lines ws most limits text space n m k rest (h .first) (h .second) (h .third) (h .behind) (h .fits) (a .two) (a .vertices) (a .edges) (omega (arith, even)) true fit ∙ ap listedAnswer same in
+      read-listed ws most limits text space (ap (λ (x : Answer). x .number) answered ∙ admitted-listed limits p a)
+      ∙ rw (← h .first, ← h .second, ← h .third, ← h .behind) (ap PlanReading.read same)
 
   -- the lines of a verdict's text
   lines-kept : (kind : ℕ) (list : List ℕ) → hasText limits kind list ≡ true → ((i : ℕ) → getD list i 0 ≤ most)
@@ -416,10 +528,10 @@ module _ (ws : List ℕ) (most : ℕ) (exact : (x : ℕ) → x ≤ most → valu
             (rw (r .2) (back .0), r .0 ∙ rw (r .2) (back .1))
       ]
 
-  verdict-back : 7 ≤ most → (kind : ℕ) (list : List ℕ) (space : ℕ) → hasText limits kind list ≡ true → ((i : ℕ) → getD list i 0 ≤ most) → length list ≤ space
+  verdict-back : 19 ≤ most → (kind : ℕ) (list : List ℕ) (space : ℕ) → hasText limits kind list ≡ true → ((i : ℕ) → getD list i 0 ≤ most) → length list ≤ space
       → readVerdict ws most limits (verdictText ws kind list) space ≡ VerdictReading.read kind list
   unfolding verdictText
-  verdict-back seven kind list space t small room =
+  verdict-back high kind list space t small room =
       let count = countOf kind list in
       let rest = lines ws (perLine kind) (linesOf kind count) list in
       let text = line ws (kind ∷ count ∷ []) ++ rest in
@@ -436,10 +548,10 @@ module _ (ws : List ℕ) (most : ℕ) (exact : (x : ℕ) → x ≤ most → valu
 -- In columns of w digits, for every largest value that has no more digits and all limits that are not above it: every admitted plan
 -- and every verdict with a text form survives writing and reading.
 module _ (w most : ℕ) (digits : most < 10 ^ w) (limits : Limits) (vertices : limits .vertices ≤ most) (edges : limits .edges ≤ most) where
-  pub plan-kept : (p : Plan) (space : ℕ) → Admitted limits p → length (p .ends) ≤ space
+  pub plan-kept : (p : Plan) (space : ℕ) → Admitted limits p → length (p .ends) + length (p .excluded) ≤ space
       → readPlan (worths w) most limits (planText (worths w) p) space ≡ PlanReading.read p
   plan-kept = plan-back (worths w) most (read-back w most digits) limits edges vertices
 
-  pub verdict-kept : 7 ≤ most → (kind : ℕ) (list : List ℕ) (space : ℕ) → hasText limits kind list ≡ true → ((i : ℕ) → getD list i 0 ≤ most) → length list ≤ space
+  pub verdict-kept : 19 ≤ most → (kind : ℕ) (list : List ℕ) (space : ℕ) → hasText limits kind list ≡ true → ((i : ℕ) → getD list i 0 ≤ most) → length list ≤ space
       → readVerdict (worths w) most limits (verdictText (worths w) kind list) space ≡ VerdictReading.read kind list
   verdict-kept = verdict-back (worths w) most (read-back w most digits) limits edges

@@ -1,8 +1,8 @@
 -- What writing gives, by its tests, and how long the texts are.
 use mathlib.Core.Path.{_≡_, refl, sym, ap, _∙_}
-use mathlib.Core.Bool.{Bool, true, false, cond, _&&_}
+use mathlib.Core.Bool.{Bool, true, false, cond, _&&_, _||_}
 use mathlib.Core.Logic.{_⊎_, inl, inr, ⊎-elim}
-use mathlib.Core.List.{List, [], _∷_}
+use mathlib.Core.List.{List, [], _∷_, _++_}
 use Prim.Native.Nat.{ℕ, zero, suc, _+_, _*_, _/_, _≤_, _<_, _%_}
 use native.Mathlib.Omega.{arith}
 use native.Mathlib.Decide.{ℕ-discrete}
@@ -15,8 +15,8 @@ use Rattle.connectivity.specs.Plan.{Plan, Limits}
 use Rattle.connectivity.specs.Admission.{answer, Admitted, admission}
 use Rattle.connectivity.proofs.Admission.{admission-number}
 use Rattle.text.specs.Column.{line, lines, lineSize}
-use Rattle.text.specs.Plan.{Writing, planText, writePlan}
-use Rattle.text.specs.Verdict.{perLine, linesOf, needed, countOf, countFits, hasText, verdictText, writeVerdict}
+use Rattle.text.specs.Plan.{Writing, headerOf, planText, writePlan}
+use Rattle.text.specs.Verdict.{perLine, linesOf, needed, countOf, isRefusal, countFits, hasText, verdictText, writeVerdict}
 use Rattle.text.specs.Lines.{writeText, writeLines}
 use Rattle.text.proofs.Laws.{and-true, length-line}
 
@@ -71,6 +71,43 @@ module _ (ws : List ℕ) (columns : ℕ) (list : List ℕ) where
       unfolding writeLines
       in-columns h = rw (le-leb 1 columns one, le-leb columns 3 h)
 
+-- the header of a plan without excluded vertices, and of one with some
+module _ (p : Plan) where
+  pub header-two : length (p .excluded) ≡ 0 → headerOf p ≡ p .vertices ∷ (length (p .ends) / 2 ∷ [])
+  unfolding headerOf
+  header-two z = rw (eq-eqb (length (p .excluded)) 0 z)
+
+  pub header-three : (length (p .excluded) ≡ 0 → ⊥) → headerOf p ≡ p .vertices ∷ (length (p .ends) / 2 ∷ (length (p .excluded) ∷ []))
+  unfolding headerOf
+  header-three h = rw (ne-eqb (length (p .excluded)) 0 h)
+
+  pub header-size : length (headerOf p) ≡ cond (eqb (length (p .excluded)) 0) 2 3
+  unfolding headerOf
+  header-size = go (eqb (length (p .excluded)) 0)
+    where
+      go : (t : Bool) → length (p .vertices ∷ (length (p .ends) / 2 ∷ cond t [] (length (p .excluded) ∷ []))) ≡ cond t 2 3
+      go true = refl
+      go false = refl
+
+  pub header-most : length (headerOf p) ≤ 3
+  header-most = rw header-size (go (eqb (length (p .excluded)) 0))
+    where
+      go : (t : Bool) → cond t 2 3 ≤ 3
+      go true = omega arith
+      go false = omega arith
+
+  -- it is the front of the three counts
+  pub header-front : take (length (headerOf p)) (p .vertices ∷ (length (p .ends) / 2 ∷ (length (p .excluded) ∷ []))) ≡ headerOf p
+  unfolding headerOf
+  header-front = go (eqb (length (p .excluded)) 0)
+    where
+      xs : Bool → List ℕ
+      xs t = p .vertices ∷ (length (p .ends) / 2 ∷ cond t [] (length (p .excluded) ∷ []))
+
+      go : (t : Bool) → take (length (xs t)) (p .vertices ∷ (length (p .ends) / 2 ∷ (length (p .excluded) ∷ []))) ≡ xs t
+      go true = refl
+      go false = refl
+
 -- writing a plan
 module _ (ws : List ℕ) (limits : Limits) (p : Plan) (space : ℕ) where
   pub plan-refused : (Admitted limits p → ⊥) → writePlan ws limits p space ≡ Writing.refused (admission limits p)
@@ -78,16 +115,18 @@ module _ (ws : List ℕ) (limits : Limits) (p : Plan) (space : ℕ) where
   plan-refused h = rw (ne-eqb ((admission limits p) .number) 0 (λ z. h (admission-number limits p .0 z)))
 
   module _ (a : Admitted limits p) where
-    pub length-plan : length (planText ws p) ≡ lineSize ws 2 + length (p .ends) / 2 * lineSize ws 2
+    pub length-plan : length (planText ws p) ≡ lineSize ws (length (headerOf p)) + length (p .ends) / 2 * lineSize ws 2 + length (p .excluded) * lineSize ws 1
     unfolding planText
     length-plan =
         let m = length (p .ends) / 2 in
-        let header = p .vertices ∷ (m ∷ []) in
+        let k = length (p .excluded) in
         omega (
           arith,
-          length-append (line ws header) (lines ws 2 m (p .ends)),
-          length-line ws header,
+          length-append (line ws (headerOf p)) (lines ws 2 m (p .ends) ++ lines ws 1 k (p .excluded)),
+          length-append (lines ws 2 m (p .ends)) (lines ws 1 k (p .excluded)),
+          length-line ws (headerOf p),
           length-lines ws 2 m (p .ends) (omega (arith, a .even)),
+          length-lines ws 1 k (p .excluded) (omega arith),
         )
 
     pub plan-short : space < length (planText ws p) → writePlan ws limits p space ≡ refusal 6
@@ -107,14 +146,26 @@ per-line-most kind = go (eqb kind 0)
     go true = omega arith
     go false = omega arith
 
-pub count-most : (limits : Limits) (kind count : ℕ) → countFits limits kind count ≡ true → (count ≤ limits .edges) ⊎ (count ≤ 7)
+refusal-most : (number : ℕ) → isRefusal number ≡ true → number ≤ 19
+unfolding isRefusal
+refusal-most number = go (leb 1 number) (leb number 7) refl (leb 18 number) (leb number 19) refl
+  where
+    go : (a b : Bool) → leb number 7 ≡ b → (c d : Bool) → leb number 19 ≡ d → ((a && b) || (c && d)) ≡ true → number ≤ 19
+    go a true p c d q r = omega (arith, leb-true number 7 p)
+    go a false p c true q r = leb-true number 19 q
+    go true false p true false q r = let z : _≡_ {A = ℕ} 0 1 = cc in absurd (omega arith)
+    go true false p false false q r = let z : _≡_ {A = ℕ} 0 1 = cc in absurd (omega arith)
+    go false false p true false q r = let z : _≡_ {A = ℕ} 0 1 = cc in absurd (omega arith)
+    go false false p false false q r = let z : _≡_ {A = ℕ} 0 1 = cc in absurd (omega arith)
+
+pub count-most : (limits : Limits) (kind count : ℕ) → countFits limits kind count ≡ true → (count ≤ limits .edges) ⊎ (count ≤ 19)
 unfolding countFits
 count-most limits kind count = go (eqb kind 0) (eqb kind 1) (eqb kind 2)
   where
-    go : (r s t : Bool) → cond r (leb count (limits .edges)) (cond s (leb count 2) (cond t (leb 1 count && leb count 7) false)) ≡ true → (count ≤ limits .edges) ⊎ (count ≤ 7)
+    go : (r s t : Bool) → cond r (leb count (limits .edges)) (cond s (leb count 2) (cond t (isRefusal count) false)) ≡ true → (count ≤ limits .edges) ⊎ (count ≤ 19)
     go true s t p = inl (leb-true count (limits .edges) p)
     go false true t p = inr (omega (arith, leb-true count 2 p))
-    go false false true p = inr (leb-true count 7 (and-true (leb 1 count) (leb count 7) p .1))
+    go false false true p = inr (refusal-most count p)
     go false false false p = let z : _≡_ {A = ℕ} 0 1 = cc in absurd (omega arith)
 
 pub kind-most : (limits : Limits) (kind count : ℕ) → countFits limits kind count ≡ true → kind ≤ 2
@@ -122,7 +173,7 @@ unfolding countFits
 kind-most limits kind count = go (eqb kind 0) refl (eqb kind 1) refl (eqb kind 2) refl
   where
     go : (r : Bool) → eqb kind 0 ≡ r → (s : Bool) → eqb kind 1 ≡ s → (t : Bool) → eqb kind 2 ≡ t
-        → cond r (leb count (limits .edges)) (cond s (leb count 2) (cond t (leb 1 count && leb count 7) false)) ≡ true → kind ≤ 2
+        → cond r (leb count (limits .edges)) (cond s (leb count 2) (cond t (isRefusal count) false)) ≡ true → kind ≤ 2
     go true a s b t c p = omega (arith, eqb-true kind 0 a)
     go false a true b t c p = omega (arith, eqb-true kind 1 b)
     go false a false b true c p = omega (arith, eqb-true kind 2 c)
@@ -167,7 +218,7 @@ has-text-is limits kind list = go (ℕ-discrete kind 0) (ℕ-discrete kind 1) (�
         → hasText limits kind list ≡ (countFits limits kind (countOf kind list) && eqb n (needed kind (countOf kind list)))
     go (yes a) b c = let two : kind ≡ 2 → ⊥ = λ q. omega arith in rw (eq-eqb kind 0 a, ne-eqb kind 2 two) rows
     go (no a) (yes b) c = let two : kind ≡ 2 → ⊥ = λ q. omega arith in rw (ne-eqb kind 0 a, eq-eqb kind 1 b, ne-eqb kind 2 two) singles
-    go (no a) (no b) (yes c) = rw (ne-eqb kind 0 a, ne-eqb kind 1 b, eq-eqb kind 2 c) (and-swap (eqb n 1) (leb 1 (getD list 0 0) && leb (getD list 0 0) 7))
+    go (no a) (no b) (yes c) = rw (ne-eqb kind 0 a, ne-eqb kind 1 b, eq-eqb kind 2 c) (and-swap (eqb n 1) (isRefusal (getD list 0 0)))
     go (no a) (no b) (no c) = rw (ne-eqb kind 0 a, ne-eqb kind 1 b, ne-eqb kind 2 c)
 
 -- writing a verdict
@@ -204,13 +255,13 @@ module _ (ws : List ℕ) (limits : Limits) (kind : ℕ) (list : List ℕ) (space
     verdict-written z = rw (h, le-ltb space (length (verdictText ws kind list)) z)
 
 -- where the limit of edges is not below the refusals of kind 2, it bounds every count, and so the size of the lines
-pub count-small : (limits : Limits) → 7 ≤ limits .edges → (kind count : ℕ) → countFits limits kind count ≡ true → count ≤ limits .edges
-count-small limits seven kind count h = ⊎-elim (λ p. p) (λ p. omega arith) (count-most limits kind count h)
+pub count-small : (limits : Limits) → 19 ≤ limits .edges → (kind count : ℕ) → countFits limits kind count ≡ true → count ≤ limits .edges
+count-small limits high kind count h = ⊎-elim (λ p. p) (λ p. omega arith) (count-most limits kind count h)
 
-pub verdict-size : (ws : List ℕ) (limits : Limits) → 7 ≤ limits .edges → (kind : ℕ) (list : List ℕ) → hasText limits kind list ≡ true
+pub verdict-size : (ws : List ℕ) (limits : Limits) → 19 ≤ limits .edges → (kind : ℕ) (list : List ℕ) → hasText limits kind list ≡ true
     → (countOf kind list ≤ limits .edges) × (linesOf kind (countOf kind list) * lineSize ws (perLine kind) ≤ limits .edges * lineSize ws 3)
-verdict-size ws limits seven kind list h =
-    let few = count-small limits seven kind (countOf kind list) (form ws limits kind list 0 h .0) in
+verdict-size ws limits high kind list h =
+    let few = count-small limits high kind (countOf kind list) (form ws limits kind list 0 h .0) in
     let m : linesOf kind (countOf kind list) ≤ limits .edges = omega (arith, lines-needed kind (countOf kind list) .0) in
     let k : lineSize ws (perLine kind) ≤ lineSize ws 3 = omega (arith, mul-le-mul-right (length ws) (per-line-most kind)) in
     (few, mul-le-mul m k)

@@ -73,10 +73,18 @@ unfoldable pub numbers : List ℕ → ℕ → List ℕ → List ℕ
 numbers ws zero text = []
 numbers ws (suc k) text = value ws (take (length ws) text) ∷ numbers ws k (drop (length ws) text)
 
+-- 01: the text begins with m lines of k numbers each, in the form
+unfoldable pub linesBegin : List ℕ → ℕ → ℕ → ℕ → List ℕ → Bool
+linesBegin ws most k zero text = true
+linesBegin ws most k (suc m) text = lineFits ws most k text && linesBegin ws most k m (drop (lineSize ws k) text)
+
+-- the text behind m lines of k numbers each
+abbrev pub behindLines : List ℕ → ℕ → ℕ → List ℕ → List ℕ
+behindLines ws k m text = drop (m * lineSize ws k) text
+
 -- 01: the text is m lines of k numbers each, in the form, and nothing follows the last
 unfoldable pub linesFit : List ℕ → ℕ → ℕ → ℕ → List ℕ → Bool
-linesFit ws most k zero text = same text []
-linesFit ws most k (suc m) text = lineFits ws most k text && linesFit ws most k m (drop (lineSize ws k) text)
+linesFit ws most k m text = linesBegin ws most k m text && same (behindLines ws k m text) []
 
 -- the numbers of m lines of k numbers each
 unfoldable pub linesNumbers : List ℕ → ℕ → ℕ → List ℕ → List ℕ

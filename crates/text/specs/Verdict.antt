@@ -1,5 +1,5 @@
 -- Verdict text: what is written of a verdict, and what is read of any text.
-use mathlib.Core.Bool.{Bool, false, cond, _&&_}
+use mathlib.Core.Bool.{Bool, false, cond, _&&_, _||_}
 use mathlib.Core.List.{List, [], _∷_, _++_}
 use Prim.Native.Nat.{ℕ, _*_, _/_, _%_}
 use lib.Dec.{eqb, ltb, leb}
@@ -30,20 +30,24 @@ needed kind count = cond (eqb kind 2) 1 (perLine kind * count)
 unfoldable pub countOf : ℕ → List ℕ → ℕ
 countOf kind list = cond (eqb kind 2) (getD list 0 0) (length list / perLine kind)
 
--- 01: kind 0 with count 0 to the limit of edges, kind 1 with 0 to 2, kind 2 with 1 to 7; anything else is not in the form
+-- 01: the refusals of a plan: 1 to 7; 02: 18 and 19
+unfoldable pub isRefusal : ℕ → Bool
+isRefusal number = (leb 1 number && leb number 7) || (leb 18 number && leb number 19)
+
+-- 01: kind 0 with count 0 to the limit of edges, kind 1 with 0 to 2, kind 2 with a refusal; anything else is not in the form
 unfoldable pub countFits : Limits → ℕ → ℕ → Bool
 countFits limits kind count =
     cond (eqb kind 0) (leb count (limits .edges))
     (cond (eqb kind 1) (leb count 2)
-    (cond (eqb kind 2) (leb 1 count && leb count 7) false))
+    (cond (eqb kind 2) (isRefusal count) false))
 
 -- 01: a list-level verdict has a text form: three numbers for each row and rows to the limit of edges, at most two weak edges, or the
--- one refusal, 1 to 7
+-- one refusal
 unfoldable pub hasText : Limits → ℕ → List ℕ → Bool
 hasText limits kind list =
     cond (eqb kind 0) (eqb (length list % 3) 0 && leb (length list / 3) (limits .edges))
     (cond (eqb kind 1) (leb (length list) 2)
-    (cond (eqb kind 2) (eqb (length list) 1 && (leb 1 (getD list 0 0) && leb (getD list 0 0) 7)) false))
+    (cond (eqb kind 2) (eqb (length list) 1 && isRefusal (getD list 0 0)) false))
 
 -- 01: verdict text: kind and count on one line, then the lines
 unfoldable pub verdictText : List ℕ → ℕ → List ℕ → List ℕ

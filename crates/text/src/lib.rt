@@ -4,7 +4,7 @@ ghost use mathlib.Core.Path.{_≡_};
 ghost use Prim.Native.Nat.{_+_, _/_, _%_, _<_};
 ghost use Rattle.connectivity.specs.Plan.{limits};
 ghost use Rattle.text.specs.Column.{five, byteAt, column};
-ghost use Rattle.text.specs.Verdict.{perLine, linesOf, needed, countFits};
+ghost use Rattle.text.specs.Verdict.{perLine, linesOf, needed, isRefusal, countFits};
 
 // The bytes of a column.
 pub const WIDTH: usize = 5;
@@ -12,14 +12,18 @@ pub const WIDTH: usize = 5;
 // The worths of the five columns, to read and to write by.
 pub const WORTHS: [u32; WIDTH] = [10000, 1000, 100, 10, 1];
 
-// The bytes of a header: two columns and a line feed.
+// The bytes of the shortest line: one column and a line feed.
+pub const SHORTEST: usize = WIDTH + 1;
+
+// The bytes of a header: two columns and a line feed. That of a plan with slugs (02) has a third column.
 pub const HEADER: usize = 2 * WIDTH + 1;
 
 // The bytes of the longest line: three columns and a line feed.
 pub const LONGEST: usize = 3 * WIDTH + 1;
 
-// The bytes of the longest plan text.
-pub const PLAN_SIZE: usize = HEADER + Graph::MAX_EDGES * HEADER;
+// The bytes of the longest plan text in the form: a header of three columns, and a line for every edge and every vertex (02: slug). All pieces
+// as slugs are refused, but by 18 or 19 and not by 7.
+pub const PLAN_SIZE: usize = LONGEST + Graph::MAX_EDGES * HEADER + Graph::MAX_VERTICES * SHORTEST;
 
 // The bytes of the longest verdict text: a firm one, with a row for each edge.
 pub const VERDICT_SIZE: usize = HEADER + Graph::MAX_EDGES * LONGEST;
@@ -90,12 +94,25 @@ pub fn count_fits(kind: u16, count: usize) -> bool
         return count <= 2;
     }
     if kind == 2 {
-        if count < 1 {
-            return false;
-        }
-        return count <= 7;
+        return is_refusal(count);
     }
     false
+}
+
+// The number is a plan's refusal.
+fn is_refusal(number: usize) -> bool
+    ensures { λ r. ⌜ r ≡ isRefusal number ⌝ }
+{
+    if number < 1 {
+        return false;
+    }
+    if number <= 7 {
+        return true;
+    }
+    if number < 18 {
+        return false;
+    }
+    number <= 19
 }
 
 // How many numbers the list of a verdict with this header has.

@@ -1,7 +1,7 @@
 -- What the two entries that read answer, and what the lent memory holds afterwards.
 use mathlib.Core.Path.{_≡_}
-use mathlib.Core.List.{List, [], _∷_}
-use Prim.Native.Nat.{ℕ, _/_}
+use mathlib.Core.List.{List, [], _∷_, _++_}
+use Prim.Native.Nat.{ℕ}
 use lib.ListN.{length}
 use Rattle.connectivity.specs.Plan.{Limits}
 use Rattle.connectivity.specs.Admission.{Handed, served, refusal}
@@ -16,20 +16,21 @@ abbrev pub handed : VerdictRead → Handed
 handed (VerdictRead.Refused a) = refusal (admission.answerOf a)
 handed (VerdictRead.Read kind count) = served (kind ∷ (count ∷ []))
 
--- what is handed back of a plan text: how many vertices and edges the plan has, or the refusal
+-- what is handed back of a plan text: the plan's counts, or the refusal
 abbrev pub planHanded : PlanReading → Handed
 planHanded (PlanReading.refused a) = refusal a
-planHanded (PlanReading.read p) = served (p .vertices ∷ (length (p .ends) / 2 ∷ []))
+planHanded (PlanReading.read p) = served (admission.counts p)
 
 -- what is handed back of a verdict text: the kind and how many numbers the list has, or the refusal
 abbrev pub listHanded : VerdictReading → Handed
 listHanded (VerdictReading.refused a) = refusal a
 listHanded (VerdictReading.read kind list) = served (kind ∷ (length list ∷ []))
 
--- 01: lent memory after: unchanged by a refusal, else filled with the plan's ends or with the verdict's list
+-- 01: lent memory after: unchanged by a refusal, else filled with the plan's ends, and its slugs directly behind them (02), or with the verdict's
+-- list
 abbrev pub afterPlan : PlanReading → List ℕ → List ℕ
 afterPlan (PlanReading.refused a) lent = lent
-afterPlan (PlanReading.read p) lent = filled (p .ends) lent
+afterPlan (PlanReading.read p) lent = filled (p .ends ++ p .excluded) lent
 
 abbrev pub afterVerdict : VerdictReading → List ℕ → List ℕ
 afterVerdict (VerdictReading.refused a) lent = lent

@@ -1,21 +1,15 @@
 // Plan text and verdict text (01, "Columns") read. A refusal leaves what is lent unchanged.
 mod column;
 mod line;
+mod plan;
 mod reader;
 
 use graph::Admission;
 use graph::Answer;
-use graph::Graph;
 use text::HEADER;
 ghost use mathlib.Core.Path.{_≡_};
-ghost use mathlib.Core.Bool.{true};
-ghost use Prim.Native.Nat.{_≤_};
-ghost use lib.ListN.{length};
 ghost use Rattle.connectivity.specs.Plan.{limits};
-ghost use Rattle.connectivity.specs.Admission.{endsAnswer};
-ghost use Rattle.graph.specs.Admission.{toldBy};
-ghost use Rattle.text.specs.Column.{five, largest, lineSize, linesFit, linesNumbers};
-ghost use Rattle.text.specs.Plan.{behindHeader};
+ghost use Rattle.text.specs.Column.{five, largest};
 ghost use Rattle.text_read.specs.Entry.{ReadsPlan, ReadsVerdict};
 
 pub enum VerdictRead {
@@ -24,41 +18,23 @@ pub enum VerdictRead {
     Refused(Answer),
 }
 
-// Reads a plan text into `ends`: 7 for the header, 2, 3, 6, 7 for the lines, then the first edge with 4 or 5.
-pub fn read_plan(text: &[u8], ends: &mut [u16]) -> Admission
-    ensures { λ r. ⌜ ReadsPlan five largest limits (now (text .entry)) (now (ends .entry)) (now (ends .exit)) r ⌝ }
+// Reads a plan text into `table`, the ends and directly behind them the excluded vertices: 7 for the header, 2, 3, 6, 7 for the lines, then the
+// first edge with 4 or 5, 18 and 19.
+pub fn read_plan(text: &[u8], table: &mut [u16]) -> Admission
+    ensures { λ r. ⌜ ReadsPlan five largest limits (now (text .entry)) (now (table .entry)) (now (table .exit)) r ⌝ }
 {
-    if !line::line_fits(text, 0, 2) {
+    let header = plan::read_header(text);
+    let fits = header.fits;
+    if !fits {
         return refused_plan(7);
     }
-    let header = line::two_numbers(text, 0);
-    let vertices = header.first;
-    let edges = header.second as usize;
-    if vertices < 2 {
-        return refused_plan(2);
+    let answer = plan::judge(text, header, table.len());
+    let number = answer.number;
+    if number != 0 {
+        return Admission::Refused(answer);
     }
-    if Graph::MAX_VERTICES < vertices as usize {
-        return refused_plan(2);
-    }
-    if Graph::MAX_EDGES < edges {
-        return refused_plan(3);
-    }
-    if ends.len() < 2 * edges {
-        return refused_plan(6);
-    }
-    if !line::lines_fit(text, HEADER, 2, edges) {
-        return refused_plan(7);
-    }
-    let fit = judge_edges(text, vertices, edges);
-    let first = fit.number;
-    if first != 0 {
-        return Admission::Refused(fit);
-    }
-    line::store_lines(text, HEADER, 2, edges, ends);
-    Admission::Admitted(Graph {
-        vertices: vertices,
-        edges: header.second,
-    })
+    plan::store(text, header, table);
+    plan::counted(header, table)
 }
 
 fn refused_plan(number: u16) -> Admission
@@ -68,31 +44,6 @@ fn refused_plan(number: u16) -> Admission
         number: number,
         place: 0,
     })
-}
-
-// The first edge of the text with 4 or 5.
-fn judge_edges(text: &[u8], vertices: u16, edges: usize) -> Answer
-    requires { ⌜ (edges ≤ limits .edges) × (lineSize five 2 ≤ length (now text)) × (linesFit five largest 2 edges (behindHeader five (now text)) ≡ true) ⌝ }
-    ensures { λ r. ⌜ r ≡ toldBy (endsAnswer vertices 0 (linesNumbers five 2 edges (behindHeader five (now (text .entry))))) ⌝ }
-{
-    let mut next = HEADER;
-    let mut e = 0;
-    while e < edges {
-        let ends = line::two_numbers(text, next);
-        let number = graph::judge_edge(vertices, ends.first, ends.second);
-        if number != 0 {
-            return Answer {
-                number: number,
-                place: e as u16,
-            };
-        }
-        next = ends.next;
-        e += 1;
-    }
-    Answer {
-        number: 0,
-        place: 0,
-    }
 }
 
 // Reads a verdict text into `list`: 8 for the header, 6, then 8 for the lines.
@@ -123,7 +74,7 @@ pub fn read_verdict(text: &[u8], list: &mut [u16]) -> VerdictRead
             count: 1,
         };
     }
-    line::store_lines(text, HEADER, columns, count, list);
+    line::store_lines(text, HEADER, columns, count, list, 0);
     VerdictRead::Read {
         kind: kind,
         count: size,

@@ -4,19 +4,26 @@ use crate::column::number;
 use crate::reader::take_line;
 use text::HEADER;
 use text::LONGEST;
+use text::SHORTEST;
 use text::WIDTH;
 ghost use mathlib.Core.Path.{_≡_};
 ghost use mathlib.Core.Bool.{true};
 ghost use Prim.Native.Nat.{_+_, _*_, _≤_};
-ghost use lib.ListN.{length, drop};
+ghost use lib.ListN.{length, drop, getD};
 ghost use lib.Seq.{sets};
-ghost use Rattle.text.specs.Column.{five, largest, lineSize, lineFits, numbers, linesFit, linesNumbers};
+ghost use Rattle.text.specs.Column.{five, largest, lineSize, lineFits, numbers, linesBegin, linesFit, linesNumbers};
 ghost use Rattle.text.specs.Plan.{headerFirst, headerSecond};
 
 // The two numbers of a line, and the place behind it.
 pub struct Pair {
     pub first: u16,
     pub second: u16,
+    pub next: usize,
+}
+
+// The number of a line of one, and the place behind it.
+pub struct Single {
+    pub number: u16,
     pub next: usize,
 }
 
@@ -69,10 +76,10 @@ fn columns_fit(copy: &[u8; LONGEST], columns: usize) -> bool
     copy[columns * WIDTH] == 10
 }
 
-// From `at` on the text is `count` lines of `columns` numbers each, in the form, and nothing follows the last.
-pub(crate) fn lines_fit(text: &[u8], at: usize, columns: usize, count: usize) -> bool
+// From `at` on the text begins with `count` lines of `columns` numbers each, in the form.
+pub(crate) fn lines_begin(text: &[u8], at: usize, columns: usize, count: usize) -> bool
     requires { ⌜ (at ≤ length (now text)) × (columns ≤ 3) ⌝ }
-    ensures { λ r. ⌜ r ≡ linesFit five largest columns count (drop at (now (text .entry))) ⌝ }
+    ensures { λ r. ⌜ r ≡ linesBegin five largest columns count (drop at (now (text .entry))) ⌝ }
 {
     let mut next = at;
     let mut left = count;
@@ -85,7 +92,18 @@ pub(crate) fn lines_fit(text: &[u8], at: usize, columns: usize, count: usize) ->
         next = judged.next;
         left -= 1;
     }
-    next == text.len()
+    true
+}
+
+// The same, and nothing follows the last.
+pub(crate) fn lines_fit(text: &[u8], at: usize, columns: usize, count: usize) -> bool
+    requires { ⌜ (at ≤ length (now text)) × (columns ≤ 3) ⌝ }
+    ensures { λ r. ⌜ r ≡ linesFit five largest columns count (drop at (now (text .entry))) ⌝ }
+{
+    if lines_begin(text, at, columns, count) {
+        return text.len() - at == count * (columns * WIDTH + 1);
+    }
+    false
 }
 
 // The two numbers of the line that begins at `at`.
@@ -101,8 +119,26 @@ pub(crate) fn two_numbers(text: &[u8], at: usize) -> Pair
     }
 }
 
+// The number of the line of one that begins at `at`.
+pub(crate) fn one_number(text: &[u8], at: usize) -> Single
+    requires { ⌜ (at ≤ length (now text)) × (lineFits five largest 1 (drop at (now text)) ≡ true) ⌝ }
+    ensures { λ r. ⌜ (r .number ≡ getD (numbers five 1 (drop at (now (text .entry)))) 0 0) × (r .next ≡ at + lineSize five 1) ⌝ }
+{
+    let line = take_line(text, at, SHORTEST);
+    Single {
+        number: number(&line.bytes, 0) as u16,
+        next: line.next,
+    }
+}
+
 // Stores the numbers of the line that begins at `at` from `to` on, and gives the place behind it.
-fn store_line(text: &[u8], at: usize, columns: usize, list: &mut [u16], to: usize) -> usize
+pub(crate) fn store_line(
+    text: &[u8],
+    at: usize,
+    columns: usize,
+    list: &mut [u16],
+    to: usize,
+) -> usize
     requires { ⌜ (at ≤ length (now text)) × (columns ≤ 3) × (to + columns ≤ length (now list)) × (lineFits five largest columns (drop at (now text)) ≡ true) ⌝ }
     ensures { λ r. ⌜ (r ≡ at + lineSize five columns) × (now (list .exit) ≡ sets (now (list .entry)) to (numbers five columns (drop at (now (text .entry))))) ⌝ }
 {
@@ -122,17 +158,24 @@ fn store_columns(copy: &[u8; LONGEST], columns: usize, list: &mut [u16], to: usi
     }
 }
 
-// Stores the numbers of `count` lines of `columns` numbers each.
-pub(crate) fn store_lines(text: &[u8], at: usize, columns: usize, count: usize, list: &mut [u16])
-    requires { ⌜ (at ≤ length (now text)) × (columns ≤ 3) × (columns * count ≤ length (now list)) × (linesFit five largest columns count (drop at (now text)) ≡ true) ⌝ }
-    ensures { λ r. ⌜ now (list .exit) ≡ sets (now (list .entry)) 0 (linesNumbers five columns count (drop at (now (text .entry)))) ⌝ }
+// Stores the numbers of `count` lines of `columns` numbers each from `to` on.
+pub(crate) fn store_lines(
+    text: &[u8],
+    at: usize,
+    columns: usize,
+    count: usize,
+    list: &mut [u16],
+    to: usize,
+)
+    requires { ⌜ (at ≤ length (now text)) × (columns ≤ 3) × (to + columns * count ≤ length (now list)) × (linesBegin five largest columns count (drop at (now text)) ≡ true) ⌝ }
+    ensures { λ r. ⌜ now (list .exit) ≡ sets (now (list .entry)) to (linesNumbers five columns count (drop at (now (text .entry)))) ⌝ }
 {
     let mut next = at;
-    let mut to = 0;
+    let mut place = to;
     let mut left = count;
     while 0 < left {
-        next = store_line(text, next, columns, list, to);
-        to += columns;
+        next = store_line(text, next, columns, list, place);
+        place += columns;
         left -= 1;
     }
 }

@@ -5,7 +5,7 @@
 //     t  a title, which is printed
 //     p  a plan text that is read, into so many of eight numbers
 //     v  a verdict text that is read, into so many of eight numbers
-//     P  the pieces of a plan and its ends, in five columns each, that are written into so many of 56 bytes
+//     P  the pieces of a plan, how many ends it has, its ends and its slugs, in five columns each, that are written into so many of 56 bytes
 //     V  the kind of a verdict and its list, likewise
 use graph::Admission;
 use graph::Answer;
@@ -58,17 +58,20 @@ fn memory(list: &[u16; 8]) {
 }
 
 fn plan(text: &[u8], space: usize) {
-    let mut ends = [9u16; 8];
+    let mut table = [9u16; 8];
     let n = space % 9;
-    let answer = text_read::read_plan(text, &mut ends[..n]);
+    let answer = text_read::read_plan(text, &mut table[..n]);
     admission(answer);
-    memory(&ends);
+    memory(&table);
 }
 
 fn admission(answer: Admission) {
     match answer {
         Admission::Refused(a) => refused(a),
-        Admission::Admitted(g) => row(b"plan", g.vertices, g.edges),
+        Admission::Admitted(g) => {
+            row(b"plan", g.vertices, g.edges);
+            row(b"kept", g.kept_vertices, g.kept_edges);
+        }
     }
 }
 
@@ -88,10 +91,10 @@ fn verdict_read(answer: VerdictRead) {
 }
 
 fn write(letter: u8, text: &[u8], space: usize) {
-    let mut list = [0u16; 9];
+    let mut list = [0u16; 12];
     numbers(text, &mut list);
     let first = list[0];
-    store(letter, first, front(&list, text.len() / 5), space);
+    store(letter, first, part(&list, 1, text.len() / 5), space);
 }
 
 fn store(letter: u8, first: u16, list: &[u16], space: usize) {
@@ -122,9 +125,32 @@ fn put(list: &mut [u16], at: usize, byte: u8) {
 // Calls the entry that writes a plan, or the one that writes a verdict.
 fn entry(letter: u8, first: u16, list: &[u16], text: &mut [u8]) -> Written {
     if letter == b'P' {
-        return text_write::write_plan(first, list, text);
+        return write_plan(first, list, text);
     }
     text_write::write_verdict(first, list, text)
+}
+
+// The list has how many ends there are, the ends, and behind them the slugs.
+fn write_plan(pieces: u16, list: &[u16], text: &mut [u8]) -> Written {
+    let slugs = behind_ends(list);
+    text_write::write_plan(
+        pieces,
+        part(list, 1, slugs),
+        part(list, slugs, list.len()),
+        text,
+    )
+}
+
+// The place behind the ends.
+fn behind_ends(list: &[u16]) -> usize {
+    if list.len() == 0 {
+        return 1;
+    }
+    one_more(list[0])
+}
+
+fn one_more(count: u16) -> usize {
+    1 + count as usize
 }
 
 fn written(w: Written) {
@@ -138,15 +164,15 @@ fn written(w: Written) {
     }
 }
 
-// The first n numbers but for the very first.
-fn front(list: &[u16], n: usize) -> &[u16] {
-    if list.len() < n {
+// The numbers from one place up to another; all where there are no such places.
+fn part(list: &[u16], from: usize, to: usize) -> &[u16] {
+    if list.len() < to {
         return list;
     }
-    if n < 1 {
+    if to < from {
         return list;
     }
-    &list[1..n]
+    &list[from..to]
 }
 
 fn run(letter: u8, space: usize, text: &[u8]) {
@@ -191,7 +217,7 @@ fn case(text: &[u8], at: usize) -> usize {
 }
 
 fn main() {
-    let mut text = io::buffer();
+    let mut text = io::large_buffer();
     let n = io::read_full(STDIN_FILENO, &mut text);
     let mut at = 0;
     let mut turns = 0;

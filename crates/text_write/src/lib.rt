@@ -6,9 +6,13 @@ use graph::Answer;
 use graph::Graph;
 use text::ANSWER_SIZE;
 use text::HEADER;
+use text::SHORTEST;
 use text::WIDTH;
 ghost use mathlib.Core.Path.{_≡_};
+ghost use mathlib.Core.Bool.{cond};
+ghost use lib.Dec.{eqb};
 ghost use Rattle.connectivity.specs.Plan.{plan, limits};
+ghost use Rattle.connectivity.specs.Admission.{Admitted};
 ghost use Rattle.text.specs.Column.{five};
 ghost use Rattle.text.specs.Verdict.{countOf, hasText};
 ghost use Rattle.text_write.specs.Entry.{WritesPlan, WritesVerdict, WritesLines, answerText};
@@ -19,23 +23,40 @@ pub enum Written {
     Refused(Answer),
 }
 
-// Writes the text of a plan: the plan's own 1 to 5, then 6.
-pub fn write_plan(vertices: u16, ends: &[u16], text: &mut [u8]) -> Written
-    ensures { λ r. ⌜ WritesPlan five limits (plan vertices (now (ends .entry))) (now (text .entry)) (now (text .exit)) r ⌝ }
+// Writes the text of a plan: the plan's own 1 to 5, 18 and 19, then 6.
+pub fn write_plan(vertices: u16, ends: &[u16], excluded: &[u16], text: &mut [u8]) -> Written
+    ensures { λ r. ⌜ WritesPlan five limits (plan vertices (now (ends .entry)) (now (excluded .entry))) (now (text .entry)) (now (text .exit)) r ⌝ }
 {
-    let admission = Graph::new(vertices, ends);
+    let admission = Graph::new(vertices, ends, excluded);
     match admission {
         Admission::Refused(answer) => Written::Refused(answer),
-        Admission::Admitted(graph) => {
-            let edges = graph.edges as usize;
-            let size = HEADER + edges * HEADER;
-            if text.len() < size {
-                return refused_writing(6);
-            }
-            line::write_text(vertices, graph.edges, ends, 2, edges, text);
-            Written::Bytes(size)
-        }
+        Admission::Admitted(_) => write_admitted(vertices, ends, excluded, text),
     }
+}
+
+// The same of an admitted plan.
+fn write_admitted(vertices: u16, ends: &[u16], excluded: &[u16], text: &mut [u8]) -> Written
+    requires { ⌜ Admitted limits (plan vertices (now ends) (now excluded)) ⌝ }
+    ensures { λ r. ⌜ WritesPlan five limits (plan vertices (now (ends .entry)) (now (excluded .entry))) (now (text .entry)) (now (text .exit)) r ⌝ }
+{
+    let edges = ends.len() / 2;
+    let columns = header_columns(excluded.len());
+    let next = columns * WIDTH + 1 + edges * HEADER; // where the lines of the excluded vertices begin
+    let size = next + excluded.len() * SHORTEST;
+    if text.len() < size {
+        return refused_writing(6);
+    }
+    let header = [vertices, edges as u16, excluded.len() as u16];
+    line::write_text(&header, columns, ends, 2, edges, text);
+    line::write_lines(excluded, 1, excluded.len(), text, next);
+    Written::Bytes(size)
+}
+
+// How many columns the header has: a third where there are excluded vertices.
+fn header_columns(excluded: usize) -> usize
+    ensures { λ r. ⌜ r ≡ cond (eqb excluded 0) 2 3 ⌝ }
+{
+    if excluded == 0 { 2 } else { 3 }
 }
 
 fn refused_writing(number: u16) -> Written
@@ -61,7 +82,8 @@ pub fn write_verdict(kind: u16, list: &[u16], text: &mut [u8]) -> Written
     if text.len() < size {
         return refused_writing(6);
     }
-    line::write_text(kind, count as u16, list, columns, lines, text);
+    let header = [kind, count as u16];
+    line::write_text(&header, 2, list, columns, lines, text);
     Written::Bytes(size)
 }
 
@@ -117,7 +139,8 @@ pub fn answer_line(answer: Answer) -> [u8; ANSWER_SIZE]
     ensures { λ r. ⌜ r ≡ answerText five answer ⌝ }
 {
     let mut text = [0u8; ANSWER_SIZE];
+    let header = [answer.number, answer.place];
     let none = [0u16; 0];
-    line::write_text(answer.number, answer.place, &none, 1, 0, &mut text);
+    line::write_text(&header, 2, &none, 1, 0, &mut text);
     text
 }

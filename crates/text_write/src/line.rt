@@ -1,8 +1,7 @@
 // Lines of numbers in columns, written.
-use text::HEADER;
 use text::WIDTH;
 ghost use mathlib.Core.Path.{_≡_};
-ghost use mathlib.Core.List.{_++_, _∷_, []};
+ghost use mathlib.Core.List.{_++_};
 ghost use Prim.Native.Nat.{_+_, _*_, _≤_};
 ghost use lib.ListN.{length, take, drop};
 ghost use lib.Seq.{sets};
@@ -50,19 +49,18 @@ pub(crate) fn write_lines(list: &[u16], columns: usize, count: usize, text: &mut
     }
 }
 
-// Writes a header of two numbers, then `count` lines of `columns` numbers each.
+// Writes a header, the first `front` of its numbers, then `count` lines of `columns` numbers each.
 pub(crate) fn write_text(
-    first: u16,
-    second: u16,
+    header: &[u16],
+    front: usize,
     list: &[u16],
     columns: usize,
     count: usize,
     text: &mut [u8],
 )
-    requires { ⌜ (columns ≤ 3) × (columns * count ≤ length (now list)) × (lineSize five 2 + count * lineSize five columns ≤ length (now text)) ⌝ }
-    ensures { λ r. ⌜ now (text .exit) ≡ sets (now (text .entry)) 0 (line five (first ∷ (second ∷ [])) ++ lines five columns count (now (list .entry))) ⌝ }
+    requires { ⌜ (front ≤ 3) × (front ≤ length (now header)) × (columns ≤ 3) × (columns * count ≤ length (now list)) × (lineSize five front + count * lineSize five columns ≤ length (now text)) ⌝ }
+    ensures { λ r. ⌜ now (text .exit) ≡ sets (now (text .entry)) 0 (line five (take front (now (header .entry))) ++ lines five columns count (now (list .entry))) ⌝ }
 {
-    let header = [first, second];
-    write_line(&header, 0, 2, text, 0);
-    write_lines(list, columns, count, text, HEADER);
+    write_line(header, 0, front, text, 0);
+    write_lines(list, columns, count, text, front * WIDTH + 1);
 }

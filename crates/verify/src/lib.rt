@@ -8,25 +8,25 @@ ghost use Rattle.connectivity.specs.Admission.{admission, andThen, answer};
 ghost use Rattle.connectivity.specs.Judge.{judge};
 ghost use Rattle.graph.specs.Admission.{toldBy};
 
-// A verdict of the kind `kind` with the numbers `list` about a plan: 0 and 0 if it passes, else the plan's own 1 to 5 or the first of 9
+// A verdict of the kind `kind` with the numbers `list` about a plan: 0 and 0 if it passes, else the plan's own refusal or the first of 9
 // to 17 in 01's order. Kind 0 is firm, 1 is weak, any other is 9. It only reads.
-pub fn check(vertices: u16, ends: &[u16], kind: u16, list: &[u16]) -> Answer
-    ensures { λ r. ⌜ r ≡ toldBy (judge limits (plan vertices (now (ends .entry))) kind (now (list .entry))) ⌝ }
+pub fn check(vertices: u16, ends: &[u16], excluded: &[u16], kind: u16, list: &[u16]) -> Answer
+    ensures { λ r. ⌜ r ≡ toldBy (judge limits (plan vertices (now (ends .entry)) (now (excluded .entry))) kind (now (list .entry))) ⌝ }
 {
     if kind == 0 {
-        return verify_firm::check_firm(vertices, ends, list);
+        return verify_firm::check_firm(vertices, ends, excluded, list);
     }
     if kind == 1 {
-        return verify_weak::check_weak(vertices, ends, list);
+        return verify_weak::check_weak(vertices, ends, excluded, list);
     }
-    unknown(vertices, ends)
+    unknown(vertices, ends, excluded)
 }
 
 // Of a verdict of no known kind: the plan's own refusal, else 9.
-fn unknown(vertices: u16, ends: &[u16]) -> Answer
-    ensures { λ r. ⌜ r ≡ toldBy (andThen (admission limits (plan vertices (now (ends .entry)))) (answer 9 0)) ⌝ }
+fn unknown(vertices: u16, ends: &[u16], excluded: &[u16]) -> Answer
+    ensures { λ r. ⌜ r ≡ toldBy (andThen (admission limits (plan vertices (now (ends .entry)) (now (excluded .entry)))) (answer 9 0)) ⌝ }
 {
-    let made = Graph::new(vertices, ends);
+    let made = Graph::new(vertices, ends, excluded);
     match made {
         Admission::Refused(answer) => answer,
         Admission::Admitted(_) => Answer {

@@ -52,9 +52,9 @@ module _ (marks ends : List ℕ) (e : ℕ) where
       }
 
 -- an edge hits its ends
-hit : (n : ℕ) (ends : List ℕ) (e v : ℕ) → hits (graph (plan n ends)) e v ≡ cond (eqb (getD ends (2 * e) 0) v || eqb (getD ends (2 * e + 1) 0) v) 1 0
+hit : (n : ℕ) (ends excluded : List ℕ) (e v : ℕ) → hits (graph (plan n ends excluded)) e v ≡ cond (eqb (getD ends (2 * e) 0) v || eqb (getD ends (2 * e + 1) 0) v) 1 0
 unfolding hits graph
-hit n ends e v = refl
+hit n ends excluded e v = refl
 
 -- rows that lie from one place to another: the first of them, and none
 lies-most : {list : List ℕ} {s n m : ℕ} {legs : List Leg} → Lies list s n legs m → n ≤ m
@@ -84,7 +84,7 @@ pub record Adding (marks ends list : List ℕ) (first end : ℕ) (now : List ℕ
   pub below : k ≤ end
   pub length-same : length now ≡ length marks
   pub few : (v : ℕ) → getD now v 0 ≤ k
-  pub more : (n s : ℕ) (legs : List Leg) → Lies list s first legs end → Counted (graph (plan n ends)) list s k end legs marks now
+  pub more : (n : ℕ) (excluded : List ℕ) (s : ℕ) (legs : List Leg) → Lies list s first legs end → Counted (graph (plan n ends excluded)) list s k end legs marks now
 
 module _ {marks ends list : List ℕ} {first end : ℕ} where
   pub adding-start : {most : Limits} → RowsReady most marks ends list first end → Adding marks ends list first end marks first
@@ -92,7 +92,7 @@ module _ {marks ends list : List ℕ} {first end : ℕ} where
     below = r .order;
     length-same = refl;
     few = r .few;
-    more = λ n s legs l. record { rest = legs; lies = l; sum = λ v. omega arith };
+    more = λ n excluded s legs l. record { rest = legs; lies = l; sum = λ v. omega arith };
   }
 
   module _ {now : List ℕ} {k : ℕ} (a : Adding marks ends list first end now k) where
@@ -113,13 +113,13 @@ module _ {marks ends list : List ℕ} {first end : ℕ} where
       below = omega (arith, h);
       length-same = omega (arith, e .length-same, a .length-same);
       few = λ v. omega (arith, e .more v, a .few v, one-most (eqb (getD ends (2 * edgeAt list k) 0) v || eqb (getD ends (2 * edgeAt list k + 1) 0) v));
-      more = λ n s legs l. next n s legs (a .more n s legs l);
+      more = λ n excluded s legs l. next n excluded s legs (a .more n excluded s legs l);
     }
       where
-        next : (n s : ℕ) (legs : List Leg) → Counted (graph (plan n ends)) list s k end legs marks now
-            → Counted (graph (plan n ends)) list s (k + 1) end legs marks after
-        next n s legs c =
-            let g : Graph = graph (plan n ends) in
+        next : (n : ℕ) (excluded : List ℕ) (s : ℕ) (legs : List Leg) → Counted (graph (plan n ends excluded)) list s k end legs marks now
+            → Counted (graph (plan n ends excluded)) list s (k + 1) end legs marks after
+        next n excluded s legs c =
+            let g : Graph = graph (plan n ends excluded) in
             let t : Split list s k (c .rest) end = split (c .lies) h in
             let p : suc k ≡ k + 1 = omega arith in
             record {
@@ -129,7 +129,7 @@ module _ {marks ends list : List ℕ} {first end : ℕ} where
                 arith,
                 c .sum v,
                 e .more v,
-                hit n ends (edgeAt list k) v,
+                hit n ends excluded (edgeAt list k) v,
                 ap (λ (x : List Leg). degree g (edgesOf x) v) (t .same),
               );
             }
@@ -138,7 +138,7 @@ module _ {marks ends list : List ℕ} {first end : ℕ} where
     adding-end h = record {
       length-same = a .length-same;
       few = λ v. omega (arith, a .few v, a .below);
-      more = λ n s legs l v.
-          let c : Counted (graph (plan n ends)) list s k end legs marks now = a .more n s legs l in
-          omega (arith, c .sum v, ap (λ (x : List Leg). degree (graph (plan n ends)) (edgesOf x) v) (over (c .lies) (omega (arith, a .below, h))));
+      more = λ n excluded s legs l v.
+          let c : Counted (graph (plan n ends excluded)) list s k end legs marks now = a .more n excluded s legs l in
+          omega (arith, c .sum v, ap (λ (x : List Leg). degree (graph (plan n ends excluded)) (edgesOf x) v) (over (c .lies) (omega (arith, a .below, h))));
     }

@@ -10,7 +10,7 @@ use lib.Dec.{T}
 use lib.ListN.{length}
 use borrow.Author.Tests.{lt-ltb, le-ltb}
 use Rattle.connectivity.specs.Lists.{Distinct}
-use Rattle.connectivity.specs.Plan.{plan, graph, Limits}
+use Rattle.connectivity.specs.Plan.{Plan, graph, Limits}
 use Rattle.connectivity.specs.Graph.{Graph}
 use Rattle.connectivity.specs.Walk.{Leg, Walk, Between, edgesOf, allInner, allEdges}
 use Rattle.connectivity.specs.Mader.{Steps, theta, mader}
@@ -92,10 +92,10 @@ module _ {most : Limits} {degrees list : List ℕ} {steps : ℕ} {run : Run} {lo
     told-reads f = rw (w .start-mark, w .at-mark) (reads (w .holds) (w .bound) (w .begun) (many s) f (w .read) (w .within))
 
 -- A step that passes.
-module _ {most : Limits} (n : ℕ) (ends : List ℕ) {list : List ℕ} {done : List (List Leg)} {walk : List Leg} {row : ℕ} {degrees left : List ℕ} {steps : ℕ} {run : Run} {low high : ℕ}
-    (h : Holds most (graph (plan n ends)) list done walk row degrees left steps run low high) (bound : n ≤ most .vertices) (b : run .first < row) where
+module _ {most : Limits} (p : Plan) {list : List ℕ} {done : List (List Leg)} {walk : List Leg} {row : ℕ} {degrees left : List ℕ} {steps : ℕ} {run : Run} {low high : ℕ}
+    (h : Holds most (graph p) list done walk row degrees left steps run low high) (bound : p .vertices ≤ most .vertices) (b : run .first < row) where
   abbrev g : Graph
-  g = graph (plan n ends)
+  g = graph p
 
   below : g .bound ≤ most .vertices
   unfolding graph
@@ -139,12 +139,12 @@ module _ {most : Limits} (n : ℕ) (ends : List ℕ) {list : List ℕ} {done : L
           mader (h .stands .steps (omega (arith, many))) (fitting-path g (allEdges done) walk (walk-sound walked) (t .0) (t .1))
     ]
 
-    pub finished : {after : List ℕ} → RowsAdded degrees after ends list (run .first) row
+    pub finished : {after : List ℕ} → RowsAdded degrees after (p .ends) list (run .first) row
         → Holds most g list (walk ∷ done) [] row after left (steps + 1) (record { first = row; start = 0; at = 0; fresh = true }) (run .start) (run .at)
     finished a = record {
       marks-length = a .length-same ∙ h .marks-length;
       left-length = h .left-length;
-      degrees = λ v l. a .more n (length done) walk (h .lies) v ∙ omega (arith, h .degrees v l, degree-append g (edgesOf walk) (allEdges done) v);
+      degrees = λ v l. a .more (p .vertices) (p .excluded) (length done) walk (h .lies) v ∙ omega (arith, h .degrees v l, degree-append g (edgesOf walk) (allEdges done) v);
       few = a .few;
       steps-done = omega (arith, h .steps-done);
       laid = marks.more (h .laid) b (h .lies);

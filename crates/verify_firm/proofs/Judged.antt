@@ -3,27 +3,31 @@ use mathlib.Core.Path.{_≡_, refl, sym, ap, subst, _∙_}
 use mathlib.Core.Logic.{_↔_}
 use mathlib.Core.Bool.{Bool, true, false, cond, _&&_}
 use mathlib.Core.List.{List, [], _∷_, _++_}
-use Prim.Native.Nat.{ℕ, suc, _+_, _*_, _/_, _≤_, _<_}
+use Prim.Native.Nat.{ℕ, suc, _+_, _*_, _≤_, _<_}
 use native.Mathlib.Omega.{arith}
 use lib.Dec.{eqb, leb}
-use lib.ListN.{length, getD, drop}
+use lib.ListN.{length, drop}
 use lib.Seq.{drop-length}
 use borrow.Author.Tests.{eqb-true, eq-eqb, ne-eqb}
 use Rattle.connectivity.specs.Lists.{all}
-use Rattle.connectivity.specs.Plan.{Plan, graph, Limits}
-use Rattle.connectivity.specs.Graph.{Graph, Vertex, vertices}
-use Rattle.connectivity.specs.Walk.{Leg, allEdges, degree, isBranch}
-use Rattle.connectivity.specs.Admission.{Admitted, Answer, answer, passed, andThen}
+use Rattle.connectivity.specs.Plan.{Plan, plan, graph, Limits}
+use Rattle.connectivity.specs.Graph.{Graph, Vertex, vertices, edges}
+use Rattle.connectivity.specs.Walk.{Leg, allEdges, Branch, isBranch}
+use Rattle.connectivity.specs.Admission.{Admitted, keptVertices, Answer, answer, passed, andThen}
 use Rattle.connectivity.specs.Judge.{Row, rowsOf, legOf, rowNumber, stepNumber, closingNumber, isLast, judgeRows, judgeFirm, judgeGraph, judge}
-use Rattle.connectivity.proofs.Admission.{passed-then, failed-then, admitted-edges}
+use Rattle.connectivity.proofs.Admission.{passed-then, failed-then}
 use Rattle.connectivity.proofs.Fit.{closing}
 use Rattle.connectivity.proofs.Judge.{judge-admitted}
 use Rattle.graph.specs.declared.Answer as code
+use Rattle.graph.specs.declared.Graph as code-graph
 use Rattle.graph.specs.Admission.{toldBy}
 use Rattle.verify_firm.specs.declared.state.State.{State}
 use Rattle.verify_firm.specs.declared.state.Taken.{Taken}
-use Rattle.verify_firm.specs.Marks.{rowAt, Represents, takenNumber, rowAnswer, doneThen, walkThen, SteppedAt, lastAt, Closed}
+use Rattle.graph.specs.Marks.{rank}
+use Rattle.graph.proofs.Lent.{Made}
+use Rattle.verify_firm.specs.Marks.{rowAt, Holds, Represents, takenNumber, rowAnswer, doneThen, walkThen, SteppedAt, lastAt, isForked, Closed}
 use Rattle.verify_firm.proofs.Tests.{rows-next}
+use Rattle.verify_firm.proofs.Keeping.{branches-are}
 
 -- a row's own number, then the step's, as one number
 one-number : (own step k : ℕ) (last : Bool) (whole on : Answer)
@@ -84,7 +88,7 @@ row-fails : (m row : ℕ) → (m ≡ 0 → ⊥) → rowAnswer m row ≡ answer m
 row-fails m row h = rw (ne-eqb m 0 h)
 
 -- some rows are taken up, and what is left to judge is the rest
-pub record Judged (most : Limits) (p : Plan) (list : List ℕ) (used : List Bool) (state : State) (row : ℕ) : Type 0 where
+pub record Judged (most : Limits) (p : Plan) (list used : List ℕ) (state : State) (row : ℕ) : Type 0 where
   pub done : List (List Leg)
   pub walk : List Leg
   pub represents : Represents most (graph p) list used done walk row state
@@ -97,11 +101,11 @@ rows-here list row h =
     let c : suc (suc (suc (3 * row))) ≡ 3 * (row + 1) = omega arith in
     rows-next list (3 * row) (omega (arith, h)) ∙ rw (c, b, a)
 
-pub judged-start : {most : Limits} {p : Plan} {list : List ℕ} {used : List Bool} {state : State} → Represents most (graph p) list used [] [] 0 state → Judged most p list used state 0
+pub judged-start : {most : Limits} {p : Plan} {list used : List ℕ} {state : State} → Represents most (graph p) list used [] [] 0 state → Judged most p list used state 0
 judged-start r = record { done = []; walk = []; represents = r; rest = refl }
 
-module _ {most : Limits} {p : Plan} {list : List ℕ} {used : List Bool} {state : State} {row : ℕ} (j : Judged most p list used state row) (h : 3 * row + 2 < length list)
-    {marked : List Bool} (t : Taken) {l : Bool} (q : l ≡ lastAt list row) (taken-up : SteppedAt most (graph p) list marked (j .done) (j .walk) row l t) where
+module _ {most : Limits} {p : Plan} {list used : List ℕ} {state : State} {row : ℕ} (j : Judged most p list used state row) (h : 3 * row + 2 < length list)
+    {marked : List ℕ} (t : Taken) {l : Bool} (q : l ≡ lastAt list row) (taken-up : SteppedAt most (graph p) list marked (j .done) (j .walk) row l t) where
   s : SteppedAt most (graph p) list marked (j .done) (j .walk) row (lastAt list row) t
   s = subst (λ (b : Bool). SteppedAt most (graph p) list marked (j .done) (j .walk) row b t) q taken-up
 
@@ -136,45 +140,50 @@ module _ {most : Limits} {p : Plan} {list : List ℕ} {used : List Bool} {state 
       same = omega arith
 
 -- the end of the list
-module _ {most : Limits} {p : Plan} {list : List ℕ} {used : List Bool} {state : State} {row : ℕ} (j : Judged most p list used state row) (over : 3 * row ≡ length list) (bound : p .vertices ≤ most .vertices) where
+module _ {most : Limits} {p : Plan} {list used : List ℕ} {state : State} {row : ℕ} (j : Judged most p list used state row) (over : 3 * row ≡ length list) (bound : p .vertices ≤ most .vertices)
+    {kept : ℕ} (k : kept ≡ keptVertices p) where
   ended : judgeRows (graph p) [] [] 0 (rowsOf list) ≡ answer (closingNumber (graph p) (j .done)) 0
   unfolding judgeRows rowsOf
   ended = j .rest ∙ rw (over, drop-length list)
 
-  abbrev AllBranches : Type 0
-  AllBranches = (3 ≤ length (j .done)) × ((v : ℕ) → Vertex (graph p) v → 3 ≤ degree (graph p) (allEdges (j .done)) v)
+  abbrev Branches : Type 0
+  Branches = (v : ℕ) → Vertex (graph p) v → Branch (graph p) (allEdges (j .done)) v
 
-  marks-close : Closed (state .degree) (p .vertices) (state .steps) ↔ AllBranches
-  unfolding graph
-  marks-close = (
-    (λ c. (omega (arith, c .0, steps), λ v k. omega (arith, c .1 v (k .below), degrees v (omega (arith, k .below, bound))))),
-    (λ c. (omega (arith, c .0, steps), λ v k. omega (arith, c .1 v (record { below = k; kept = tt }), degrees v (omega (arith, k, bound))))),
-  )
+  marks-close : Closed (state .degree) (p .vertices) kept (state .steps) ↔ ((3 ≤ length (j .done)) × Branches)
+  marks-close = (λ c. let m = three (c .0) in (m, told m .0 (c .1)), λ c. (omega (arith, c .0, h .steps-done), told (c .0) .1 (c .1)))
     where
-      steps : state .steps ≡ length (j .done)
-      steps = j .represents .holds .steps-done
+      h : Holds most (graph p) list (j .done) (j .walk) row (state .degree) (state .left) (state .steps) (state .run) (state .low) (state .high)
+      h = j .represents .holds
 
-      degrees : (v : ℕ) → v < most .vertices → getD (state .degree) v 0 ≡ degree (graph p) (allEdges (j .done)) v
-      degrees = j .represents .holds .degrees
+      three : 3 ≤ state .steps → 3 ≤ length (j .done)
+      three m = omega (arith, m, h .steps-done)
 
-  pub judged-passes : Closed (state .degree) (p .vertices) (state .steps) → judgeRows (graph p) [] [] 0 (rowsOf list) ≡ answer 0 0
+      told : 3 ≤ length (j .done) → (rank (isForked (state .degree)) (p .vertices) ≡ kept) ↔ Branches
+      told m = rw k (branches-are p (state .degree) (h .stands .steps m) (λ v l. h .degrees v (omega (arith, l, bound))))
+
+  pub judged-passes : Closed (state .degree) (p .vertices) kept (state .steps) → judgeRows (graph p) [] [] 0 (rowsOf list) ≡ answer 0 0
   judged-passes c = ended ∙ ap (λ (m : ℕ). answer m 0) (closing (graph p) (j .done) .1 (marks-close .0 c))
 
-  pub judged-fails : (Closed (state .degree) (p .vertices) (state .steps) → ⊥) → judgeRows (graph p) [] [] 0 (rowsOf list) ≡ answer 16 0
+  pub judged-fails : (Closed (state .degree) (p .vertices) kept (state .steps) → ⊥) → judgeRows (graph p) [] [] 0 (rowsOf list) ≡ answer 16 0
   judged-fails c = ended ∙ ap (λ (m : ℕ). answer m 0) (closing-fails (graph p) (j .done) (λ z. c (marks-close .1 (closing (graph p) (j .done) .0 z))))
 
 -- the whole answer
 
-module _ {most : Limits} {p : Plan} (a : Admitted most p) (list : List ℕ) where
-  pub firm-long : (length list ≡ 3 * (length (p .ends) / 2) → ⊥) → judgeFirm (graph p) list ≡ answer 9 0
+module _ (g : Graph) (list : List ℕ) where
+  pub firm-long : (length list ≡ 3 * length (edges g) → ⊥) → judgeFirm g list ≡ answer 9 0
   unfolding judgeFirm
-  firm-long h = rw (admitted-edges a, ne-eqb (length list) (3 * (length (p .ends) / 2)) h)
+  firm-long h = rw (ne-eqb (length list) (3 * length (edges g)) h)
 
-  pub firm-rows : length list ≡ 3 * (length (p .ends) / 2) → judgeFirm (graph p) list ≡ judgeRows (graph p) [] [] 0 (rowsOf list)
+  pub firm-rows : length list ≡ 3 * length (edges g) → judgeFirm g list ≡ judgeRows g [] [] 0 (rowsOf list)
   unfolding judgeFirm
-  firm-rows h = rw (admitted-edges a, eq-eqb (length list) (3 * (length (p .ends) / 2)) h)
+  firm-rows h = rw (eq-eqb (length list) (3 * length (edges g)) h)
 
-  -- of kind 0 the firm list is judged
-  pub judge-firm : judge most p 0 list ≡ judgeFirm (graph p) list
-  unfolding judgeGraph
-  judge-firm = judge-admitted most p 0 list a
+-- of kind 0 the firm list is judged
+pub judge-firm : {most : Limits} {p : Plan} → Admitted most p → (list : List ℕ) → judge most p 0 list ≡ judgeFirm (graph p) list
+unfolding judgeGraph
+judge-firm {most} {p} a list = judge-admitted most p 0 list a
+
+-- the counts of a plan name its vertices
+pub own-counts : {most : Limits} {n : ℕ} {ends excluded : List ℕ} {counts : code-graph.Graph} → Made most (plan n ends excluded) counts
+    → Made most (plan (counts .vertices) ends excluded) counts
+own-counts {most} {n} {ends} {excluded} {counts} m = subst (λ (k : ℕ). Made most (plan k ends excluded) counts) (sym (m .vertices)) m

@@ -6,4 +6,5 @@ pub mod Ending
 pub mod Adding
 pub mod Tests
 pub mod Turns
+pub mod Keeping
 pub mod Judged

@@ -1,4 +1,4 @@
--- What a test tells of a fact, marks that are all the same, when two rows are joined, and when a row is the last of its step.
+-- What a test tells of a fact, when two rows are joined, and when a row is the last of its step.
 use mathlib.Core.Path.{_≡_, refl, sym, ap, _∙_}
 use mathlib.Core.Logic.{inr, ⊎-elim, ⊎-swap}
 use mathlib.Core.Bool.{Bool, true, false, not}
@@ -6,8 +6,7 @@ use mathlib.Core.List.{List, [], _∷_}
 use Prim.Native.Nat.{ℕ, suc, _+_, _*_, _-_, _≤_, _<_}
 use native.Mathlib.Omega.{arith}
 use lib.Dec.{eqb, leb}
-use native.Mathlib.Decide.{decLt}
-use lib.ListN.{length, getD, drop, replicate, length-replicate, getD-replicate, List·getD-eq-default}
+use lib.ListN.{length, getD, drop}
 use lib.Seq.{drop-cons, drop-length}
 use borrow.Author.Tests.{eqb-true, eqb-false, leb-true, leb-false}
 use Rattle.connectivity.specs.Judge.{Row, rowsOf, isLast}
@@ -34,13 +33,6 @@ tells-most {P} a b f h = go (leb a b) refl
 pub tells-with : {P Q : Type 0} (t : Bool) → (P → Q) → (Q → P) → Tells t P → Tells t Q
 tells-with true f h p = f p
 tells-with false f h n = λ q. n (h q)
-
--- marks that are all the same
-pub all-same : {A : Type 0} (n k : ℕ) (x : A) → getD (replicate n x) k x ≡ x
-all-same {A} n k x = elim (decLt k n) [
-  | yes h ↦ getD-replicate n k x x h
-  | no h ↦ List·getD-eq-default (replicate n x) x {n = k} (omega (arith, h, length-replicate {A = A} n x))
-]
 
 module _ (marks list : List ℕ) where
   -- the rows from i to j have been passed, and no branch stands there

@@ -10,16 +10,16 @@ use lib.ListN.{length, getD, set, length-set}
 use lib.Seq.{getD-set-same, getD-set-other}
 use borrow.Author.Tests.{eq-eqb, ne-eqb, ltb-true}
 use Rattle.connectivity.specs.Lists.{mem}
-use Rattle.connectivity.specs.Plan.{plan, graph, Limits}
-use Rattle.connectivity.specs.Graph.{Graph}
+use Rattle.connectivity.specs.Plan.{Plan, plan, graph, Limits}
+use Rattle.connectivity.specs.Graph.{Graph, isEdge}
 use Rattle.connectivity.specs.Walk.{Leg, Walk, last, then, edgesOf, allEdges, far}
-use Rattle.connectivity.specs.Admission.{Admitted}
 use Rattle.connectivity.specs.Judge.{Row, legOf, stepFits, edgeFits, comesTo, fromFits, rowNumber, stepNumber}
-use Rattle.connectivity.proofs.Admission.{admitted-all, edge-size}
+use Rattle.connectivity.proofs.Kept.{edge-size, bound-is}
 use Rattle.connectivity.proofs.Reach.{joins-vertex}
 use Rattle.connectivity.proofs.Legs.{walk-stop, edges-snoc, joins-far}
 use Rattle.connectivity.proofs.Run.{RowFits, row-fits}
 use Rattle.graph.specs.Admission.{toldBy}
+use Rattle.graph.specs.Excluded.{isOpen}
 use Rattle.verify_firm.specs.declared.state.Run.{Run}
 use Rattle.verify_firm.specs.declared.state.State.{State}
 use Rattle.verify_firm.specs.Marks.{rowAt, edgeAt, fromAt, rowMark, WentOn, begun, on, Ready, Whole, StepTold, RowsReady, RowsAdded, Used, Holds, Represents, takenNumber, rowAnswer, SteppedAt}
@@ -38,10 +38,10 @@ not-or : (a b : Bool) → not (a || b) ≡ (not a && not b)
 not-or true b = refl
 not-or false b = refl
 
-module _ {most : Limits} (n : ℕ) (ends : List ℕ) (a : Admitted most (plan n ends)) {list : List ℕ} {used : List Bool} {done : List (List Leg)} {walk : List Leg} {row : ℕ} {state : State}
-    (r : Represents most (graph (plan n ends)) list used done walk row state) where
+module _ {most : Limits} (p : Plan) {list used : List ℕ} {done : List (List Leg)} {walk : List Leg} {row : ℕ} {state : State}
+    (r : Represents most (graph p) list used done walk row state) where
   abbrev g : Graph
-  g = graph (plan n ends)
+  g = graph p
 
   abbrev holds : Holds most g list done walk row (state .degree) (state .left) (state .steps) (state .run) (state .low) (state .high)
   holds = r .holds
@@ -53,15 +53,17 @@ module _ {most : Limits} (n : ℕ) (ends : List ℕ) (a : Admitted most (plan n 
     | no p ↦ comes-is v (holds .walks (omega (arith, p, lies-le (holds .lies)))) ∙ rw (ne-eqb (state .run .first) row p)
   ]
 
-  edge : (e : ℕ) → edgeFits g done walk (record { step = 0; edge = e; from = 0 }) ≡ (ltb e (length ends / 2) && not (getD used e false))
-  unfolding edgeFits
-  edge e = rw (admitted-all a e) (go (ltb e (length ends / 2)) refl)
+  -- 11 by the marks
+  edge : (e : ℕ) → edgeFits g done walk (record { step = 0; edge = e; from = 0 }) ≡ (ltb e (length (p .ends) / 2) && isOpen used e)
+  unfolding edgeFits isEdge graph
+  edge e = go (ltb e (length (p .ends) / 2)) refl (r .marked e)
     where
-      go : (t : Bool) → ltb e (length ends / 2) ≡ t → (t && (not (mem e (edgesOf walk)) && not (mem e (allEdges done)))) ≡ (t && not (getD used e false))
-      go false p = refl
-      go true p = sym (not-or (mem e (edgesOf walk)) (mem e (allEdges done))) ∙ ap not (sym (r .marked e (omega (arith, a .edges, ltb-true e (length ends / 2) p))))
+      go : (t : Bool) → ltb e (length (p .ends) / 2) ≡ t → (e < length (p .ends) / 2 → isOpen used e ≡ (isEdge g e && not (mem e (edgesOf walk) || mem e (allEdges done))))
+          → (isEdge g e && (not (mem e (edgesOf walk)) && not (mem e (allEdges done)))) ≡ (t && isOpen used e)
+      go false q m = rw q
+      go true q m = rw (m (ltb-true e (length (p .ends) / 2) q), not-or (mem e (edgesOf walk)) (mem e (allEdges done)))
 
-  pub row-number : rowMark ends used (state .steps) row (state .run) (rowAt list row) ≡ rowNumber g done walk (rowAt list row)
+  pub row-number : rowMark (p .ends) used (state .steps) row (state .run) (rowAt list row) ≡ rowNumber g done walk (rowAt list row)
   unfolding rowNumber stepFits edgeFits fromFits graph
   row-number = rw (holds .steps-done, edge (rowAt list row .edge), comes (rowAt list row .from))
 
@@ -71,9 +73,13 @@ or-false : (a : Bool) → (a || false) ≡ a
 or-false true = refl
 or-false false = refl
 
-or-true : (a : Bool) → (a || true) ≡ true
-or-true true = refl
-or-true false = refl
+and-false : (a : Bool) → (a && false) ≡ false
+and-false true = refl
+and-false false = refl
+
+and-true : (a : Bool) → (a && true) ≡ a
+and-true true = refl
+and-true false = refl
 
 mem-append : (x : ℕ) (l r : List ℕ) → mem x (l ++ r) ≡ (mem x l || mem x r)
 unfolding mem
@@ -88,34 +94,35 @@ mem-one : (x y : ℕ) → mem x (y ∷ []) ≡ eqb x y
 unfolding mem
 mem-one x y = or-false (eqb x y)
 
-mark-used : (used : List Bool) (e x : ℕ) → e < length used → getD (set used e true) x false ≡ (getD used x false || eqb x e)
+mark-used : (used : List ℕ) (e x : ℕ) → e < length used → isOpen (set used e 1) x ≡ (isOpen used x && not (eqb x e))
 mark-used used e x h = elim (ℕ-discrete x e) [
-  | yes p ↦ rw (p, getD-set-same used e true false h, eq-eqb e e refl) (sym (or-true (getD used e false)))
-  | no p ↦ rw (getD-set-other used e x true false p, ne-eqb x e p) (sym (or-false (getD used x false)))
+  | yes p ↦ rw (p, getD-set-same used e 1 0 h, eq-eqb e e refl) (sym (and-false (isOpen used e)))
+  | no p ↦ rw (getD-set-other used e x 1 0 p, ne-eqb x e p) (sym (and-true (isOpen used x)))
 ]
 
-used-next : (most : Limits) (used : List Bool) (done : List (List Leg)) (walk : List Leg) (l : Leg) → l .edge < most .edges → length used ≡ most .edges → Used most used done walk
-    → Used most (set used (l .edge) true) done (walk ++ (l ∷ []))
-used-next most used done walk l b n u x h =
-    mark-used used (l .edge) x (omega (arith, b, n))
-    ∙ rw (u x h, edges-snoc walk l, mem-append x (edgesOf walk) (l .edge ∷ []), mem-one x (l .edge)) (or-swap (mem x (edgesOf walk)) (mem x (allEdges done)) (eqb x (l .edge)))
+used-next : (g : Graph) (used : List ℕ) (done : List (List Leg)) (walk : List Leg) (l : Leg) → l .edge < length used → Used g used done walk
+    → Used g (set used (l .edge) 1) done (walk ++ (l ∷ []))
+used-next g used done walk l b u x h =
+    mark-used used (l .edge) x b
+    ∙ rw (u x h, edges-snoc walk l, mem-append x (edgesOf walk) (l .edge ∷ []), mem-one x (l .edge)) (one-less (isEdge g x) (mem x (edgesOf walk)) (mem x (allEdges done)) (eqb x (l .edge)))
   where
-    or-swap : (a b c : Bool) → ((a || b) || c) ≡ ((a || c) || b)
-    or-swap true b c = refl
-    or-swap false true true = refl
-    or-swap false true false = refl
-    or-swap false false true = refl
-    or-swap false false false = refl
+    one-less : (e a b c : Bool) → ((e && not (a || b)) && not c) ≡ (e && not ((a || c) || b))
+    one-less false a b c = refl
+    one-less true true b c = refl
+    one-less true false true true = refl
+    one-less true false true false = refl
+    one-less true false false true = refl
+    one-less true false false false = refl
 
-used-done : (most : Limits) (used : List Bool) (done : List (List Leg)) (walk : List Leg) → Used most used done walk → Used most used (walk ∷ done) []
+used-done : (g : Graph) (used : List ℕ) (done : List (List Leg)) (walk : List Leg) → Used g used done walk → Used g used (walk ∷ done) []
 unfolding mem
-used-done most used done walk u x h = u x h ∙ sym (mem-append x (edgesOf walk) (allEdges done))
+used-done g used done walk u x h = u x h ∙ ap (λ (t : Bool). isEdge g x && not t) (sym (mem-append x (edgesOf walk) (allEdges done)))
 
 -- One row, as `step` takes it up.
 
-table-far : (n : ℕ) (ends : List ℕ) (e v : ℕ) → far (graph (plan n ends)) e v ≡ cond (eqb (getD ends (2 * e) 0) v) (getD ends (2 * e + 1) 0) (getD ends (2 * e) 0)
+table-far : (p : Plan) (e v : ℕ) → far (graph p) e v ≡ cond (eqb (getD (p .ends) (2 * e) 0) v) (getD (p .ends) (2 * e + 1) 0) (getD (p .ends) (2 * e) 0)
 unfolding far graph
-table-far n ends e v = refl
+table-far p e v = refl
 
 module _ (g : Graph) (done : List (List Leg)) (walk : List Leg) where
   taken-own : (whole : Bool) (r : Row) (m : ℕ) → m ≡ rowNumber g done walk r → (m ≡ 0 → ⊥) → m ≡ takenNumber g done walk whole r
@@ -138,9 +145,12 @@ rejects {m} row p h = rw (← p, ne-eqb m 0 h)
 goes-by : {n : ℕ} (row : ℕ) → 0 ≡ n → record { number = 0; place = 0 } ≡ toldBy (rowAnswer n row)
 goes-by row p = rw (← p)
 
-module _ {most : Limits} {ends : List ℕ} {used : List Bool} {list : List ℕ} {row : ℕ} {state : State} (r : Ready most ends used list row state) where
+module _ {most : Limits} {ends used list : List ℕ} {row : ℕ} {state : State} (r : Ready most ends used list row state) where
+  abbrev of : Plan
+  of = plan (r .n) ends (r .excluded)
+
   abbrev drawn : Graph
-  drawn = graph (plan (r .n) ends)
+  drawn = graph of
 
   abbrev here : Row
   here = rowAt list row
@@ -151,21 +161,17 @@ module _ {most : Limits} {ends : List ℕ} {used : List Bool} {list : List ℕ} 
   abbrev own : ℕ
   own = rowMark ends used (state .steps) row (state .run) here
 
-  pub read : 3 * row + 2 < length list
-  read = omega (arith, r .listed, r .below)
-
   pub number-own : own ≡ rowNumber drawn (r .done) (r .walk) here
-  number-own = row-number (r .n) ends (r .admitted) (r .represents)
+  number-own = row-number of (r .represents)
 
   bound : drawn .bound ≤ most .vertices
-  unfolding graph
-  bound = r .admitted .vertices
+  bound = omega (arith, bound-is of, r .admitted .vertices)
 
   pub steps-few : state .steps ≤ row
   steps-few = let h = r .represents .holds in omega (arith, h .steps-done, laid-length (h .laid), lies-le (h .lies))
 
   -- rejected by the row's own number
-  pub stops-own : (m : ℕ) (after : List Bool) (whole : Bool) → m ≡ own → (m ≡ 0 → ⊥) → SteppedAt most drawn list after (r .done) (r .walk) row whole
+  pub stops-own : (m : ℕ) (after : List ℕ) (whole : Bool) → m ≡ own → (m ≡ 0 → ⊥) → SteppedAt most drawn list after (r .done) (r .walk) row whole
       (record { state = state; answer = record { number = m; place = row } })
   stops-own m after whole p n = record {
     answered = rejects row (taken-own drawn (r .done) (r .walk) whole here m (p ∙ number-own) n) n;
@@ -177,7 +183,7 @@ module _ {most : Limits} {ends : List ℕ} {used : List Bool} {list : List ℕ} 
     fits = row-fits drawn (r .done) (r .walk) here .0 (sym number-own ∙ z)
 
     pub edge-below : edgeAt list row < length ends / 2
-    edge-below = edge-size (plan (r .n) ends) (fits .edge)
+    edge-below = edge-size of (fits .edge)
 
     pub from-below : fromAt list row < most .vertices
     from-below = omega (arith, bound, joins-vertex (joins-far (fits .edge) (fits .end)) .below)
@@ -185,16 +191,16 @@ module _ {most : Limits} {ends : List ℕ} {used : List Bool} {list : List ℕ} 
     module _ {to : ℕ} {after : List ℕ} {next : Run} (f : to ≡ cond (eqb (getD ends (2 * edgeAt list row) 0) (fromAt list row)) (getD ends (2 * edgeAt list row + 1) 0) (getD ends (2 * edgeAt list row) 0))
         (w : WentOn (state .left) (state .run) row (fromAt list row) to (getD (state .degree) (fromAt list row) 0) after next) where
       pub goes : Holds most drawn list (r .done) longer (suc row) (state .degree) after (state .steps) next (state .low) (state .high)
-      goes = went-on (r .represents .holds) bound fits (f ∙ sym (table-far (r .n) ends (edgeAt list row) (fromAt list row))) refl w
+      goes = went-on (r .represents .holds) bound fits (f ∙ sym (table-far of (edgeAt list row) (fromAt list row))) refl w
 
-      abbrev marked : List Bool
-      marked = set used (edgeAt list row) true
+      abbrev marked : List ℕ
+      marked = set used (edgeAt list row) 1
 
       used-length : length marked ≡ most .edges
-      used-length = length-set used (edgeAt list row) true ∙ r .represents .used-length
+      used-length = length-set used (edgeAt list row) 1 ∙ r .represents .used-length
 
-      used-marked : Used most marked (r .done) longer
-      used-marked = used-next most used (r .done) (r .walk) (legOf here) (omega (arith, edge-below, r .admitted .edges)) (r .represents .used-length) (r .represents .marked)
+      used-marked : Used drawn marked (r .done) longer
+      used-marked = used-next drawn used (r .done) (r .walk) (legOf here) (omega (arith, edge-below, r .admitted .edges, r .represents .used-length)) (r .represents .marked)
 
       -- the step goes on
       pub goes-on : (last-row : Bool) → last-row ≡ false → SteppedAt most drawn list marked (r .done) (r .walk) row last-row
@@ -216,8 +222,8 @@ module _ {most : Limits} {ends : List ℕ} {used : List Bool} {list : List ℕ} 
         walk = longer;
         row = suc row;
         left = after;
-        read = omega (arith, read);
-        within = omega (arith, r .below, r .admitted .edges);
+        read = omega (arith, r .read);
+        within = omega (arith, r .below);
         begun = began;
         holds = goes;
         start-mark = refl;
@@ -241,9 +247,9 @@ module _ {most : Limits} {ends : List ℕ} {used : List Bool} {list : List ℕ} 
       rows-ready = record {
         long = goes .marks-length;
         order = omega (arith, began);
-        read = omega (arith, read);
-        within = omega (arith, r .below, r .admitted .edges);
-        edges = λ k l. edge-size (plan (r .n) ends) (goes .rows k (omega (arith, l)) .edge);
+        read = omega (arith, r .read);
+        within = omega (arith, r .below);
+        edges = λ k l. edge-size of (goes .rows k (omega (arith, l)) .edge);
         fit = λ e l. let f = r .admitted .fit e l in record { left = omega (arith, f .left, bounded); right = omega (arith, f .right, bounded); different = f .different };
         few = goes .few;
       }
@@ -258,7 +264,7 @@ module _ {most : Limits} {ends : List ℕ} {used : List Bool} {list : List ℕ} 
           (record { state = record { degree = degrees; left = after; steps = state .steps + 1; run = fresh; low = next .start; high = next .at }; answer = record { number = 0; place = 0 } })
       passes last-row l degrees a p fresh k = rw (l, k) (record {
         answered = goes-by row (taken-whole drawn (r .done) (r .walk) here 0 (sym number-own ∙ z) (sym p));
-        next = λ q. record { used-length = used-length; marked = used-done most marked (r .done) longer used-marked; holds = subst Then same holds };
+        next = λ q. record { used-length = used-length; marked = used-done drawn marked (r .done) longer used-marked; holds = subst Then same holds };
       })
         where
           same : suc row ≡ row + 1
@@ -268,4 +274,4 @@ module _ {most : Limits} {ends : List ℕ} {used : List Bool} {list : List ℕ} 
           Then k = Holds most drawn list (longer ∷ r .done) [] (suc row) degrees after (state .steps + 1) (record { first = k; start = 0; at = 0; fresh = true }) (next .start) (next .at)
 
           holds : Then (suc row)
-          holds = finished (r .n) ends goes (r .admitted .vertices) began p (subst (RowsAdded (state .degree) degrees ends list (next .first)) (sym same) a)
+          holds = finished of goes (r .admitted .vertices) began p (subst (RowsAdded (state .degree) degrees ends list (next .first)) (sym same) a)

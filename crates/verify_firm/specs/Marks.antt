@@ -1,15 +1,15 @@
 -- What the marks of the build state mean, and what its parts answer.
 use mathlib.Core.Path.{_≡_}
 use mathlib.Core.Logic.{_⊎_}
-use mathlib.Core.Bool.{Bool, true, false, not, cond, _&&_, _||_}
+use mathlib.Core.Bool.{Bool, true, not, cond, _&&_, _||_}
 use mathlib.Core.List.{List, [], _∷_, _++_, List·Memᴰ as In}
 use Prim.Native.Nat.{ℕ, suc, _+_, _*_, _/_, _-_, _≤_, _<_}
-use lib.Dec.{eqb, ltb}
+use lib.Dec.{eqb, ltb, leb}
 use lib.ListN.{length, getD, set, drop}
 use Rattle.connectivity.specs.Lists.{Distinct, mem}
 use Rattle.graph.specs.Tells.{Tells}
-use Rattle.connectivity.specs.Plan.{plan, graph, Limits}
-use Rattle.connectivity.specs.Graph.{Graph, Joins}
+use Rattle.connectivity.specs.Plan.{plan, entire, graph, Limits}
+use Rattle.connectivity.specs.Graph.{Graph, Joins, isEdge}
 use Rattle.connectivity.specs.Walk.{Leg, Walk, Between, edgesOf, allInner, allEdges, degree, far}
 use Rattle.connectivity.specs.Mader.{Steps}
 use Rattle.connectivity.specs.Admission.{Answer, answer, passed, Admitted, EndsFit}
@@ -18,6 +18,8 @@ use Rattle.connectivity.proofs.Fresh.{Fresh}
 use Rattle.connectivity.proofs.Stretch.{Within}
 use Rattle.verify_firm.specs.declared.state.Run.{Run}
 use Rattle.graph.specs.Admission.{toldBy}
+use Rattle.graph.specs.Excluded.{isOpen}
+use Rattle.graph.specs.Marks.{rank}
 use Rattle.verify_firm.specs.declared.state.State.{State}
 use Rattle.verify_firm.specs.declared.state.Taken.{Taken}
 
@@ -86,22 +88,22 @@ pub record Holds (most : Limits) (g : Graph) (list : List ℕ) (done : List (Lis
   -- each row leaves an end of its edge
   pub rows : (k : ℕ) → k < row → Joins g (edgeAt list k) (fromAt list k) (far g (edgeAt list k) (fromAt list k))
 
--- used edges
-abbrev pub Used : Limits → List Bool → List (List Leg) → List Leg → Type 0
-Used most used done walk = (e : ℕ) → e < most .edges → getD used e false ≡ (mem e (edgesOf walk) || mem e (allEdges done))
+-- an entry of the table of ends has a mark exactly if it is used or is no edge of the graph
+abbrev pub Used : Graph → List ℕ → List (List Leg) → List Leg → Type 0
+Used g used done walk = (e : ℕ) → e < g .size → isOpen used e ≡ (isEdge g e && not (mem e (edgesOf walk) || mem e (allEdges done)))
 
-pub record Represents (most : Limits) (g : Graph) (list : List ℕ) (used : List Bool) (done : List (List Leg)) (walk : List Leg) (row : ℕ) (state : State) : Type 0 where
+pub record Represents (most : Limits) (g : Graph) (list used : List ℕ) (done : List (List Leg)) (walk : List Leg) (row : ℕ) (state : State) : Type 0 where
   pub used-length : length used ≡ most .edges
-  pub marked : Used most used done walk
+  pub marked : Used g used done walk
   pub holds : Holds most g list done walk row (state .degree) (state .left) (state .steps) (state .run) (state .low) (state .high)
 
 -- The parts of a row's test.
 
 -- 0, or 10, 11 or 12
-abbrev pub rowMark : List ℕ → List Bool → ℕ → ℕ → Run → Row → ℕ
+abbrev pub rowMark : List ℕ → List ℕ → ℕ → ℕ → Run → Row → ℕ
 rowMark ends used steps row run r =
     cond (eqb (r .step) steps)
-    (cond (ltb (r .edge) (length ends / 2) && not (getD used (r .edge) false))
+    (cond (ltb (r .edge) (length ends / 2) && isOpen used (r .edge))
     (cond ((eqb (getD ends (2 * r .edge) 0) (r .from) || eqb (getD ends (2 * r .edge + 1) 0) (r .from)) && (eqb (run .first) row || eqb (run .at) (r .from))) 0 12) 11)
     10
 
@@ -192,29 +194,30 @@ pub record RowsReady (most : Limits) (marks ends list : List ℕ) (first end : �
   pub read : 3 * end ≤ length list
   pub within : end ≤ most .edges
   pub edges : (k : ℕ) → k < end → edgeAt list k < length ends / 2
-  pub fit : (e : ℕ) → e < length ends / 2 → EndsFit (plan (length marks) ends) e
+  pub fit : (e : ℕ) → e < length ends / 2 → EndsFit (entire (length marks) ends) e
   pub few : (v : ℕ) → getD marks v 0 ≤ first
 
 pub record RowsAdded (marks after ends list : List ℕ) (first end : ℕ) : Type 0 where
   pub length-same : length after ≡ length marks
   pub few : (v : ℕ) → getD after v 0 ≤ end
-  pub more : (n s : ℕ) (legs : List Leg) → Lies list s first legs end
-      → (v : ℕ) → getD after v 0 ≡ degree (graph (plan n ends)) (edgesOf legs) v + getD marks v 0
+  pub more : (n : ℕ) (excluded : List ℕ) (s : ℕ) (legs : List Leg) → Lies list s first legs end
+      → (v : ℕ) → getD after v 0 ≡ degree (graph (plan n ends excluded)) (edgesOf legs) v + getD marks v 0
 
 -- One row.
 
 abbrev pub Begins : Limits → State → Type 0
-Begins most r = (n : ℕ) (ends list : List ℕ) (used : List Bool) → length used ≡ most .edges → ((e : ℕ) → getD used e false ≡ false)
-    → Represents most (graph (plan n ends)) list used [] [] 0 r
+Begins most r = (g : Graph) (list used : List ℕ) → length used ≡ most .edges → ((e : ℕ) → e < g .size → isOpen used e ≡ isEdge g e)
+    → Represents most g list used [] [] 0 r
 
-pub record Ready (most : Limits) (ends : List ℕ) (used : List Bool) (list : List ℕ) (row : ℕ) (state : State) : Type 0 where
+pub record Ready (most : Limits) (ends used list : List ℕ) (row : ℕ) (state : State) : Type 0 where
   pub n : ℕ
-  pub admitted : Admitted most (plan n ends)
-  pub listed : length list ≡ 3 * (length ends / 2)
-  pub below : row < length ends / 2
+  pub excluded : List ℕ
+  pub admitted : Admitted most (plan n ends excluded)
+  pub read : 3 * row + 2 < length list
+  pub below : row < most .edges
   pub done : List (List Leg)
   pub walk : List Leg
-  pub represents : Represents most (graph (plan n ends)) list used done walk row state
+  pub represents : Represents most (graph (plan n ends excluded)) list used done walk row state
 
 -- what is said of a row: its own rejection, and where it is the last of its step, the step's
 abbrev pub takenNumber : Graph → List (List Leg) → List Leg → Bool → Row → ℕ
@@ -234,18 +237,22 @@ abbrev pub rowAnswer : ℕ → ℕ → Answer
 rowAnswer number row = cond (eqb number 0) passed (answer number row)
 
 -- the answer to the row and the state after it, which is of use where the row has passed
-pub record SteppedAt (most : Limits) (g : Graph) (list : List ℕ) (after : List Bool) (done : List (List Leg)) (walk : List Leg) (row : ℕ) (last : Bool) (t : Taken) : Type 0 where
+pub record SteppedAt (most : Limits) (g : Graph) (list after : List ℕ) (done : List (List Leg)) (walk : List Leg) (row : ℕ) (last : Bool) (t : Taken) : Type 0 where
   pub answered : t .answer ≡ toldBy (rowAnswer (takenNumber g done walk last (rowAt list row)) row)
   pub next : t .answer .number ≡ 0
       → Represents most g list after (doneThen done walk last (rowAt list row)) (walkThen walk last (rowAt list row)) (suc row) (t .state)
 
-abbrev pub Stepped : Limits → List ℕ → List Bool → List Bool → List ℕ → ℕ → Bool → State → Taken → Type 0
+abbrev pub Stepped : Limits → List ℕ → List ℕ → List ℕ → List ℕ → ℕ → Bool → State → Taken → Type 0
 Stepped most ends used after list row last state t =
-    (r : Ready most ends used list row state) → SteppedAt most (graph (plan (r .n) ends)) list after (r .done) (r .walk) row last t
+    (r : Ready most ends used list row state) → SteppedAt most (graph (plan (r .n) ends (r .excluded))) list after (r .done) (r .walk) row last t
 
--- 16
-abbrev pub Closed : List ℕ → ℕ → ℕ → Type 0
-Closed marks n steps = (3 ≤ steps) × ((v : ℕ) → v < n → 3 ≤ getD marks v 0)
+-- 16: a vertex is marked as a branch
+abbrev pub isForked : List ℕ → ℕ → Bool
+isForked marks v = leb 3 (getD marks v 0)
+
+-- of the numbers below n as many are as vertices are kept
+abbrev pub Closed : List ℕ → ℕ → ℕ → ℕ → Type 0
+Closed marks n kept steps = (3 ≤ steps) × (rank (isForked marks) n ≡ kept)
 
 -- the row is the last of its step
 abbrev pub lastAt : List ℕ → ℕ → Bool

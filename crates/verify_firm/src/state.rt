@@ -54,7 +54,7 @@ impl State {
     pub(crate) fn step(
         mut self,
         ends: &[u16],
-        used: &mut [bool],
+        used: &mut [u8],
         list: &[u16],
         row: u16,
         last: bool,
@@ -71,7 +71,7 @@ impl State {
         if number != 0 {
             return rejected(self, number, row);
         }
-        used[e as usize] = true;
+        used[e as usize] = 1;
         let to = far(ends, e, v);
         let built = self.degree[v as usize];
         let on = go_on(run, row, v, to, built, &mut self.left);
@@ -136,7 +136,7 @@ fn begins(row: u16) -> Run
 // 10, 11, 12 of one row, or 0.
 fn row_number(
     ends: &[u16],
-    used: &[bool],
+    used: &[u8],
     s: u16,
     e: u16,
     v: u16,
@@ -154,7 +154,7 @@ fn row_number(
     if ends.len() / 2 <= k {
         return 11;
     }
-    if used[k] {
+    if used[k] != 0 {
         return 11;
     }
     if !is_end(ends[2 * k], ends[2 * k + 1], v) {

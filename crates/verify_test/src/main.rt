@@ -1,7 +1,7 @@
 // Runs the check on a table of verdicts, and prints each case with its answer: a number and a place.
 //
 // The table is the standard input, a line for each case:
-//     name; vertices; ends of the edges; kind; list of the verdict
+//     name; vertices; ends of the edges; kind; list of the verdict; excluded vertices (02: slugs), if there are any
 // A record is written as its rows: step, edge, vertex. A digit stands for itself, and another byte for a larger number (`worth`).
 // The cases:
 //     1 to 13     document 01's example, and P1 to P10 with their verdicts
@@ -20,6 +20,11 @@
 //     105 to 110  16: fewer than three steps, a piece that is not built or has two tabs
 //     111 to 116  11 in a weak list: equal, descending and unknown tabs
 //     117 to 124  17, and weak lists that pass without being the lowest
+//     125 to 136  18 and 19: after 4 and 5, also those of a slug's tab, and before 9
+//     137 to 140  9: three numbers for each kept tab
+//     141 to 145  11 in a record: a slug's tab
+//     146 to 151  records over the kept pieces, under their drawn numbers, and 16
+//     152 to 163  weak lists: 11 for a slug's tab whatever the other parts, 17, and what the loss of a slug parts
 use graph::Answer;
 use libc::STDIN_FILENO;
 use libc::STDOUT_FILENO;
@@ -63,7 +68,7 @@ fn front(list: &[u16], n: usize) -> &[u16] {
     &list[0..n]
 }
 
-// The field of a case that is read: its name, then the vertices, the ends, the kind and the list of the verdict.
+// The field of a case that is read: its name, then the vertices, the ends, the kind and the list of the verdict, and the excluded vertices.
 const NAME: u8 = 0;
 
 const VERTICES: u8 = 1;
@@ -74,6 +79,8 @@ const KIND: u8 = 3;
 
 const LIST: u8 = 4;
 
+const EXCLUDED: u8 = 5;
+
 // A case as far as it is read.
 struct Case {
     field: u8,
@@ -83,6 +90,8 @@ struct Case {
     kind: u16,
     list: [u16; 36],
     list_length: usize,
+    excluded: [u16; 8],
+    excluded_length: usize,
 }
 
 impl Case {
@@ -95,6 +104,8 @@ impl Case {
             kind: 0,
             list: [0; 36],
             list_length: 0,
+            excluded: [0; 8],
+            excluded_length: 0,
         }
     }
 
@@ -106,7 +117,7 @@ impl Case {
             return Case::new();
         }
         if byte == b';' {
-            if field < LIST {
+            if field < EXCLUDED {
                 self.field = field + 1;
             }
             return self;
@@ -135,6 +146,19 @@ impl Case {
             self.kind = x;
             return self;
         }
+        if field == LIST {
+            return self.listed(x);
+        }
+        let at = self.excluded_length;
+        if at < 8 {
+            self.excluded[at] = x;
+            self.excluded_length = at + 1;
+        }
+        self
+    }
+
+    // Takes up a number of the verdict.
+    fn listed(mut self, x: u16) -> Case {
         let at = self.list_length;
         if at < 36 {
             self.list[at] = x;
@@ -167,10 +191,12 @@ impl Case {
     }
 
     fn check(self, ends: &[u16]) {
+        let excluded = self.excluded;
         let list = self.list;
         tell(verify::check(
             self.vertices,
             front(ends, self.ends_length),
+            front(&excluded, self.excluded_length),
             self.kind,
             front(&list, self.list_length),
         ));

@@ -1,5 +1,6 @@
--- Two texts: any space of two, or three, numbers for each edge of the limits is enough to read them, and 6 is never the answer; what is
--- written of a plan and a verdict is answered as that plan and verdict; and only such texts pass.
+-- Two texts: a space of two numbers for each edge and one for each vertex of the limits is enough to read a plan, one of three for each edge
+-- to read a verdict, and 6 is never the answer; what is written of a plan and a verdict is answered as that plan and verdict; and only such
+-- texts pass.
 use mathlib.Core.Path.{_≡_, refl, sym, ap, _∙_, subst}
 use mathlib.Core.Logic.{_⊎_, inl, inr, ⊎-elim}
 use mathlib.Core.Bool.{Bool, true, false, cond, _&&_, _||_}
@@ -9,24 +10,25 @@ use native.Mathlib.Omega.{arith}
 use lib.Dec.{eqb, ltb, leb}
 use lib.ListN.{length, getD}
 use borrow.Author.Tests.{eqb-true, eqb-false, ltb-false, leb-true, le-ltb}
-use Rattle.connectivity.specs.Plan.{Plan, plan, Limits}
-use Rattle.connectivity.specs.Admission.{Answer, answer, passed, Admitted, endsAnswer, admission}
+use Rattle.connectivity.specs.Plan.{Plan, Limits}
+use Rattle.connectivity.specs.Admission.{Answer, answer, passed, Admitted, admission}
 use Rattle.connectivity.specs.Judge.{judge}
-use Rattle.text.specs.Column.{worths, lineFits, linesFit, linesNumbers}
-use Rattle.text.specs.Plan.{PlanReading, Writing, headerFirst, headerSecond, behindHeader, planText, readEnds, readPlan, writePlan}
-use Rattle.text.specs.Verdict.{VerdictReading, perLine, linesOf, needed, countFits, hasText, verdictText, listRead, readVerdict, writeVerdict}
+use Rattle.text.specs.Column.{worths, lineFits, linesFit}
+use Rattle.text.specs.Plan.{PlanReading, Writing, headerFirst, headerSecond, behindHeader, headerFits, planLinesFit, spelled, planNeeded, planText, listedAnswer, readAnswer, readPlan, writePlan}
+use Rattle.text.specs.Verdict.{VerdictReading, perLine, linesOf, needed, isRefusal, countFits, hasText, verdictText, listRead, readVerdict, writeVerdict}
 use Rattle.connectivity.proofs.Admission.{cond-both, admission-number}
 use Rattle.text.proofs.Laws.{and-true}
+use Rattle.text.proofs.Reading.{third-most}
 use Rattle.text.proofs.RoundTrip.{plan-is, verdict-is, plan-kept, verdict-kept}
 use Rattle.verify_texts.specs.Texts.{planIn, verdictIn, judgeRead, judgeTexts}
-use Rattle.verify_texts.proofs.Numbers.{Own, ends-five, judge-own}
+use Rattle.verify_texts.proofs.Numbers.{Own, PlanOwn, listed-own, judge-own}
 
 -- the numbers that a verdict's list has, where its header is in the form
 needed-most : (limits : Limits) (kind count : ℕ) → countFits limits kind count ≡ true → (needed kind count ≤ 3 * limits .edges) ⊎ (needed kind count ≤ 2)
 unfolding countFits needed perLine
 needed-most limits kind count = go (eqb kind 0) (eqb kind 1) (eqb kind 2)
   where
-    go : (r s t : Bool) → cond r (leb count (limits .edges)) (cond s (leb count 2) (cond t (leb 1 count && leb count 7) false)) ≡ true
+    go : (r s t : Bool) → cond r (leb count (limits .edges)) (cond s (leb count 2) (cond t (isRefusal count) false)) ≡ true
         → (cond t 1 (cond r 3 1 * count) ≤ 3 * limits .edges) ⊎ (cond t 1 (cond r 3 1 * count) ≤ 2)
     go r s true p = inr (omega arith)
     go true s false p = inl (omega (arith, leb-true count (limits .edges) p))
@@ -34,9 +36,9 @@ needed-most limits kind count = go (eqb kind 0) (eqb kind 1) (eqb kind 2)
     go false false false p = let z : _≡_ {A = ℕ} 0 1 = cc in absurd (omega arith)
 
 module _ (ws : List ℕ) (most : ℕ) (limits : Limits) (text : List ℕ) (space : ℕ) where
-  pub plan-space : 2 * limits .edges ≤ space → readPlan ws most limits text space ≡ planIn ws most limits text
-  unfolding readPlan planIn
-  plan-space h = go (lineFits ws most 2 text) (ltb n 2 || ltb (limits .vertices) n) (ltb (limits .edges) m) refl
+  answer-space : 2 * limits .edges + limits .vertices ≤ space → readAnswer ws most limits text space ≡ readAnswer ws most limits text (planNeeded ws most text)
+  unfolding readAnswer
+  answer-space h = go (headerFits ws most text) refl (ltb n 2) (ltb (limits .vertices) n) refl (ltb (limits .edges) m) refl
     where
       n : ℕ
       n = headerFirst ws text
@@ -44,18 +46,29 @@ module _ (ws : List ℕ) (most : ℕ) (limits : Limits) (text : List ℕ) (space
       m : ℕ
       m = headerSecond ws text
 
-      found : PlanReading
-      found = cond (linesFit ws most 2 m (behindHeader ws text)) (readEnds n (linesNumbers ws 2 m (behindHeader ws text))) (PlanReading.refused (answer 7 0))
+      needs : ℕ
+      needs = planNeeded ws most text
 
-      body : ℕ → Bool → Bool → Bool → PlanReading
-      body s a b c =
-          cond a (cond b (PlanReading.refused (answer 2 0)) (cond c (PlanReading.refused (answer 3 0)) (cond (ltb s (2 * m)) (PlanReading.refused (answer 6 0)) found))) (PlanReading.refused (answer 7 0))
+      found : Answer
+      found = cond (planLinesFit ws most text) (listedAnswer (spelled ws most text)) (answer 7 0)
 
-      go : (a b c : Bool) → ltb (limits .edges) m ≡ c → body space a b c ≡ body (2 * m) a b c
-      go false b c p = refl
-      go true true c p = refl
-      go true false true p = refl
-      go true false false p = rw (le-ltb space (2 * m) (omega (arith, ltb-false (limits .edges) m p)), le-ltb (2 * m) (2 * m) (omega arith))
+      body : ℕ → Bool → Bool → Bool → Bool → Answer
+      body s a b c d = cond a (cond (b || c) (answer 2 0) (cond d (answer 3 0) (cond (ltb s needs) (answer 6 0) found))) (answer 7 0)
+
+      go : (a : Bool) → headerFits ws most text ≡ a → (b c : Bool) → ltb (limits .vertices) n ≡ c → (d : Bool) → ltb (limits .edges) m ≡ d → body space a b c d ≡ body needs a b c d
+      go false f b c v d e = refl
+      go true f true c v d e = refl
+      go true f false true v d e = refl
+      go true f false false v true e = refl
+      go true f false false v false e =
+          rw (
+            le-ltb space needs (omega (arith, third-most ws most text f, ltb-false (limits .vertices) n v, ltb-false (limits .edges) m e)),
+            le-ltb needs needs (omega arith),
+          )
+
+  pub plan-space : 2 * limits .edges + limits .vertices ≤ space → readPlan ws most limits text space ≡ planIn ws most limits text
+  unfolding readPlan planIn
+  plan-space h = rw (answer-space h)
 
   pub verdict-space : 3 * limits .edges ≤ space → 2 ≤ space → readVerdict ws most limits text space ≡ verdictIn ws most limits text
   unfolding readVerdict verdictIn
@@ -80,9 +93,9 @@ module _ (ws : List ℕ) (most : ℕ) (limits : Limits) (text : List ℕ) (space
       go false p = refl
       go true p = rw (le-ltb space (needed kind count) (room p), le-ltb (needed kind count) (needed kind count) (omega arith))
 
--- every number but 6 that 01 has
+-- every number but 6 that 01 and 02 have
 abbrev pub Possible : ℕ → Type 0
-Possible k = (k ≤ 5) ⊎ ((7 ≤ k) × (k ≤ 17))
+Possible k = (k ≤ 5) ⊎ ((7 ≤ k) × (k ≤ 19))
 
 own-possible : (k : ℕ) → Own k → Possible k
 own-possible k o = ⊎-elim (λ h. inl h) (λ h. inr (omega (arith, h .0), h .1)) o
@@ -99,45 +112,55 @@ abbrev Proper : VerdictReading → Type 0
 Proper (VerdictReading.refused a) = Refuses a
 Proper (VerdictReading.read kind list) = Unit {0}
 
-high : (k : ℕ) → 7 ≤ k → k ≤ 17 → Refuses (answer k 0)
-high k p h = (λ z. omega arith, inr (p, h))
+bad-form : Refuses (answer 8 0)
+bad-form = (λ z. omega arith, inr (omega arith, omega arith))
 
--- of a plan text 1 to 5 or 7
-abbrev PlanOwn : PlanReading → Type 0
-PlanOwn (PlanReading.refused a) = (1 ≤ a .number) × ((a .number ≤ 5) ⊎ (a .number ≡ 7))
-PlanOwn (PlanReading.read p) = Unit {0}
+-- of a plan text 1 to 5, 7, 18 or 19
+abbrev pub PlanNumber : ℕ → Type 0
+PlanNumber k = (1 ≤ k) × (PlanOwn k ⊎ (k ≡ 7))
 
-own-proper : (x : PlanReading) → PlanOwn x → PlanProper x
-own-proper (PlanReading.refused a) (p, o) = (λ z. omega (arith, p, z), ⊎-elim (λ h. inl h) (λ h. inr (omega (arith, h), omega (arith, h))) o)
-own-proper (PlanReading.read p) u = tt
+abbrev PlanRefused : PlanReading → Type 0
+PlanRefused (PlanReading.refused a) = PlanNumber (a .number)
+PlanRefused (PlanReading.read p) = Unit {0}
 
-ends-own : (n : ℕ) (ends : List ℕ) → PlanOwn (readEnds n ends)
-unfolding readEnds
-ends-own n ends = go (eqb ((endsAnswer n 0 ends) .number) 0) refl
-  where
-    go : (t : Bool) → eqb ((endsAnswer n 0 ends) .number) 0 ≡ t → PlanOwn (cond t (PlanReading.read (plan n ends)) (PlanReading.refused (endsAnswer n 0 ends)))
-    go true p = tt
-    go false p = (omega (arith, eqb-false ((endsAnswer n 0 ends) .number) 0 p), inl (ends-five n 0 ends))
+number-possible : (k : ℕ) → PlanOwn k ⊎ (k ≡ 7) → Possible k
+number-possible k (inl (inl h)) = inl h
+number-possible k (inl (inr h)) = inr (omega (arith, h .0), h .1)
+number-possible k (inr h) = inr (omega (arith, h), omega (arith, h))
+
+refused-proper : (x : PlanReading) → PlanRefused x → PlanProper x
+refused-proper (PlanReading.refused a) (p, o) = (λ z. omega (arith, p, z), number-possible (a .number) o)
+refused-proper (PlanReading.read p) u = tt
 
 module _ (ws : List ℕ) (most : ℕ) (limits : Limits) where
-  plan-own : (text : List ℕ) → PlanOwn (planIn ws most limits text)
-  unfolding planIn readPlan
-  plan-own text =
-      let n = headerFirst ws text in
-      let m = headerSecond ws text in
-      let rest = behindHeader ws text in
-      rw (le-ltb (2 * m) (2 * m) (omega arith))
-      (cond-both PlanOwn (lineFits ws most 2 text)
-      (cond-both PlanOwn (ltb n 2 || ltb (limits .vertices) n) (omega arith, inl (omega arith))
-      (cond-both PlanOwn (ltb (limits .edges) m) (omega arith, inl (omega arith))
-      (cond-both PlanOwn (linesFit ws most 2 m rest) (ends-own n (linesNumbers ws 2 m rest)) (omega arith, inr refl))))
-      (omega arith, inr refl))
+  abbrev answered : List ℕ → Answer
+  answered text = readAnswer ws most limits text (planNeeded ws most text)
 
-  pub plan-number : (text : List ℕ) (a : Answer) → planIn ws most limits text ≡ PlanReading.refused a → (1 ≤ a .number) × ((a .number ≤ 5) ⊎ (a .number ≡ 7))
-  plan-number text a p = subst PlanOwn p (plan-own text)
+  answer-own : (text : List ℕ) → PlanOwn (answered text .number) ⊎ (answered text .number ≡ 7)
+  unfolding readAnswer
+  answer-own text =
+      let n = headerFirst ws text in
+      let P : Answer → Type 0 = λ a. PlanOwn (a .number) ⊎ (a .number ≡ 7) in
+      rw (le-ltb (planNeeded ws most text) (planNeeded ws most text) (omega arith))
+      (cond-both P (headerFits ws most text)
+      (cond-both P (ltb n 2 || ltb (limits .vertices) n) (inl (inl (omega arith)))
+      (cond-both P (ltb (limits .edges) (headerSecond ws text)) (inl (inl (omega arith)))
+      (cond-both P (planLinesFit ws most text) (inl (listed-own (spelled ws most text))) (inr refl))))
+      (inr refl))
+
+  plan-refused : (text : List ℕ) → PlanRefused (planIn ws most limits text)
+  unfolding planIn readPlan
+  plan-refused text = go (eqb (answered text .number) 0) refl
+    where
+      go : (t : Bool) → eqb (answered text .number) 0 ≡ t → PlanRefused (cond t (PlanReading.read (spelled ws most text)) (PlanReading.refused (answered text)))
+      go true p = tt
+      go false p = (omega (arith, eqb-false (answered text .number) 0 p), answer-own text)
+
+  pub plan-number : (text : List ℕ) (a : Answer) → planIn ws most limits text ≡ PlanReading.refused a → PlanNumber (a .number)
+  plan-number text a p = subst PlanRefused p (plan-refused text)
 
   plan-proper : (text : List ℕ) → PlanProper (planIn ws most limits text)
-  plan-proper text = own-proper (planIn ws most limits text) (plan-own text)
+  plan-proper text = refused-proper (planIn ws most limits text) (plan-refused text)
 
   verdict-proper : (text : List ℕ) → Proper (verdictIn ws most limits text)
   unfolding verdictIn readVerdict
@@ -146,8 +169,8 @@ module _ (ws : List ℕ) (most : ℕ) (limits : Limits) where
       let count = headerSecond ws text in
       rw (le-ltb (needed kind count) (needed kind count) (omega arith))
       (cond-both Proper (lineFits ws most 2 text && countFits limits kind count)
-      (cond-both Proper (linesFit ws most (perLine kind) (linesOf kind count) (behindHeader ws text)) tt (high 8 (omega arith) (omega arith)))
-      (high 8 (omega arith) (omega arith)))
+      (cond-both Proper (linesFit ws most (perLine kind) (linesOf kind count) (behindHeader ws text)) tt bad-form)
+      bad-form)
 
   read-possible : (x : PlanReading) (y : VerdictReading) → PlanProper x → Proper y → Possible ((judgeRead limits x y) .number)
   unfolding judgeRead
@@ -219,7 +242,7 @@ verdict-written ws limits kind list room text = go (hasText limits kind list) re
 
 -- 01: what is written of a plan and a verdict is answered as that plan and verdict, in columns of w digits, for every largest value that
 -- has no more digits and all limits that are not above it
-module _ (w most : ℕ) (digits : most < 10 ^ w) (limits : Limits) (vertices : limits .vertices ≤ most) (edges : limits .edges ≤ most) (seven : 7 ≤ most) where
+module _ (w most : ℕ) (digits : most < 10 ^ w) (limits : Limits) (vertices : limits .vertices ≤ most) (edges : limits .edges ≤ most) (high : 19 ≤ most) where
   pub judge-written : (p : Plan) (kind : ℕ) (list plan verdict : List ℕ) (room space : ℕ)
       → writePlan (worths w) limits p room ≡ Writing.written plan → writeVerdict (worths w) limits kind list space ≡ Writing.written verdict → ((i : ℕ) → getD list i 0 ≤ most)
       → judgeTexts (worths w) most limits plan verdict ≡ judge limits p kind list
@@ -227,10 +250,10 @@ module _ (w most : ℕ) (digits : most < 10 ^ w) (limits : Limits) (vertices : l
   judge-written p kind list plan verdict room space h q small =
       let a = plan-written (worths w) limits p room plan h in
       let b = verdict-written (worths w) limits kind list space verdict q in
-      let large = 2 * limits .edges + length (p .ends) in
+      let large = 2 * limits .edges + limits .vertices + length (p .ends) + length (p .excluded) in
       let long = 3 * limits .edges + length list + 2 in
       let x : planIn (worths w) most limits plan ≡ PlanReading.read p = sym (plan-space (worths w) most limits plan large (omega arith))
       ∙ rw (a .1) (plan-kept w most digits limits vertices edges p large (a .0) (omega arith)) in
       let y : verdictIn (worths w) most limits verdict ≡ VerdictReading.read kind list = sym (verdict-space (worths w) most limits verdict long (omega arith) (omega arith))
-      ∙ rw (b .1) (verdict-kept w most digits limits vertices edges seven kind list long (b .0) small (omega arith)) in
+      ∙ rw (b .1) (verdict-kept w most digits limits vertices edges high kind list long (b .0) small (omega arith)) in
       rw (x, y)

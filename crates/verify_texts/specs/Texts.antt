@@ -1,17 +1,17 @@
 -- What the check answers to a plan text and a verdict text.
 use mathlib.Core.List.{List}
-use Prim.Native.Nat.{ℕ, _*_}
+use Prim.Native.Nat.{ℕ}
 use Rattle.connectivity.specs.Plan.{Limits}
 use Rattle.connectivity.specs.Admission.{Answer}
 use Rattle.connectivity.specs.Judge.{judge}
-use Rattle.text.specs.Plan.{PlanReading, headerFirst, headerSecond, readPlan}
+use Rattle.text.specs.Plan.{PlanReading, headerFirst, headerSecond, planNeeded, readPlan}
 use Rattle.text.specs.Verdict.{VerdictReading, needed, readVerdict}
 
 -- In what follows `ws` are the worths of a column's digits and `most` is the largest value.
 
 -- 01: a plan text read in stated space: as many numbers as its header asks for, so that 6 is never the answer
 unfoldable pub planIn : List ℕ → ℕ → Limits → List ℕ → PlanReading
-planIn ws most limits text = readPlan ws most limits text (2 * headerSecond ws text)
+planIn ws most limits text = readPlan ws most limits text (planNeeded ws most text)
 
 -- the same of a verdict text
 unfoldable pub verdictIn : List ℕ → ℕ → Limits → List ℕ → VerdictReading

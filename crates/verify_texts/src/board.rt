@@ -10,10 +10,16 @@ ghost use Rattle.verify_texts.specs.Board.{packed};
 
 // The check of a verdict about a plan, both as numbers.
 #[no_mangle]
-pub extern "C" fn hearthtansy_check(vertices: u16, ends: &[u16], kind: u16, list: &[u16]) -> u32
-    ensures { λ r. ⌜ r ≡ packed (judge limits (plan vertices (now (ends .entry))) kind (now (list .entry))) ⌝ }
+pub extern "C" fn hearthtansy_check(
+    vertices: u16,
+    ends: &[u16],
+    excluded: &[u16],
+    kind: u16,
+    list: &[u16],
+) -> u32
+    ensures { λ r. ⌜ r ≡ packed (judge limits (plan vertices (now (ends .entry)) (now (excluded .entry))) kind (now (list .entry))) ⌝ }
 {
-    pack(verify::check(vertices, ends, kind, list))
+    pack(verify::check(vertices, ends, excluded, kind, list))
 }
 
 // The check of a verdict text about a plan text.

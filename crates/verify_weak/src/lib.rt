@@ -10,34 +10,34 @@ ghost use Rattle.connectivity.specs.Plan.{plan, graph, limits};
 ghost use Rattle.connectivity.specs.Admission.{Admitted};
 ghost use Rattle.connectivity.specs.Judge.{judgeWeak, judge};
 ghost use Rattle.graph.specs.Admission.{toldBy};
-ghost use Rattle.verify_weak.specs.Weak.{InTurn};
+ghost use Rattle.verify_weak.specs.Weak.{isMissing, InTurn};
 
-// A verdict of kind 1 with the numbers `list` about a plan: 0 and 0 if it passes, else the plan's own 1 to 5, or 9, 11 or 17. It only
+// A verdict of kind 1 with the numbers `list` about a plan: 0 and 0 if it passes, else the plan's own refusal, or 9, 11 or 17. It only
 // reads.
-pub fn check_weak(vertices: u16, ends: &[u16], list: &[u16]) -> Answer
-    ensures { λ r. ⌜ r ≡ toldBy (judge limits (plan vertices (now (ends .entry))) 1 (now (list .entry))) ⌝ }
+pub fn check_weak(vertices: u16, ends: &[u16], excluded: &[u16], list: &[u16]) -> Answer
+    ensures { λ r. ⌜ r ≡ toldBy (judge limits (plan vertices (now (ends .entry)) (now (excluded .entry))) 1 (now (list .entry))) ⌝ }
 {
-    let made = Graph::new(vertices, ends);
+    let made = Graph::new(vertices, ends, excluded);
     match made {
         Admission::Refused(answer) => answer,
-        Admission::Admitted(graph) => weak_admitted(vertices, ends, graph.edges, list),
+        Admission::Admitted(_) => weak_admitted(vertices, ends, excluded, list),
     }
 }
 
 // The same of an admitted plan: 9 for more than two edges, 11 in turn, 17 if they do not disconnect.
-fn weak_admitted(vertices: u16, ends: &[u16], edges: u16, list: &[u16]) -> Answer
-    requires { ⌜ (edges ≡ length (now ends) / 2) × Admitted limits (plan vertices (now ends)) ⌝ }
-    ensures { λ r. ⌜ r ≡ toldBy (judgeWeak (graph (plan vertices (now (ends .entry)))) (now (list .entry))) ⌝ }
+fn weak_admitted(vertices: u16, ends: &[u16], excluded: &[u16], list: &[u16]) -> Answer
+    requires { ⌜ Admitted limits (plan vertices (now ends) (now excluded)) ⌝ }
+    ensures { λ r. ⌜ r ≡ toldBy (judgeWeak (graph (plan vertices (now (ends .entry)) (now (excluded .entry)))) (now (list .entry))) ⌝ }
 {
     if 2 < list.len() {
         return answer(9, 0);
     }
-    let turn = rises(edges, list);
+    let turn = rises(ends, excluded, list);
     let number = turn.number;
     if number != 0 {
         return turn;
     }
-    let split = removal::split_by(vertices, ends, list);
+    let split = removal::split_by(vertices, ends, excluded, list);
     match split {
         Split::Refused(refusal) => refusal,
         Split::Disconnected => answer(0, 0),
@@ -55,15 +55,15 @@ fn answer(number: u16, place: u16) -> Answer
 }
 
 // 11 at the first number that is no edge or not above the one before.
-fn rises(edges: u16, list: &[u16]) -> Answer
-    requires { ⌜ length (now list) ≤ 2 ⌝ }
-    ensures { λ r. ⌜ InTurn edges (now (list .entry)) r ⌝ }
+fn rises(ends: &[u16], excluded: &[u16], list: &[u16]) -> Answer
+    requires { ⌜ (length (now list) ≤ 2) × (length (now ends) / 2 ≤ limits .edges) ⌝ }
+    ensures { λ r. ⌜ InTurn (now (ends .entry)) (now (excluded .entry)) (now (list .entry)) r ⌝ }
 {
     let mut low: u16 = 0;
     let mut i = 0;
     while i < list.len() {
         let e = list[i];
-        if edges <= e {
+        if is_missing(ends, excluded, e) {
             return answer(11, i as u16);
         }
         if e < low {
@@ -73,4 +73,18 @@ fn rises(edges: u16, list: &[u16]) -> Answer
         i += 1;
     }
     answer(0, 0)
+}
+
+// Whether e is no edge: it is behind the table of ends, or one of its ends is excluded (02: a slug's tab).
+fn is_missing(ends: &[u16], excluded: &[u16], e: u16) -> bool
+    ensures { λ r. ⌜ r ≡ isMissing (now (ends .entry)) (now (excluded .entry)) e ⌝ }
+{
+    let at = e as usize;
+    if ends.len() / 2 <= at {
+        return true;
+    }
+    if graph::excluded::is_excluded(excluded, ends[2 * at]) {
+        return true;
+    }
+    graph::excluded::is_excluded(excluded, ends[2 * at + 1])
 }

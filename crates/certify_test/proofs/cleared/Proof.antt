@@ -5,10 +5,10 @@ use Rattle.certify_test.proofs.cleared.Statement.{statement}
 use Rattle.certify_test.proofs.cleared.Tie as tie
 
 abbrev Inv-loop : tie.InvT-loop
-Inv-loop run₀ i₀ run i = i ≤ 7
+Inv-loop run₀ i₀ run i = i ≤ 8
 
 abbrev μ-loop : tie.MeasureT-loop
-μ-loop run₀ i₀ run i = 7 - i
+μ-loop run₀ i₀ run i = 8 - i
 
 loop-holds : tie.Need-loop-holds Inv-loop μ-loop
 loop-holds c = search needs

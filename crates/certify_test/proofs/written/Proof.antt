@@ -8,6 +8,12 @@ use Rattle.certify_test.proofs.written.Tie as tie
 returns : tie.Need-returns
 returns c = search needs
 
+front-requires : tie.Need-front-requires
+front-requires c κs = search needs
+
+excluded-requires : tie.Need-excluded-requires
+excluded-requires c κs = search needs
+
 slice-relend-prefix-verdict : tie.Need-slice-relend-prefix-verdict
 slice-relend-prefix-verdict c = search needs
 
@@ -31,6 +37,8 @@ written-spec =
     tie.close
     (tie.spec
     returns
+    front-requires
+    excluded-requires
     slice-relend-prefix-verdict
     slice-aggregate-verdict
     verdict-requires

@@ -1,24 +1,27 @@
--- `verdict_text` meets its contract: the table of ends has room for every admitted plan, and what is read of the plan is judged.
+-- `verdict_text` meets its contract: the table has room for every admitted plan, and what is read of the plan is judged.
 use mathlib.Core.Path.{_≡_}
-use Prim.Native.Nat.{ℕ, _*_, _≤_}
+use Prim.Native.Nat.{ℕ, _+_, _*_, _≤_}
 use native.Mathlib.Omega.{arith}
-use lib.ListN.{length, take, length-take, length-replicate}
+use lib.ListN.{length, replicate, length-replicate}
 use borrow.Author.Needs.{needs}
-use Rattle.connectivity.specs.Plan.{plan, limits}
+use Rattle.connectivity.specs.Plan.{limits}
 use Rattle.text.specs.Column.{five, largest}
 use Rattle.text.specs.Plan.{PlanReading}
 use Rattle.verify_texts.specs.Texts.{planIn}
+use Rattle.verify_texts.specs.Table.{Holds, planOf}
 use Rattle.verify_texts.proofs.Stored.{planned, plan-stored, plan-told}
 use Rattle.certify_texts.specs.Says.{read}
 use Rattle.certify_texts.proofs.Saying.{says-refused}
 use Rattle.certify_texts.proofs.verdict_text.Statement.{statement}
 use Rattle.certify_texts.proofs.verdict_text.Tie as tie
 
--- the front of the table is the plan's ends
-stored : (o : tie.After-read2) → let ends = o .before .before .before .read-plan .last .1 .0 in let graph = o .read2 .given .0 .0 in
-    (2 * graph .edges ≤ length ends)
-    × (planIn five largest limits (o .before .before .before .before .before .before .before .args .plan .now) ≡ PlanReading.read (plan (graph .vertices) (take (2 * graph .edges) ends)))
-stored o = plan-stored five largest limits _ _ _ _ (o .before .before .before .read-plan .ensures) (omega (arith, length-replicate {A = ℕ} (2 * limits .edges) 0)) _ (o .read2 .given .1)
+room : 2 * limits .edges + limits .vertices ≤ length {A = ℕ} (replicate (2 * limits .edges + limits .vertices) 0)
+room = omega (arith, length-replicate {A = ℕ} (2 * limits .edges + limits .vertices) 0)
+
+-- the table holds the plan
+stored : (o : tie.After-read2) → let table = o .before .before .before .read-plan .last .1 .0 in let graph = o .read2 .given .0 .0 in
+    Holds graph table × (planIn five largest limits (o .before .before .before .before .before .before .before .args .plan .now) ≡ PlanReading.read (planOf graph table))
+stored o = plan-stored five largest limits _ _ _ _ (o .before .before .before .read-plan .ensures) room _ (o .read2 .given .1)
 
 slice-aggregate-read-plan : tie.Need-slice-aggregate-read-plan
 slice-aggregate-read-plan c = search needs
@@ -35,20 +38,11 @@ write-refusal-requires c κs = search needs
 enum-known-read-2 : tie.Need-enum-known-read-2
 enum-known-read-2 c = search needs
 
-cast-size : tie.Need-cast-size
-cast-size c = search needs
+slice-aggregate-write-read : tie.Need-slice-aggregate-write-read
+slice-aggregate-write-read c = search needs
 
-mul-size : tie.Need-mul-size
-mul-size c = search needs
-
-array-share-prefix-ends : tie.Need-array-share-prefix-ends
-array-share-prefix-ends c = omega (arith, stored (c .before .before) .0)
-
-slice-aggregate-write-admitted : tie.Need-slice-aggregate-write-admitted
-slice-aggregate-write-admitted c = simp length-take (omega (arith, stored (c .before .before .before) .0))
-
-write-admitted-requires : tie.Need-write-admitted-requires
-write-admitted-requires c κs = planned five largest limits _ (stored (c .before .before .before .before) .1)
+write-read-requires : tie.Need-write-read-requires
+write-read-requires c κs = let s = stored (c .before .before .before) in (s .0, planned five largest limits _ (s .1))
 
 same-length : tie.Need-same-length
 same-length c = search needs
@@ -56,14 +50,14 @@ same-length c = search needs
 returns : tie.Need-returns
 returns c =
     let o = c .before .before .before .before .before in
-    let (b, q, e) = plan-told five largest limits _ _ _ _ (o .before .before .before .read-plan .ensures) (omega (arith, length-replicate {A = ℕ} (2 * limits .edges) 0)) _ (o .read .given .1) in
+    let (b, q, e) = plan-told five largest limits _ _ _ _ (o .before .before .before .read-plan .ensures) room _ (o .read .given .1) in
     says-refused b q e (c .before .before .write-refusal .ensures)
 
 same-length-2 : tie.Need-same-length-2
 same-length-2 c = search needs
 
 returns-2 : tie.Need-returns-2
-returns-2 c = let w = c .before .before .write-admitted .ensures in record { kind = w .kind; list = w .list; says = read (stored (c .before .before .before .before .before .before .before) .1) (w .says); written = w .written }
+returns-2 c = let w = c .before .before .write-read .ensures in record { kind = w .kind; list = w .list; says = read (stored (c .before .before .before .before .before .before) .1) (w .says); written = w .written }
 
 pub verdict-text-spec : {M : Type 1} → statement M
 verdict-text-spec =
@@ -74,11 +68,8 @@ verdict-text-spec =
     enum-known-read
     write-refusal-requires
     enum-known-read-2
-    cast-size
-    mul-size
-    array-share-prefix-ends
-    slice-aggregate-write-admitted
-    write-admitted-requires
+    slice-aggregate-write-read
+    write-read-requires
     same-length
     returns
     same-length-2

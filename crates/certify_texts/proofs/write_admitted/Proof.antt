@@ -1,20 +1,38 @@
 -- `write_admitted` meets its contract: the table of rows has room for every admitted plan, so it is weak or firm, and what is found of it is
 -- written.
+use mathlib.Core.Path.{_≡_, sym, subst}
 use Prim.Native.Nat.{ℕ, _*_, _≤_}
 use native.Mathlib.Omega.{arith}
-use lib.ListN.{length-take, length-replicate}
+use lib.ListN.{length, take, replicate, length-take, length-replicate}
 use borrow.Author.Needs.{needs}
-use Rattle.connectivity.specs.Plan.{plan, limits}
+use Rattle.connectivity.specs.Plan.{Plan, plan, limits}
+use Rattle.graph.proofs.Barring.{edges-few}
 use Rattle.certify.specs.Answered.{named}
 use Rattle.certify_texts.specs.Says.{SaysOf}
 use Rattle.certify_texts.proofs.Saying.{never-refused, says-weak, says-firm}
 use Rattle.certify_texts.proofs.write_admitted.Statement.{statement}
 use Rattle.certify_texts.proofs.write_admitted.Tie as tie
 
+-- the plan
+abbrev drawn : tie.Start → Plan
+drawn start = plan (start .args .vertices) (start .args .ends .now) (start .args .excluded .now)
+
+-- how long the table is, and that it is enough
+size : length {A = ℕ} (replicate (3 * limits .edges) 0) ≡ 3 * limits .edges
+size = length-replicate {A = ℕ} (3 * limits .edges) 0
+
+fits : (start : tie.Start) → 3 * start .args .kept ≤ 3 * limits .edges
+fits start = omega (arith, start .pre .1, edges-few (drawn start), start .pre .0 .edges)
+
 -- a weak plan
-said-weak : (o : tie.After-enum-told) → let start = o .before .before .before .before .before .before .before in let cut = o .before .before .before .verdict .result .cut in
-    (cut .count ≤ 2) × SaysOf limits (plan (start .args .vertices) (start .args .ends .now)) 1 (named cut)
-said-weak o = says-weak (o .before .before .before .before .before .before .before .pre) (length-replicate {A = ℕ} (3 * limits .edges) 0) (o .before .before .before .verdict .ensures) (o .enum-told .given .1)
+said-weak : (o : tie.After-enum-told) → let cut = o .before .before .before .verdict .result .cut in (cut .count ≤ 2) × SaysOf limits (drawn (o .before .before .before .before .before .before .before .before)) 1 (named cut)
+said-weak o = says-weak (o .before .before .before .before .before .before .before .before .pre .0) size (o .before .before .before .verdict .ensures) (o .enum-told .given .1)
+
+-- a firm one
+said-firm : (o : tie.After-enum-told2) → let start = o .before .before .before .before .before .before .before .before in SaysOf limits (drawn start) 0 (take (3 * start .args .kept) (o .before .before .before .verdict .last .1 .1 .1 .0))
+said-firm o =
+    let start = o .before .before .before .before .before .before .before .before in
+    subst (λ (n : ℕ). SaysOf limits (drawn start) 0 (take (3 * n) (o .before .before .before .verdict .last .1 .1 .1 .0))) (sym (start .pre .1)) (says-firm (start .pre .0) size (o .before .before .before .verdict .ensures) (o .enum-told2 .given .1))
 
 slice-aggregate-verdict : tie.Need-slice-aggregate-verdict
 slice-aggregate-verdict c = search needs
@@ -41,10 +59,10 @@ mul-size : tie.Need-mul-size
 mul-size c = search needs
 
 array-share-prefix-rows : tie.Need-array-share-prefix-rows
-array-share-prefix-rows c = search needs
+array-share-prefix-rows c = omega (arith, fits (c .before .before .before .before .before .before .before .before))
 
 slice-aggregate-write-verdict : tie.Need-slice-aggregate-write-verdict
-slice-aggregate-write-verdict c = simp length-take (omega (arith, c .before .before .before .before .before .before .before .before .pre .edges))
+slice-aggregate-write-verdict c = simp length-take (omega (arith, fits (c .before .before .before .before .before .before .before .before .before)))
 
 write-verdict-requires : tie.Need-write-verdict-requires
 write-verdict-requires c κs = search needs
@@ -53,9 +71,7 @@ same-length : tie.Need-same-length
 same-length c = search needs
 
 returns : tie.Need-returns
-returns c =
-    let o = c .before .before .before .before .before in
-    never-refused (o .before .before .before .before .before .before .before .pre) (length-replicate {A = ℕ} (3 * limits .edges) 0) (o .before .before .before .verdict .ensures) (o .outcome .given .1)
+returns c = let o = c .before .before .before .before .before in never-refused (o .before .before .before .before .before .before .before .before .pre .0) size (o .before .before .before .verdict .ensures) (o .outcome .given .1)
 
 same-length-2 : tie.Need-same-length-2
 same-length-2 c = search needs
@@ -67,13 +83,7 @@ same-length-3 : tie.Need-same-length-3
 same-length-3 c = search needs
 
 returns-3 : tie.Need-returns-3
-returns-3 c =
-    let o = c .before .before .before .before .before in record {
-      kind = 0;
-      list = _;
-      says = says-firm (o .before .before .before .before .before .before .before .pre) (length-replicate {A = ℕ} (3 * limits .edges) 0) (o .before .before .before .verdict .ensures) (o .enum-told2 .given .1);
-      written = c .before .before .write-verdict .ensures;
-    }
+returns-3 c = record { kind = 0; list = _; says = said-firm (c .before .before .before .before .before); written = c .before .before .write-verdict .ensures }
 
 pub write-admitted-spec : {M : Type 1} → statement M
 write-admitted-spec =

@@ -1,6 +1,6 @@
 -- `fill` meets its contract: labels, bodies, then the cuts.
-use Rattle.components.proofs.Serving.{labelled-forest, labelled-ordered, labelled-stage, found-front}
 use borrow.Author.Needs.{needs}
+use Rattle.components.proofs.Serving.{labelled-forest, labelled-low, labelled-ordered, labelled-stage, found-front}
 use Rattle.components.proofs.fill.Statement.{statement}
 use Rattle.components.proofs.fill.Tie as tie
 
@@ -38,7 +38,10 @@ slice-aggregate-bodies-2 : tie.Need-slice-aggregate-bodies-2
 slice-aggregate-bodies-2 c = search needs
 
 bodies-requires : tie.Need-bodies-requires
-bodies-requires c κs = let s = c .before .before .before .before .before .before .before .before .before .before .before .before .before .before .before .before .before .before .before .before .before .before .pre in labelled-ordered (s .0) (c .before .before .before .before .before .before .before .before .before .before .before .label .ensures) (s .1)
+bodies-requires c κs =
+    let label = c .before .before .before .before .before .before .before .before .before .before .before in
+    let s = label .before .before .before .before .before .before .before .before .before .before .before .before .pre in
+    labelled-ordered (s .0) (label .label .ensures) (s .1)
 
 slice-aggregate-part : tie.Need-slice-aggregate-part
 slice-aggregate-part c = search needs
@@ -53,13 +56,23 @@ slice-aggregate-part-4 : tie.Need-slice-aggregate-part-4
 slice-aggregate-part-4 c = search needs
 
 part-requires : tie.Need-part-requires
-part-requires c κs = let s = c .before .before .before .before .before .before .before .before .before .before .before .before .before .before .before .before .before .before .before .before .before .before .before .before .before .before .before .before .before .before .pre in let l = c .before .before .before .before .before .before .before .before .before .before .before .before .before .before .before .before .before .before .before .label .ensures in labelled-stage (s .0) l (s .1) (c .before .before .before .before .before .before .before .bodies .ensures _ (labelled-forest (s .0) l))
+part-requires c κs =
+    let bodies = c .before .before .before .before .before .before .before in
+    let label = bodies .before .before .before .before .before .before .before .before .before .before .before .before in
+    let s = label .before .before .before .before .before .before .before .before .before .before .before .before .pre in
+    let l = label .label .ensures in
+    labelled-stage (s .0) l (s .1) (bodies .bodies .ensures _ _ (labelled-forest (s .0) l) (labelled-low (s .0) l))
 
 same-length : tie.Need-same-length
 same-length c = search needs
 
 returns : tie.Need-returns
-returns c = let s = c .before .before .before .before .before .before .before .before .before .before .before .before .before .before .before .before .before .before .before .before .before .before .before .before .before .before .before .before .before .before .before .before .before .pre in found-front (s .0) (s .1) (c .before .before .before .before .before .before .before .before .before .before .bodies .ensures _ (labelled-forest (s .0) (c .before .before .before .before .before .before .before .before .before .before .before .before .before .before .before .before .before .before .before .before .before .before .label .ensures))) (c .before .before .part .ensures)
+returns c =
+    let bodies = c .before .before .before .before .before .before .before .before .before .before in
+    let label = bodies .before .before .before .before .before .before .before .before .before .before .before .before in
+    let s = label .before .before .before .before .before .before .before .before .before .before .before .before .pre in
+    let l = label .label .ensures in
+    found-front (s .0) (s .1) (bodies .bodies .ensures _ _ (labelled-forest (s .0) l) (labelled-low (s .0) l)) (c .before .before .part .ensures)
 
 pub fill-spec : {M : Type 1} → statement M
 fill-spec =

@@ -1,29 +1,26 @@
 -- `write_admitted` meets its contract: the table has room for every admitted plan, so the groups are found, and the front of the list has each
 -- vertex with its group.
-use mathlib.Core.Path.{_≡_, subst, ap, _∙_}
+use mathlib.Core.Path.{subst}
 use mathlib.Core.List.{List}
-use Prim.Native.Nat.{ℕ, _*_}
+use Prim.Native.Nat.{ℕ, _*_, _≤_}
 use native.Mathlib.Omega.{arith}
-use lib.ListN.{take, length-take, length-replicate}
+use lib.ListN.{length, replicate, length-take, length-replicate}
 use borrow.Author.Needs.{needs}
-use Rattle.connectivity.specs.Plan.{plan, graph, limits}
+use Rattle.connectivity.specs.Plan.{limits}
 use Rattle.text.specs.Column.{five}
 use Rattle.text_write.specs.Entry.{WritesLines}
-use Rattle.components_texts.specs.Pairs.{groupPairs}
-use Rattle.components_texts.proofs.Listing.{paired}
+use Rattle.components_texts.proofs.Listing.{paired-fits, paired-front}
 use Rattle.components_texts.proofs.Answering.{found}
 use Rattle.components_texts.proofs.write_admitted.Statement.{statement}
 use Rattle.components_texts.proofs.write_admitted.Tie as tie
 
--- the list's front
-listed : (o : tie.After-list2) → let start = o .before .before .before .before .before .before .before .before .before in
-    take (2 * start .args .vertices) (o .before .pair .last .1 .1 .0) ≡ groupPairs (graph (plan (start .args .vertices) (start .args .ends .now)))
-listed o =
-    let f = o .before .before .before .before .before in
-    let start = f .before .before .before .before in
-    let groups = found (start .pre) (omega (arith, start .pre .vertices, length-replicate {A = ℕ} (limits .vertices) 0)) (f .find .ensures) in
-    ap (take (2 * start .args .vertices)) (o .before .pair .ensures)
-    ∙ paired (plan (start .args .vertices) (start .args .ends .now)) _ _ _ groups (omega (arith, start .pre .vertices, length-replicate {A = ℕ} (2 * limits .vertices) 0))
+-- the list has room
+room : (start : tie.Start) → 2 * start .args .vertices ≤ length {A = ℕ} (replicate (2 * limits .vertices) 0)
+room start = omega (arith, start .pre .vertices, length-replicate {A = ℕ} (2 * limits .vertices) 0)
+
+-- what is written is in it
+fits : (o : tie.After-pair) → o .pair .result ≤ length (o .pair .last .1 .1 .1 .0)
+fits o = let start = o .before .before .before .before .before .before .before .before .before in paired-fits (start .pre) (o .pair .ensures) (room start)
 
 slice-aggregate-find : tie.Need-slice-aggregate-find
 slice-aggregate-find c = search needs
@@ -40,14 +37,11 @@ slice-aggregate-pair-2 c = search needs
 pair-requires : tie.Need-pair-requires
 pair-requires c κs = search needs
 
-mul-size : tie.Need-mul-size
-mul-size c = search needs
-
 array-share-prefix-list : tie.Need-array-share-prefix-list
-array-share-prefix-list c = search needs
+array-share-prefix-list c = omega (arith, fits (c .before))
 
 slice-aggregate-write-lines : tie.Need-slice-aggregate-write-lines
-slice-aggregate-write-lines c = simp length-take (omega arith)
+slice-aggregate-write-lines c = simp length-take (omega (arith, fits (c .before .before)))
 
 write-lines-requires : tie.Need-write-lines-requires
 write-lines-requires c κs = search needs
@@ -58,9 +52,12 @@ same-length c = search needs
 returns : tie.Need-returns
 returns c =
     let w = c .before .before in
-    let o = w .before .before .before in
-    let bytes = o .before .before .before .before .before .before .before .before .before .args .bytes .now in
-    subst (λ (l : List ℕ). WritesLines five 2 l bytes (w .write-lines .last .1 .1 .0) (w .write-lines .result)) (listed o) (w .write-lines .ensures)
+    let o = w .before .before .before .before in
+    let f = o .before .before .before .before in
+    let start = f .before .before .before .before .before in
+    let groups = found (start .pre) (omega (arith, start .pre .vertices, length-replicate {A = ℕ} (limits .vertices) 0)) (f .find .ensures) in
+    let front = paired-front (start .pre) (o .pair .ensures) (room start) _ groups in
+    subst (λ (l : List ℕ). WritesLines five 2 l (start .args .bytes .now) (w .write-lines .last .1 .1 .0) (w .write-lines .result)) front (w .write-lines .ensures)
 
 pub write-admitted-spec : {M : Type 1} → statement M
 write-admitted-spec =
@@ -71,7 +68,6 @@ write-admitted-spec =
     slice-aggregate-pair
     slice-aggregate-pair-2
     pair-requires
-    mul-size
     array-share-prefix-list
     slice-aggregate-write-lines
     write-lines-requires

@@ -1,11 +1,19 @@
 -- `lowest_over` meets its contract: the empty set where the plan is not connected, else what the labels lead to.
-use Rattle.cuts.proofs.Answers.{found-parted, found-whole}
+use Rattle.connectivity.proofs.Kept.{admitted-count}
+use Rattle.cuts.proofs.Answers.{uncut-yet, found-parted, found-whole}
+use native.Mathlib.Omega.{arith}
 use borrow.Author.Needs.{needs}
 use Rattle.cuts.proofs.lowest_over.Statement.{statement}
 use Rattle.cuts.proofs.lowest_over.Tie as tie
 
-search-requires : tie.Need-search-requires
-search-requires c κs = search needs
+survey-requires : tie.Need-survey-requires
+survey-requires c κs = let s = c .before .before .before .before .before .before .before .before .before .before .before .before .before .before .before .pre in (s .0, uncut-yet (s .0) (s .1))
+
+cast-if1 : tie.Need-cast-if1
+cast-if1 c = let s = c .before .before .before .before .before .before .before .before .before .before .before .before .before .before .before .before .before .before .before .before .before .before in omega (arith, admitted-count (s .pre .0 .tabled .admitted), s .fits .vertices)
+
+sub-if1 : tie.Need-sub-if1
+sub-if1 c = let s = c .before .before .before .before .before .before .before .before .before .before .before .before .before .before .before .before .before .before .before .before .before .before in omega (arith, admitted-count (s .pre .0 .tabled .admitted))
 
 cut-requires : tie.Need-cut-requires
 cut-requires c κs = search needs
@@ -23,18 +31,13 @@ same-length-4 : tie.Need-same-length-4
 same-length-4 c = search needs
 
 returns : tie.Need-returns
-returns c =
-    let s = c .before .before .before .before .before .before .before .before .before .before .before .before .before .before .before .before .before .before .before .before .before .before .before .pre in
-    let f = c .before .before .before .before .before .before .before .before .search .ensures in
-    (rw (c .cut .ensures) (found-parted (s .0) (s .1) f (c .before .if1 .taken)), record { cursor = _; count = _; found = f })
+returns c = let s = c .before .before .before .before .before .before .before .before .before .before .before .before .before .before .before .before .before .before .before .before .before .before .before .before .pre in let b = c .before .before .before .before .before .before .before .before .survey .ensures in (rw (c .cut .ensures) (found-parted (s .0) (s .1) b (omega (arith, admitted-count (s .0 .tabled .admitted))) (c .before .if1 .taken)), record { count = _; cursor = _; by = b })
 
 label-requires : tie.Need-label-requires
 label-requires c κs = search needs
 
 small-cut-requires : tie.Need-small-cut-requires
-small-cut-requires c κs =
-    let s = c .before .before .before .before .before .before .before .before .before .before .before .before .before .before .before .before .before .before .before .before .before .before .before .before .before .before .before .before .before .before .before .before .before .before .pre in
-    found-whole (s .0) (s .1) (c .before .before .before .before .before .before .before .before .before .before .before .before .before .before .before .before .before .before .before .search .ensures) (c .before .before .before .before .before .before .before .before .before .before .before .before .if1 .left) (c .before .before .before .before .before .before .before .before .label .ensures)
+small-cut-requires c κs = let s = c .before .before .before .before .before .before .before .before .before .before .before .before .before .before .before .before .before .before .before .before .before .before .before .before .before .before .before .before .before .before .before .before .before .before .before .pre in found-whole (s .0) (s .1) (c .before .before .before .before .before .before .before .before .before .before .before .before .before .before .before .before .before .before .before .survey .ensures) (omega (arith, admitted-count (s .0 .tabled .admitted))) (c .before .before .before .before .before .before .before .before .before .before .before .before .if1 .left) (c .before .before .before .before .before .before .before .before .label .ensures)
 
 same-length-5 : tie.Need-same-length-5
 same-length-5 c = search needs
@@ -58,13 +61,15 @@ same-length-11 : tie.Need-same-length-11
 same-length-11 c = search needs
 
 returns-2 : tie.Need-returns-2
-returns-2 c = search needs
+returns-2 c = (c .before .before .before .before .before .before .before .before .small-cut .ensures, record { count = _; cursor = _; by = c .before .before .before .before .before .before .before .before .before .before .before .before .before .before .before .before .before .before .before .before .before .before .before .before .before .before .before .before .survey .ensures })
 
 pub lowest-over-spec : {M : Type 1} → statement M
 lowest-over-spec =
     tie.close
     (tie.spec
-    search-requires
+    survey-requires
+    cast-if1
+    sub-if1
     cut-requires
     same-length
     same-length-2

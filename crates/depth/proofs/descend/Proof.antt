@@ -5,7 +5,7 @@ use native.Mathlib.Omega.{arith}
 use lib.ListN.{length, set, length-set}
 use Rattle.graph.proofs.Joined.{joins-edge}
 use Rattle.depth.proofs.Edges.{new-is}
-use Rattle.connectivity.specs.Plan.{plan}
+use Rattle.connectivity.specs.Plan.{entire}
 use borrow.Author.Needs.{needs}
 use Rattle.depth.proofs.descend.Statement.{statement}
 use Rattle.depth.proofs.descend.Tie as tie
@@ -41,13 +41,13 @@ add-enter : tie.Need-add-enter
 add-enter c =
     let s = c .before .before .before .before .before .before .before .before .before in
     let a = s .args in
-    omega (arith, s .pre .small, joins-edge (a .vertices) (a .ends .now) _ _ _ (s .pre .new .joins))
+    omega (arith, s .pre .small, joins-edge (entire (a .vertices) (a .ends .now)) (s .pre .new .joins))
 
 enter-requires : tie.Need-enter-requires
 enter-requires c κs =
     let s = c .before .before .before .before .before .before .before .before .before .before .before .before in
     let a = s .args in
-    let q = new-is (plan (a .vertices) (a .ends .now)) (a .dead .now) (a .first .now) _ _ _ (c .before .before .before .before .lead .ensures) (s .pre .new) in
+    let q = new-is (entire (a .vertices) (a .ends .now)) (a .dead .now) (a .first .now) _ _ _ (c .before .before .before .before .lead .ensures) (s .pre .new) in
     let r = s .pre .rooms in
     (omega (arith, q .0, q .1, r .first-room), omega (arith, r .order-room, s .pre .free), omega (arith, q .0, q .1, r .cursor-room, length-set (a .cursor .now) (a .s .at) (a .k + 1 - a .start)))
 

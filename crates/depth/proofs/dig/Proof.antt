@@ -5,7 +5,7 @@ use Prim.Native.Nat.{ℕ, _+_, _-_}
 use native.Mathlib.Omega.{arith}
 use borrow.Author.Needs.{needs}
 use lib.ListN.{set}
-use Rattle.connectivity.specs.Plan.{plan}
+use Rattle.connectivity.specs.Plan.{entire}
 use Rattle.depth.specs.Depth.{rootMark, Fresh}
 use Rattle.depth.specs.Parts.{Rooms, GoesOn}
 use Rattle.depth.proofs.Digging.{Digging, digging-start, digging-rooms, digging-deep, at-entered, digging-turn, turn-less, digging-end}
@@ -17,14 +17,14 @@ abbrev Inv-loop : tie.InvT-loop
 Inv-loop vertices ends incident begins dead root seen first₀ order₀ cursor₀ s₀ first₁ order cursor s =
     (first before cursors : List ℕ) → first₀ ≡ set first root rootMark → order₀ ≡ set before seen root → cursor₀ ≡ set cursors root 0
     → Fresh vertices root seen first → Rooms vertices first before cursors
-    → Digging (plan vertices ends) incident begins dead root seen first before cursors first₁ order cursor (s .at) (s .count) (s .depth)
+    → Digging (entire vertices ends) incident begins dead root seen first before cursors first₁ order cursor (s .at) (s .count) (s .depth)
 
 abbrev μ-loop : tie.MeasureT-loop
 μ-loop vertices ends incident begins dead root seen first₀ order₀ cursor₀ s₀ first order cursor s = (vertices - s .count) + (vertices - s .count) + s .depth
 
 -- with the tables as they were
 digs : (l : tie.At-loop Inv-loop μ-loop) → let a = l .before .before .before .before .before .before .before .before .before .before .before .before .before .before .before .before .before .before .args in
-    Digging (plan (a .vertices) (a .ends .now)) (a .incident .now) (a .begins .now) (a .dead .now) (a .root) (a .seen) (a .first .now) (a .order .now) (a .cursor .now) (l .loop .first) (l .loop .order) (l .loop .cursor) (l .loop .s .at) (l .loop .s .count) (l .loop .s .depth)
+    Digging (entire (a .vertices) (a .ends .now)) (a .incident .now) (a .begins .now) (a .dead .now) (a .root) (a .seen) (a .first .now) (a .order .now) (a .cursor .now) (l .loop .first) (l .loop .order) (l .loop .cursor) (l .loop .s .at) (l .loop .s .count) (l .loop .s .depth)
 digs l =
     let s = l .before .before .before .before .before .before .before .before .before .before .before .before .before .before .before .before .before .before in
     let a = s .args in
@@ -48,7 +48,7 @@ add-t20 c = let s = c .before .before .before .before .before .before .before .b
 loop-holds : tie.Need-loop-holds Inv-loop μ-loop
 loop-holds c =
     let a = c .before .before .before .before .before .before .before .before .before .before .before .before .before .before .before .before .before .args in
-    λ f o k p q r x y. rw (p, q, r) (digging-start (plan (a .vertices) (a .ends .now)) (a .incident .now) (a .begins .now) (a .dead .now) (a .root) (a .seen) f o k x y)
+    λ f o k p q r x y. rw (p, q, r) (digging-start (entire (a .vertices) (a .ends .now)) (a .incident .now) (a .begins .now) (a .dead .now) (a .root) (a .seen) f o k x y)
 
 goes-on-requires : tie.Need-goes-on-requires Inv-loop μ-loop
 goes-on-requires c κs = search needs
@@ -60,9 +60,9 @@ turn-requires c κs =
     let s = l .before .before .before .before .before .before .before .before .before .before .before .before .before .before .before .before .before .before in
     let a = s .args in
     let t = digs l in
-    let d = digging-deep (plan (a .vertices) (a .ends .now)) (a .incident .now) (a .begins .now) (a .dead .now) (a .root) (a .seen) (a .first .now) (a .order .now) (a .cursor .now) (s .pre .2) (s .pre .1) t in
-    let i = at-entered (plan (a .vertices) (a .ends .now)) (a .incident .now) (a .begins .now) (a .dead .now) (a .root) (a .seen) (a .first .now) (a .order .now) (a .cursor .now) (s .pre .2) (s .pre .1) t (g .0) in
-    (s .pre .0, digging-rooms (plan (a .vertices) (a .ends .now)) (a .incident .now) (a .begins .now) (a .dead .now) (a .root) (a .seen) (a .first .now) (a .order .now) (a .cursor .now) (s .pre .2) (s .pre .1) t, record { vertex = i .below; marked = i .marked; free = g .1; deep = g .0; shallow = d })
+    let d = digging-deep (entire (a .vertices) (a .ends .now)) (a .incident .now) (a .begins .now) (a .dead .now) (a .root) (a .seen) (a .first .now) (a .order .now) (a .cursor .now) (s .pre .2) (s .pre .1) t in
+    let i = at-entered (entire (a .vertices) (a .ends .now)) (a .incident .now) (a .begins .now) (a .dead .now) (a .root) (a .seen) (a .first .now) (a .order .now) (a .cursor .now) (s .pre .2) (s .pre .1) t (g .0) in
+    (s .pre .0, digging-rooms (entire (a .vertices) (a .ends .now)) (a .incident .now) (a .begins .now) (a .dead .now) (a .root) (a .seen) (a .first .now) (a .order .now) (a .cursor .now) (s .pre .2) (s .pre .1) t, record { vertex = i .below; marked = i .marked; free = g .1; deep = g .0; shallow = d })
 
 loop-less : tie.Need-loop-less Inv-loop μ-loop
 loop-less c =
@@ -70,7 +70,7 @@ loop-less c =
     let g = going (u .before .before .before .before) in
     let s = u .before .before .before .before .before .before .before .before .before .before .before .before .before .before .before .before .before .before .before .before .before .before .before .before in
     let a = s .args in
-    turn-less (plan (a .vertices) (a .ends .now)) (a .incident .now) (a .begins .now) (a .dead .now) (a .root) (a .seen) (a .first .now) (a .order .now) (a .cursor .now) (s .pre .2) (s .pre .1) (g .0) (g .1) (u .turn .ensures)
+    turn-less (entire (a .vertices) (a .ends .now)) (a .incident .now) (a .begins .now) (a .dead .now) (a .root) (a .seen) (a .first .now) (a .order .now) (a .cursor .now) (s .pre .2) (s .pre .1) (g .0) (g .1) (u .turn .ensures)
 
 loop-again : tie.Need-loop-again Inv-loop μ-loop
 loop-again c =
@@ -78,7 +78,7 @@ loop-again c =
     let g = going (u .before .before .before .before) in
     let l = u .before .before .before .before .before .before in
     let a = l .before .before .before .before .before .before .before .before .before .before .before .before .before .before .before .before .before .before .args in
-    λ f o k p q r x y. digging-turn (plan (a .vertices) (a .ends .now)) (a .incident .now) (a .begins .now) (a .dead .now) (a .root) (a .seen) f o k x y (l .loop .inv f o k p q r x y) (g .0) (g .1) (u .turn .ensures)
+    λ f o k p q r x y. digging-turn (entire (a .vertices) (a .ends .now)) (a .incident .now) (a .begins .now) (a .dead .now) (a .root) (a .seen) f o k x y (l .loop .inv f o k p q r x y) (g .0) (g .1) (u .turn .ensures)
 
 undo-requires : tie.Need-undo-requires Inv-loop μ-loop
 undo-requires c κs = search needs
@@ -98,7 +98,7 @@ returns c =
     let l = e .before .before in
     let s = l .before .before .before .before .before .before .before .before .before .before .before .before .before .before .before .before .before .before in
     let a = s .args in
-    digging-end (plan (a .vertices) (a .ends .now)) (a .incident .now) (a .begins .now) (a .dead .now) (a .root) (a .seen) (a .first .now) (a .order .now) (a .cursor .now) (s .pre .2) (s .pre .1) (digs l) (rw (e .if1 .left) at (e .before .goes-on .ensures)) (c .before .before .undo .ensures)
+    digging-end (entire (a .vertices) (a .ends .now)) (a .incident .now) (a .begins .now) (a .dead .now) (a .root) (a .seen) (a .first .now) (a .order .now) (a .cursor .now) (s .pre .2) (s .pre .1) (digs l) (rw (e .if1 .left) at (e .before .goes-on .ensures)) (c .before .before .undo .ensures)
 
 pub dig-spec : {M : Type 1} → statement M
 dig-spec =

@@ -1,7 +1,7 @@
 -- `explore` meets its contract: refused by counts and lengths, or nothing to enter, or what `dig` finds.
 use mathlib.Core.Path.{_≡_, refl}
 use mathlib.Core.Logic.{inl, inr}
-use Rattle.connectivity.specs.Plan.{plan, limits}
+use Rattle.connectivity.specs.Plan.{entire, limits}
 use Rattle.connectivity.specs.Admission.{passed}
 use Rattle.depth.specs.Depth.{told}
 use Rattle.depth.specs.Parts.{Fit, Rooms}
@@ -12,22 +12,22 @@ use Rattle.depth.proofs.explore.Tie as tie
 
 -- not refused: the answer is 0, the counts fit, and the tables are long enough
 zero : (c : tie.Else1) → let a = c .before .before .before .before .before .before .before .before .before .before .args in
-    (told limits (plan (a .vertices) (a .ends .now)) (a .incident .now) (a .begins .now) (a .dead .now) (a .first .now) (a .order .now) (a .cursor .now)) .number ≡ 0
+    (told limits (entire (a .vertices) (a .ends .now)) (a .incident .now) (a .begins .now) (a .dead .now) (a .first .now) (a .order .now) (a .cursor .now)) .number ≡ 0
 zero c =
     let a = c .before .before .before .before .before .before .before .before .before .before .args in
-    told-zero limits (plan (a .vertices) (a .ends .now)) (a .incident .now) (a .begins .now) (a .dead .now) (a .first .now) (a .order .now) (a .cursor .now) (c .before .before .least .ensures) (c .before .refusal .ensures) (c .if1 .left)
+    told-zero limits (entire (a .vertices) (a .ends .now)) (a .incident .now) (a .begins .now) (a .dead .now) (a .first .now) (a .order .now) (a .cursor .now) (c .before .before .least .ensures) (c .before .refusal .ensures) (c .if1 .left)
 
 passes : (c : tie.Else1) → let a = c .before .before .before .before .before .before .before .before .before .before .args in
-    told limits (plan (a .vertices) (a .ends .now)) (a .incident .now) (a .begins .now) (a .dead .now) (a .first .now) (a .order .now) (a .cursor .now) ≡ passed
+    told limits (entire (a .vertices) (a .ends .now)) (a .incident .now) (a .begins .now) (a .dead .now) (a .first .now) (a .order .now) (a .cursor .now) ≡ passed
 passes c =
     let a = c .before .before .before .before .before .before .before .before .before .before .args in
-    told-passed limits (plan (a .vertices) (a .ends .now)) (a .incident .now) (a .begins .now) (a .dead .now) (a .first .now) (a .order .now) (a .cursor .now) (zero c)
+    told-passed limits (entire (a .vertices) (a .ends .now)) (a .incident .now) (a .begins .now) (a .dead .now) (a .first .now) (a .order .now) (a .cursor .now) (zero c)
 
 fits : (c : tie.Else1) → let a = c .before .before .before .before .before .before .before .before .before .before .args in
-    Fit limits (plan (a .vertices) (a .ends .now)) (a .incident .now) (a .begins .now) (a .dead .now) × Rooms (a .vertices) (a .first .now) (a .order .now) (a .cursor .now)
+    Fit limits (entire (a .vertices) (a .ends .now)) (a .incident .now) (a .begins .now) (a .dead .now) × Rooms (a .vertices) (a .first .now) (a .order .now) (a .cursor .now)
 fits c =
     let a = c .before .before .before .before .before .before .before .before .before .before .args in
-    told-fits limits (plan (a .vertices) (a .ends .now)) (a .incident .now) (a .begins .now) (a .dead .now) (a .first .now) (a .order .now) (a .cursor .now) (zero c)
+    told-fits limits (entire (a .vertices) (a .ends .now)) (a .incident .now) (a .begins .now) (a .dead .now) (a .first .now) (a .order .now) (a .cursor .now) (zero c)
 
 least-requires : tie.Need-least-requires
 least-requires c κs = search needs
@@ -38,7 +38,7 @@ refusal-requires c κs = search needs
 returns : tie.Need-returns
 returns c =
     let a = c .before .before .before .before .before .before .before .before .before .before .args in
-    from-cases _ _ _ _ _ _ _ _ _ _ _ _ _ _ (told-refused limits (plan (a .vertices) (a .ends .now)) (a .incident .now) (a .begins .now) (a .dead .now) (a .first .now) (a .order .now) (a .cursor .now) (c .before .before .least .ensures) (c .before .refusal .ensures) (c .if1 .taken), (refl, refl, refl))
+    from-cases _ _ _ _ _ _ _ _ _ _ _ _ _ _ (told-refused limits (entire (a .vertices) (a .ends .now)) (a .incident .now) (a .begins .now) (a .dead .now) (a .first .now) (a .order .now) (a .cursor .now) (c .before .before .least .ensures) (c .before .refusal .ensures) (c .if1 .taken), (refl, refl, refl))
 
 is-fresh-requires : tie.Need-is-fresh-requires
 is-fresh-requires c κs = fits (c .before) .1 .first-room

@@ -1,7 +1,8 @@
 -- `lead` meets its contract: each way out cites the law for its tests.
 use native.Mathlib.Omega.{arith}
 use Rattle.depth.proofs.Edges.{lead-outside, lead-dead, lead-right, lead-left, lead-neither}
-use Rattle.connectivity.specs.Plan.{plan}
+use Rattle.connectivity.specs.Plan.{entire}
+use Rattle.connectivity.proofs.Kept.{entire-vertex}
 use borrow.Author.Needs.{needs}
 use Rattle.depth.proofs.lead.Statement.{statement}
 use Rattle.depth.proofs.lead.Tie as tie
@@ -9,7 +10,7 @@ use Rattle.depth.proofs.lead.Tie as tie
 returns : tie.Need-returns
 returns c =
     let a = c .before .args in
-    lead-outside (plan (a .vertices) (a .ends .now)) (a .dead .now) (a .v) (a .e) (omega arith)
+    lead-outside (entire (a .vertices) (a .ends .now)) (a .dead .now) (a .v) (a .e) (omega arith)
 
 shared-slice-read-if2 : tie.Need-shared-slice-read-if2
 shared-slice-read-if2 c = search needs
@@ -17,7 +18,7 @@ shared-slice-read-if2 c = search needs
 returns-2 : tie.Need-returns-2
 returns-2 c =
     let a = c .before .before .before .args in
-    lead-dead (plan (a .vertices) (a .ends .now)) (a .dead .now) (a .v) (a .e) (c .if2 .taken)
+    lead-dead (entire (a .vertices) (a .ends .now)) (a .dead .now) (a .v) (a .e) (c .if2 .taken)
 
 mul-a : tie.Need-mul-a
 mul-a c = search needs
@@ -44,19 +45,19 @@ returns-3 : tie.Need-returns-3
 returns-3 c =
     let s = c .before .before .before .before .before .before in
     let a = s .args in
-    lead-right (plan (a .vertices) (a .ends .now)) (a .dead .now) (a .v) (a .e) (omega arith) (c .before .before .before .if2 .left) (s .pre .0) (c .if3 .taken)
+    lead-right (entire (a .vertices) (a .ends .now)) (a .dead .now) (a .v) (a .e) (entire-vertex (a .vertices) (a .ends .now)) (omega arith) (c .before .before .before .if2 .left) (s .pre .0) (c .if3 .taken)
 
 returns-4 : tie.Need-returns-4
 returns-4 c =
     let s = c .before .before .before .before .before .before .before in
     let a = s .args in
-    lead-left (plan (a .vertices) (a .ends .now)) (a .dead .now) (a .v) (a .e) (omega arith) (c .before .before .before .before .if2 .left) (s .pre .0) (c .before .if3 .left) (c .if4 .taken)
+    lead-left (entire (a .vertices) (a .ends .now)) (a .dead .now) (a .v) (a .e) (entire-vertex (a .vertices) (a .ends .now)) (omega arith) (c .before .before .before .before .if2 .left) (s .pre .0) (c .before .if3 .left) (c .if4 .taken)
 
 returns-5 : tie.Need-returns-5
 returns-5 c =
     let s = c .before .before .before .before .before .before .before in
     let a = s .args in
-    lead-neither (plan (a .vertices) (a .ends .now)) (a .dead .now) (a .v) (a .e) (omega arith) (c .before .before .before .before .if2 .left) (s .pre .0) (c .before .if3 .left) (c .if4 .left)
+    lead-neither (entire (a .vertices) (a .ends .now)) (a .dead .now) (a .v) (a .e) (entire-vertex (a .vertices) (a .ends .now)) (omega arith) (c .before .before .before .before .if2 .left) (s .pre .0) (c .before .if3 .left) (c .if4 .left)
 
 pub lead-spec : {M : Type 1} → statement M
 lead-spec =

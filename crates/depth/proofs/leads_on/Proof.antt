@@ -1,7 +1,7 @@
 -- `leads_on` meets its contract, by what `lead` tells.
 use native.Mathlib.Omega.{arith}
 use Rattle.depth.proofs.Edges.{on-none, on-old, on-new}
-use Rattle.connectivity.specs.Plan.{plan}
+use Rattle.connectivity.specs.Plan.{entire}
 use borrow.Author.Needs.{needs}
 use Rattle.depth.proofs.leads_on.Statement.{statement}
 use Rattle.depth.proofs.leads_on.Tie as tie
@@ -12,7 +12,7 @@ lead-requires c κs = search needs
 returns : tie.Need-returns
 returns c =
     let a = c .before .before .before .before .before .args in
-    on-none (plan (a .vertices) (a .ends .now)) (a .dead .now) (a .first .now) (a .v) (a .e) _ (c .before .lead .ensures) (omega arith)
+    on-none (entire (a .vertices) (a .ends .now)) (a .dead .now) (a .first .now) (a .v) (a .e) _ (c .before .lead .ensures) (omega arith)
 
 cast-at : tie.Need-cast-at
 cast-at c = search needs
@@ -26,12 +26,12 @@ shared-slice-read-if2 c = search needs
 returns-2 : tie.Need-returns-2
 returns-2 c =
     let a = c .before .before .before .before .before .before .before .args in
-    on-old (plan (a .vertices) (a .ends .now)) (a .dead .now) (a .first .now) (a .v) (a .e) _ (c .before .before .before .lead .ensures) (c .if2 .taken)
+    on-old (entire (a .vertices) (a .ends .now)) (a .dead .now) (a .first .now) (a .v) (a .e) _ (c .before .before .before .lead .ensures) (c .if2 .taken)
 
 returns-3 : tie.Need-returns-3
 returns-3 c =
     let a = c .before .before .before .before .before .before .before .args in
-    on-new (plan (a .vertices) (a .ends .now)) (a .dead .now) (a .first .now) (a .v) (a .e) _ (c .before .before .before .lead .ensures) (omega arith) (c .if2 .left)
+    on-new (entire (a .vertices) (a .ends .now)) (a .dead .now) (a .first .now) (a .v) (a .e) _ (c .before .before .before .lead .ensures) (omega arith) (c .if2 .left)
 
 pub leads-on-spec : {M : Type 1} → statement M
 leads-on-spec =

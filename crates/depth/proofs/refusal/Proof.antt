@@ -1,6 +1,6 @@
 -- `refusal` meets its contract: the counts come first, then the lengths.
 use mathlib.Core.Path.{_≡_, sym, ap, _∙_}
-use Rattle.connectivity.specs.Plan.{plan, limits}
+use Rattle.connectivity.specs.Plan.{entire, limits}
 use Rattle.connectivity.specs.Admission.{Answer}
 use Rattle.depth.proofs.Counts.{refused-counts, refused-short, refused-not, enough-places}
 use borrow.Author.Needs.{needs}
@@ -17,7 +17,7 @@ misfit-requires c κs = search needs
 returns : tie.Need-returns
 returns c =
     let a = c .before .before .before .args in
-    c .before .misfit .ensures ∙ number (refused-counts limits (plan (a .vertices) (a .ends .now)) _ (λ z. c .if1 .taken (c .before .misfit .ensures ∙ z)))
+    c .before .misfit .ensures ∙ number (refused-counts limits (entire (a .vertices) (a .ends .now)) _ (λ z. c .if1 .taken (c .before .misfit .ensures ∙ z)))
 
 is-short-requires : tie.Need-is-short-requires
 is-short-requires c κs = search needs
@@ -25,14 +25,14 @@ is-short-requires c κs = search needs
 returns-2 : tie.Need-returns-2
 returns-2 c =
     let a = c .before .before .before .before .before .args in
-    let p = plan (a .vertices) (a .ends .now) in
+    let p = entire (a .vertices) (a .ends .now) in
     number (refused-short limits p _ (sym (c .before .before .before .misfit .ensures) ∙ c .before .before .if1 .left)
     (λ t. (rw (c .if2 .taken) at (c .before .is-short .ensures)) (enough-places p (a .incident) (a .dead) (a .places) .holds t)))
 
 returns-3 : tie.Need-returns-3
 returns-3 c =
     let a = c .before .before .before .before .before .args in
-    let p = plan (a .vertices) (a .ends .now) in
+    let p = entire (a .vertices) (a .ends .now) in
     number (refused-not limits p _ (sym (c .before .before .before .misfit .ensures) ∙ c .before .before .if1 .left)
     (enough-places p (a .incident) (a .dead) (a .places) .test (rw (c .if2 .left) at (c .before .is-short .ensures))))
 

@@ -2,7 +2,7 @@
 use mathlib.Core.Path.{refl}
 use Prim.Native.Nat.{ℕ, _-_, _≤_, _<_}
 use native.Mathlib.Omega.{arith}
-use Rattle.connectivity.specs.Plan.{plan}
+use Rattle.connectivity.specs.Plan.{entire}
 use borrow.Author.Needs.{needs}
 use borrow.Author.Count.{below-more}
 use lib.ListN.{getD}
@@ -11,7 +11,7 @@ use Rattle.depth.proofs.seek.Statement.{statement}
 use Rattle.depth.proofs.seek.Tie as tie
 
 abbrev Inv-loop : tie.InvT-loop
-Inv-loop vertices ends incident dead first v from to i₀ i = (from ≤ i) × ((k : ℕ) → k < i → from ≤ k → Old (plan vertices ends) dead first v (getD incident k 0))
+Inv-loop vertices ends incident dead first v from to i₀ i = (from ≤ i) × ((k : ℕ) → k < i → from ≤ k → Old (entire vertices ends) dead first v (getD incident k 0))
 
 abbrev μ-loop : tie.MeasureT-loop
 μ-loop vertices ends incident dead first v from to i₀ i = to - i

@@ -24,12 +24,12 @@ returns : tie.Need-returns
 returns c =
     let new = c .before .before .before in
     let p = constructed-refused _ _ (new .new .ensures) (c .before .made .given .1) in
-    lent-refused (not (new .before .before .args .short)) (p .0) (p .1) .1
+    lent-refused (not (new .before .before .before .args .short)) (p .0) (p .1) .1
 
 returns-2 : tie.Need-returns-2
 returns-2 c =
     let new = c .before .before .before in
-    c .space .ensures ∙ ap toldBy (sym (lent-space (new .before .before .args .short) (constructed-admitted _ _ (new .new .ensures) (c .before .enum-told .given .1) .0)))
+    c .space .ensures ∙ ap toldBy (sym (lent-space (new .before .before .before .args .short) (constructed-admitted _ _ (new .new .ensures) (c .before .enum-told .given .1) .admitted)))
 
 pub refusal-spec : {M : Type 1} → statement M
 refusal-spec = tie.close (tie.spec new-requires enum-known-made enum-told space-requires returns returns-2)

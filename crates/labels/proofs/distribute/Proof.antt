@@ -15,8 +15,8 @@ scatter-requires : tie.Need-scatter-requires
 scatter-requires c κs =
     let second = c .before .before .before .before in
     let first = second .before .before .before .before in
-    let start = first .before .before .before .before .before .before .before in
-    (start .pre .0, summed-start (start .pre .1 .edges) (start .pre .1 .vertices) (first .clear .ensures) (second .clear2 .ensures))
+    let pre = first .before .before .before .before .before .before .before .before .before .pre in
+    (pre .0, pre .1, summed-start (pre .2 .edges) (pre .2 .vertices) (first .clear .ensures) (second .clear2 .ensures))
 
 settle-requires : tie.Need-settle-requires
 settle-requires c κs = search needs

@@ -2,7 +2,7 @@
 use mathlib.Core.Path.{_≡_, refl}
 use mathlib.Core.Bool.{not}
 use borrow.Author.Needs.{needs}
-use Rattle.connectivity.specs.Plan.{plan, limits}
+use Rattle.connectivity.specs.Plan.{entire, limits}
 use Rattle.graph.specs.Admission.{toldBy, lent}
 use Rattle.graph.proofs.Telling.{lent-told, told-admitted, told-room}
 use Rattle.numbers.specs.Answered.{fits}
@@ -11,15 +11,18 @@ use Rattle.numbers.proofs.look_below.Statement.{statement}
 use Rattle.numbers.proofs.look_below.Tie as tie
 
 -- the answer is the one that the promise names
-told : (c : tie.After-refusal) → let a = c .before .before .before .before .before .before .before .before .args in
-    c .refusal .result ≡ toldBy (lent limits (plan (a .vertices) (a .ends .now)) (fits (plan (a .vertices) (a .ends .now)) (a .first .now) (a .order .now) (a .number .now) (a .last .now) (a .over .now)))
+told : (c : tie.After-refusal) → let a = c .before .before .before .before .before .before .before .before .before .args in
+    c .refusal .result ≡ toldBy (lent limits (entire (a .vertices) (a .ends .now)) (fits (entire (a .vertices) (a .ends .now)) (a .first .now) (a .order .now) (a .number .now) (a .last .now) (a .over .now)))
 told c =
-    let a = c .before .before .before .before .before .before .before .before .args in
-    let p = plan (a .vertices) (a .ends .now) in
-    lent-told limits p (not (c .before .is-short .result)) (room-is p (a .first .now) (a .order .now) (a .number .now) (a .last .now) (a .over .now)) (c .before .is-short .ensures) (c .refusal .ensures)
+    let a = c .before .before .before .before .before .before .before .before .before .args in
+    let p = entire (a .vertices) (a .ends .now) in
+    lent-told limits p (not (c .before .before .is-short .result)) (room-is p (a .first .now) (a .order .now) (a .number .now) (a .last .now) (a .over .now)) (c .before .before .is-short .ensures) (c .refusal .ensures)
 
 is-short-requires : tie.Need-is-short-requires
 is-short-requires c κs = search needs
+
+slice-aggregate-refusal : tie.Need-slice-aggregate-refusal
+slice-aggregate-refusal c = search needs
 
 refusal-requires : tie.Need-refusal-requires
 refusal-requires c κs = search needs
@@ -27,8 +30,8 @@ refusal-requires c κs = search needs
 fill-requires : tie.Need-fill-requires
 fill-requires c κs =
     let then = c .before .before .before in
-    let a = then .before .before .before .before .before .before .before .before .before .args in
-    let p = plan (a .vertices) (a .ends .now) in
+    let a = then .before .before .before .before .before .before .before .before .before .before .args in
+    let p = entire (a .vertices) (a .ends .now) in
     let room = fits p (a .first .now) (a .order .now) (a .number .now) (a .last .now) (a .over .now) in record {
       admitted = told-admitted limits p room (told (then .before)) (then .if1 .taken);
       room = told-room limits p room (told (then .before)) (then .if1 .taken) (room-is p (a .first .now) (a .order .now) (a .number .now) (a .last .now) (a .over .now));
@@ -57,6 +60,7 @@ look-below-spec =
     tie.close
     (tie.spec
     is-short-requires
+    slice-aggregate-refusal
     refusal-requires
     fill-requires
     same-length

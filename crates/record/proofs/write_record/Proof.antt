@@ -1,124 +1,41 @@
--- `write_record` meets its contract: where there is room, the plan's refusal or its lowest cut, or none and the record written.
-use mathlib.Core.Path.{_≡_, refl}
-use Prim.Native.Nat.{_*_, _/_, _≤_}
-use native.Mathlib.Omega.{arith}
-use lib.ListN.{length}
+-- `write_record` meets its contract: a plan that the constructor refuses is refused by its answer; any other has its counts.
+use Rattle.graph.proofs.Lent.{constructed-refused, constructed-admitted}
+use Rattle.record.proofs.Answering.{answers-refused}
 use borrow.Author.Needs.{needs}
-use Rattle.connectivity.specs.Plan.{plan, limits}
-use Rattle.connectivity.specs.Admission.{Admitted}
-use Rattle.cuts.specs.Verdict.{handed, lowestHanded}
-use Rattle.record.specs.Recording.{Sturdy}
-use Rattle.record.proofs.Answering.{answers-full, answers-cut, answers-firm, uncut-admitted, sturdy}
-use Rattle.record.proofs.Tabling.{cut-own, searched}
 use Rattle.record.proofs.write_record.Statement.{statement}
 use Rattle.record.proofs.write_record.Tie as tie
 
--- the list is long enough
-enough : (c : tie.Else1) → let a = c .before .before .before .args in 3 * (length (a .ends .now) / 2) ≤ length (a .rows .now)
-enough c = omega (arith, c .if1 .left)
+new-requires : tie.Need-new-requires
+new-requires c κs = search needs
 
--- what is said of the cuts
-told : (o : tie.After-lowest-cut) → let a = o .before .before .before .before .before .before .before .before .args in handed (o .lowest-cut .result) ≡ lowestHanded limits (plan (a .vertices) (a .ends .now))
-told o = cut-own (o .lowest-cut .result) (o .lowest-cut .ensures)
+enum-known-made : tie.Need-enum-known-made
+enum-known-made c = search needs
 
--- a plan without a cut is admitted, and sturdy
-admitted : (c : tie.After-enum-told) → let a = c .before .before .before .before .before .before .before .before .before .before .before .before .before .before .args in Admitted limits (plan (a .vertices) (a .ends .now))
-admitted c =
-    let o = c .before .before .before .before .before .before in
-    let a = o .before .before .before .before .before .before .before .before .args in
-    uncut-admitted (a .vertices) (a .ends .now) (a .rows .now) (enough (o .before .before .before .before .before)) (told o) (c .enum-told .given .1)
+enum-known-made-2 : tie.Need-enum-known-made-2
+enum-known-made-2 c = search needs
 
-strong : (c : tie.After-enum-told) → let a = c .before .before .before .before .before .before .before .before .before .before .before .before .before .before .args in Sturdy limits (a .vertices) (a .ends .now) (length (a .rows .now))
-strong c =
-    let o = c .before .before .before .before .before .before in
-    let a = o .before .before .before .before .before .before .before .before .args in
-    sturdy (a .vertices) (a .ends .now) (a .rows .now) (admitted c) (enough (o .before .before .before .before .before)) (told o) (c .enum-told .given .1)
-
-refusal-requires : tie.Need-refusal-requires
-refusal-requires c κs = search needs
+write-admitted-requires : tie.Need-write-admitted-requires
+write-admitted-requires c κs =
+    let m = constructed-admitted _ _ (c .before .before .before .before .new .ensures) (c .before .before .made2 .given .1) in
+    record { admitted = m .admitted; all = m .kept-edges }
 
 returns : tie.Need-returns
-returns c = answers-full _ _ _ (omega (arith, c .before .if1 .taken)) (c .refusal .ensures)
-
-slice-aggregate-lowest-cut : tie.Need-slice-aggregate-lowest-cut
-slice-aggregate-lowest-cut c = search needs
-
-slice-aggregate-lowest-cut-2 : tie.Need-slice-aggregate-lowest-cut-2
-slice-aggregate-lowest-cut-2 c = search needs
-
-slice-aggregate-lowest-cut-3 : tie.Need-slice-aggregate-lowest-cut-3
-slice-aggregate-lowest-cut-3 c = search needs
-
-slice-aggregate-lowest-cut-4 : tie.Need-slice-aggregate-lowest-cut-4
-slice-aggregate-lowest-cut-4 c = search needs
-
-lowest-cut-requires : tie.Need-lowest-cut-requires
-lowest-cut-requires c κs = search needs
-
-enum-told : tie.Need-enum-told
-enum-told c = search needs
-
-returns-2 : tie.Need-returns-2
-returns-2 c =
-    let o = c .before .before .before .before .before in
-    let a = o .before .before .before .before .before .before .before .before .args in
-    answers-cut (a .vertices) (a .ends .now) (a .rows .now) (enough (o .before .before .before .before .before)) (o .lowest-cut .result) (told o) (c .match .keys2)
-
-cast-begins : tie.Need-cast-begins
-cast-begins c = let a = admitted c in record { fits = omega (arith, a .edges) }
-
-mul-begins : tie.Need-mul-begins
-mul-begins c = search needs
-
-array-write-begins : tie.Need-array-write-begins
-array-write-begins c = let a = admitted c in omega (arith, a .vertices)
-
-slice-aggregate-build-record : tie.Need-slice-aggregate-build-record
-slice-aggregate-build-record c = search needs
-
-slice-aggregate-build-record-2 : tie.Need-slice-aggregate-build-record-2
-slice-aggregate-build-record-2 c = search needs
-
-slice-aggregate-build-record-3 : tie.Need-slice-aggregate-build-record-3
-slice-aggregate-build-record-3 c = search needs
-
-slice-aggregate-build-record-4 : tie.Need-slice-aggregate-build-record-4
-slice-aggregate-build-record-4 c = search needs
-
-build-record-requires : tie.Need-build-record-requires
-build-record-requires c κs =
-    let n = c .before .before .before .before .before in
-    (strong n, searched (c .before .before .before .before .before .before .before .before .before .before .before .lowest-cut .ensures) (n .enum-told .given .1) (strong n))
+returns c = answers-refused _ _ (constructed-refused _ _ (c .before .before .before .new .ensures) (c .before .made .given .1))
 
 same-length : tie.Need-same-length
 same-length c = search needs
 
-returns-3 : tie.Need-returns-3
-returns-3 c =
-    let n = c .before .before .before .before .before .before .before .before in
-    let o = n .before .before .before .before .before .before in
-    answers-firm _ _ _ (admitted n) (enough (o .before .before .before .before .before)) (told o) (n .enum-told .given .1) (c .before .before .build-record .ensures) refl
+returns-2 : tie.Need-returns-2
+returns-2 c = search needs
 
 pub write-record-spec : {M : Type 1} → statement M
 write-record-spec =
     tie.close
     (tie.spec
-    refusal-requires
+    new-requires
+    enum-known-made
+    enum-known-made-2
+    write-admitted-requires
     returns
-    slice-aggregate-lowest-cut
-    slice-aggregate-lowest-cut-2
-    slice-aggregate-lowest-cut-3
-    slice-aggregate-lowest-cut-4
-    lowest-cut-requires
-    enum-told
-    returns-2
-    cast-begins
-    mul-begins
-    array-write-begins
-    slice-aggregate-build-record
-    slice-aggregate-build-record-2
-    slice-aggregate-build-record-3
-    slice-aggregate-build-record-4
-    build-record-requires
     same-length
-    returns-3)
+    returns-2)

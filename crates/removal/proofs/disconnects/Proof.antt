@@ -2,6 +2,7 @@
 use native.Mathlib.Omega.{arith}
 use borrow.Author.Needs.{needs}
 use Rattle.connectivity.specs.Plan.{plan, limits}
+use Rattle.connectivity.proofs.Kept.{admitted-count}
 use Rattle.graph.proofs.Lent.{lent-refused}
 use Rattle.removal.specs.Cut.{enough}
 use Rattle.removal.proofs.Parted.{ready, answers-refused}
@@ -41,17 +42,18 @@ slice-aggregate-tell c = search needs
 tell-requires : tie.Need-tell-requires
 tell-requires c κs =
     let found = c .before .before .before in
+    let a = c .before .before .before .before .before .before .before .before .before .before .before .before .before .before .before .before .before .before .before .before .before .before .args in
     let e = rw (found .found2 .given .1) at (found .before .before .before .before .before .before .before .before .without .ensures) in
-    omega (arith, e .admitted .vertices)
+    (omega (arith, admitted-count {p = plan (a .vertices) (a .ends .now) (a .excluded .now)} (e .admitted)), omega (arith, e .admitted .vertices))
 
 returns : tie.Need-returns
 returns c =
     let found = c .before in
     let without = found .before .before .before .before .before .before .before .before in
-    let a = without .before .before .before .before .before .before .before .before .before .before .args in
-    let p = plan (a .vertices) (a .ends .now) in
+    let a = without .before .before .before .before .before .before .before .before .before .before .before .args in
+    let p = plan (a .vertices) (a .ends .now) (a .excluded .now) in
     let e = rw (found .found .given .1) at (without .without .ensures) in
-    answers-refused limits p (a .cut .now) (a .reached .now) (lent-refused (enough p (a .reached .now)) (e .0) (e .1))
+    answers-refused limits p (a .cut .now) (a .reached .now) (lent-refused {p = p} (enough p (a .reached .now)) (e .0) (e .1))
 
 same-length : tie.Need-same-length
 same-length c = search needs

@@ -1,198 +1,110 @@
--- `read_plan` meets its contract: each way out cites the law for its tests.
+-- `read_plan` meets its contract: a refusal is told before anything is stored, and what is stored is the plan that the text lists.
 use mathlib.Core.Path.{_≡_, refl, sym, ap, _∙_}
-use mathlib.Core.Bool.{true}
-use mathlib.Core.List.{List, [], _∷_}
-use Prim.Native.Nat.{ℕ, _/_}
+use mathlib.Core.List.{List}
+use Prim.Native.Nat.{ℕ, _+_, _*_, _≤_}
 use native.Mathlib.Omega.{arith}
 use lib.ListN.{length}
 use borrow.Author.Needs.{needs}
 use borrow.Author.Tests.{not-true, not-false}
-use Rattle.connectivity.specs.Plan.{plan, limits}
-use Rattle.connectivity.specs.Admission.{served, endsAnswer}
-use Rattle.graph.specs.Admission.{handed}
+use Rattle.connectivity.specs.Plan.{limits}
+use Rattle.connectivity.specs.Admission.{answer}
+use Rattle.graph.specs.Admission.{handed, constructed}
 use Rattle.graph.specs.declared.Answer.{Answer}
 use Rattle.graph.specs.declared.Admission.{Admission}
-use Rattle.text.specs.Column.{five, largest, lineFits, linesFit, linesNumbers}
-use Rattle.text.specs.Plan.{PlanReading, behindHeader}
-use Rattle.text.proofs.Laws.{line-long}
-use Rattle.text.proofs.Reading.{noPlan, length-lines-numbers, sets-filled, no-header, too-few, too-many, too-long, no-space, no-lines, misfit, fits}
-use Rattle.text_read.proofs.Result.{reads-plan}
+use Rattle.text.specs.Column.{five, largest}
+use Rattle.text.specs.Plan.{PlanReading, headerSecond, headerThird, edgeLines, excludedLines, spelled, readAnswer}
+use Rattle.text.proofs.Reading.{length-lines-numbers, no-header, Met, met, read-refused, read-listed}
+use Rattle.text.proofs.RoundTrip.{met-admitted}
+use Rattle.text_read.specs.Header.{Headed}
+use Rattle.text_read.proofs.Headers.{ends-listed, excluded-listed, met-fitting}
+use Rattle.text_read.proofs.Result.{reads-plan, parts, admitted-served}
 use Rattle.text_read.proofs.read_plan.Statement.{statement}
 use Rattle.text_read.proofs.read_plan.Tie as tie
 
 -- the text and the table that came in
-abbrev txt : tie.Else1 → List ℕ
-txt c = c .before .before .before .before .args .text .now
+abbrev txt : tie.Start → List ℕ
+txt s = s .args .text .now
 
-abbrev lent : tie.Else1 → List ℕ
-lent c = c .before .before .before .before .args .ends .now
+abbrev lent : tie.Start → List ℕ
+lent s = s .args .table .now
+
+number : {x y : Answer} → x ≡ y → x .number ≡ y .number
+number p = ap (λ (z : Answer). z .number) p
 
 -- the header is in the form
-form : (c : tie.Else1) → lineFits five largest 2 (txt c) ≡ true
-form c = sym (c .before .line-fits .ensures) ∙ not-false _ (c .if1 .left)
+headed : (c : tie.Else1) → Headed five largest (txt (c .before .before .before .before)) (c .before .read-header .result)
+headed c = c .before .read-header .ensures .headed (not-false _ (c .if1 .left))
 
--- the lines are in the form
-good : (c : tie.Else6) → linesFit five largest 2 (c .before .before .before .before .before .before .before .two-numbers .result .second) (behindHeader five (txt (c .before .before .before .before .before .before .before .before))) ≡ true
-good c = sym (c .before .lines-fit .ensures) ∙ not-false _ (c .if6 .left)
+-- nothing is refused
+passing : (c : tie.Else2) → (readAnswer five largest limits (txt (c .before .before .before .before .before .before)) (length (lent (c .before .before .before .before .before .before)))) .number ≡ 0
+passing c = sym (number (c .before .judge .ensures)) ∙ c .if2 .left
 
-line-fits-requires : tie.Need-line-fits-requires
-line-fits-requires c κs = search needs
+tests : (c : tie.Else2) → Met five largest limits (txt (c .before .before .before .before .before .before)) (length (lent (c .before .before .before .before .before .before)))
+tests c = met five largest limits (txt (c .before .before .before .before .before .before)) (length (lent (c .before .before .before .before .before .before))) (passing c)
+
+room : (c : tie.Else2) → let h = c .before .before .before .read-header .result in 2 * h .edges + h .excluded ≤ length (lent (c .before .before .before .before .before .before))
+room c = let d = headed (c .before .before) in omega (arith, tests c .room, d .edges, d .excluded)
+
+read-header-requires : tie.Need-read-header-requires
+read-header-requires c κs = search needs
 
 refused-plan-requires : tie.Need-refused-plan-requires
 refused-plan-requires c κs = search needs
 
 returns : tie.Need-returns
 returns c =
-    let s = c .before .before in
-    let a = s .before .before .before .args in
-    reads-plan (noPlan 7)
-    (no-header five largest limits (a .text .now) (length (a .ends .now)) (sym (s .line-fits .ensures) ∙ not-true _ (c .before .if1 .taken))) (ap handed (c .refused-plan .ensures)) refl
+    let s = c .before .before .before .before .before in
+    let e = c .before .before .read-header .ensures in
+    reads-plan (PlanReading.refused (answer 7 0))
+    (read-refused five largest limits (txt s) (length (lent s)) (answer 7 0) (no-header five largest limits (txt s) (length (lent s)) (sym (e .fits) ∙ not-true _ (c .before .if1 .taken))) (λ z. omega arith))
+    (ap handed (c .refused-plan .ensures)) refl
 
-two-numbers-requires : tie.Need-two-numbers-requires
-two-numbers-requires c κs = (omega arith, form c)
-
-cast-edges : tie.Need-cast-edges
-cast-edges c = search needs
-
-refused-plan-requires-2 : tie.Need-refused-plan-requires-2
-refused-plan-requires-2 c κs = search needs
+judge-requires : tie.Need-judge-requires
+judge-requires c κs = headed c
 
 returns-2 : tie.Need-returns-2
 returns-2 c =
-    let d = c .before .before in
-    let e = d .before .two-numbers in
-    let s = d .before .before in
-    reads-plan (noPlan 2)
-    (too-few five largest limits (txt s) (length (lent s)) (e .result .first) (e .result .second) (e .ensures .0) (e .ensures .1) (form s) (omega arith)) (ap handed (c .refused-plan2 .ensures)) refl
+    let s = c .before .before .before .before .before .before in
+    let e = c .before .judge .ensures in
+    let a = readAnswer five largest limits (txt s) (length (lent s)) in
+    reads-plan (PlanReading.refused a)
+    (read-refused five largest limits (txt s) (length (lent s)) a refl (λ z. c .if2 .taken (number e ∙ z)))
+    (ap (λ (x : Answer). handed (Admission.Refused x)) e) refl
 
-cast-if3 : tie.Need-cast-if3
-cast-if3 c = search needs
+store-requires : tie.Need-store-requires
+store-requires c κs = let o = c .before in (met-fitting (headed (o .before .before)) limits (length (lent (o .before .before .before .before .before .before))) (tests o), room o)
 
-refused-plan-requires-3 : tie.Need-refused-plan-requires-3
-refused-plan-requires-3 c κs = search needs
-
-returns-3 : tie.Need-returns-3
-returns-3 c =
-    let d = c .before .before .before in
-    let e = d .before .two-numbers in
-    let s = d .before .before in
-    reads-plan (noPlan 2)
-    (too-many five largest limits (txt s) (length (lent s)) (e .result .first) (e .result .second) (e .ensures .0) (e .ensures .1) (form s) (omega arith) (omega arith)) (ap handed (c .refused-plan3 .ensures)) refl
-
-refused-plan-requires-4 : tie.Need-refused-plan-requires-4
-refused-plan-requires-4 c κs = search needs
-
-returns-4 : tie.Need-returns-4
-returns-4 c =
-    let d = c .before .before .before .before in
-    let e = d .before .two-numbers in
-    let s = d .before .before in
-    reads-plan (noPlan 3)
-    (too-long five largest limits (txt s) (length (lent s)) (e .result .first) (e .result .second) (e .ensures .0) (e .ensures .1) (form s) (omega arith) (omega arith) (omega arith)) (ap handed (c .refused-plan4 .ensures)) refl
-
-mul-if5 : tie.Need-mul-if5
-mul-if5 c = search needs
-
-refused-plan-requires-5 : tie.Need-refused-plan-requires-5
-refused-plan-requires-5 c κs = search needs
-
-returns-5 : tie.Need-returns-5
-returns-5 c =
-    let d = c .before .before .before .before .before in
-    let e = d .before .two-numbers in
-    let s = d .before .before in
-    reads-plan (noPlan 6)
-    (no-space five largest limits (txt s) (length (lent s)) (e .result .first) (e .result .second) (e .ensures .0) (e .ensures .1) (form s) (omega arith) (omega arith) (omega arith) (omega arith)) (ap handed (c .refused-plan5 .ensures)) refl
-
-lines-fit-requires : tie.Need-lines-fit-requires
-lines-fit-requires c κs =
-    let o = c in
-    let d = o .before .before .before .before in
-    let e = d .before .two-numbers in
-    let s = d .before .before in
-    omega (arith, line-long five largest 2 (txt s) (form s))
-
-refused-plan-requires-6 : tie.Need-refused-plan-requires-6
-refused-plan-requires-6 c κs = search needs
-
-returns-6 : tie.Need-returns-6
-returns-6 c =
-    let o = c .before .before .before in
-    let d = o .before .before .before .before in
-    let e = d .before .two-numbers in
-    let s = d .before .before in
-    reads-plan (noPlan 7)
-    (no-lines five largest limits (txt s) (length (lent s)) (e .result .first) (e .result .second) (e .ensures .0) (e .ensures .1) (form s) (omega (arith, o .before .before .before)) (omega (arith, o .before .before)) (omega (arith, o .before)) (omega (arith, o .if5 .left)) (sym (c .before .before .lines-fit .ensures) ∙ not-true _ (c .before .if6 .taken))) (ap handed (c .refused-plan6 .ensures)) refl
-
-judge-edges-requires : tie.Need-judge-edges-requires
-judge-edges-requires c κs =
-    let o = c .before .before in
-    let d = o .before .before .before .before in
-    let e = d .before .two-numbers in
-    let s = d .before .before in
-    (omega (arith, o .before), omega (arith, line-long five largest 2 (txt s) (form s)), good c)
-
-returns-7 : tie.Need-returns-7
-returns-7 c =
-    let o = c .before .before .before .before in
-    let d = o .before .before .before .before in
-    let e = d .before .two-numbers in
-    let s = d .before .before in
-    let j = c .before .judge-edges in
-    let z = endsAnswer (e .result .first) 0 (linesNumbers five 2 (e .result .second) (behindHeader five (txt s))) in
-    reads-plan (PlanReading.refused z)
-    (misfit five largest limits (txt s) (length (lent s)) (e .result .first) (e .result .second) (e .ensures .0) (e .ensures .1) (form s) (omega (arith, o .before .before .before)) (omega (arith, o .before .before)) (omega (arith, o .before)) (omega (arith, o .if5 .left)) (good (c .before .before)) (λ q. c .if7 .taken (ap (λ (x : Answer). x .number) (j .ensures) ∙ q))) (ap (λ (x : Answer). handed (Admission.Refused x)) (j .ensures)) refl
-
-store-lines-requires : tie.Need-store-lines-requires
-store-lines-requires c κs =
-    let o = c .before .before .before .before .before in
-    let d = o .before .before .before .before in
-    let e = d .before .two-numbers in
-    let s = d .before .before in
-    (omega (arith, line-long five largest 2 (txt s) (form s)), omega arith, omega (arith, o .if5 .left), good (c .before .before .before))
+counted-requires : tie.Need-counted-requires
+counted-requires c κs = omega (arith, room (c .before .before .before .before .before), c .before .before .before .store .kept .1 .1 .0)
 
 same-length : tie.Need-same-length
 same-length c = search needs
 
-returns-8 : tie.Need-returns-8
-returns-8 c =
-    let o = c .before .before .before .before .before .before .before .before in
-    let d = o .before .before .before .before in
-    let e = d .before .two-numbers in
-    let s = d .before .before in
-    let j = c .before .before .before .before .before .judge-edges in
-    let xs = linesNumbers five 2 (e .result .second) (behindHeader five (txt s)) in
-    let n = length-lines-numbers five 2 (e .result .second) (behindHeader five (txt s)) in
-    let half : length xs / 2 ≡ e .result .second = omega arith in
-    reads-plan (PlanReading.read (plan (e .result .first) xs))
-    (fits five largest limits (txt s) (length (lent s)) (e .result .first) (e .result .second) (e .ensures .0) (e .ensures .1) (form s) (omega (arith, o .before .before .before)) (omega (arith, o .before .before)) (omega (arith, o .before)) (omega (arith, o .if5 .left)) (good (c .before .before .before .before .before .before)) (sym (ap (λ (x : Answer). x .number) (j .ensures)) ∙ c .before .before .before .before .if7 .left))
-    (ap (λ (m : ℕ). served (e .result .first ∷ (m ∷ []))) (sym half))
-    (c .before .before .store-lines .ensures ∙ sets-filled (lent s) xs (omega (arith, n, o .if5 .left)))
+returns-3 : tie.Need-returns-3
+returns-3 c =
+    let o = c .before .before .before .before .before .before in
+    let s = o .before .before .before .before .before .before in
+    let d = headed (o .before .before) in
+    let h = o .before .before .before .read-header .result in
+    let p = spelled five largest (txt s) in
+    let ends : length (p .ends) ≡ 2 * h .edges = omega (arith, d .edges, length-lines-numbers five 2 (headerSecond five (txt s)) (edgeLines five largest (txt s))) in
+    let excluded : length (p .excluded) ≡ h .excluded = omega (arith, d .excluded, length-lines-numbers five 1 (headerThird five largest (txt s)) (excludedLines five largest (txt s))) in
+    let stored = rw (ends-listed d, excluded-listed d) at (c .before .before .before .before .store .ensures) in
+    reads-plan (PlanReading.read p)
+    (read-listed five largest limits (txt s) (length (lent s)) (passing o))
+    (c .counted .ensures ∙ ap (constructed limits) (rw (stored, d .vertices) (parts p (lent s) (2 * h .edges) (h .excluded) ends excluded)) ∙ admitted-served (met-admitted five largest limits (txt s) (length (lent s)) (tests o)))
+    stored
 
 pub read-plan-spec : {M : Type 1} → statement M
 read-plan-spec =
     tie.close
     (tie.spec
-    line-fits-requires
+    read-header-requires
     refused-plan-requires
     returns
-    two-numbers-requires
-    cast-edges
-    refused-plan-requires-2
+    judge-requires
     returns-2
-    cast-if3
-    refused-plan-requires-3
-    returns-3
-    refused-plan-requires-4
-    returns-4
-    mul-if5
-    refused-plan-requires-5
-    returns-5
-    lines-fit-requires
-    refused-plan-requires-6
-    returns-6
-    judge-edges-requires
-    returns-7
-    store-lines-requires
+    store-requires
+    counted-requires
     same-length
-    returns-8)
+    returns-3)

@@ -14,7 +14,7 @@ use Rattle.text_read.specs.Entry.{handed}
 use Rattle.text.specs.Column.{five, largest, lineFits, linesFit, linesNumbers}
 use Rattle.text.specs.Plan.{behindHeader}
 use Rattle.text.specs.Verdict.{VerdictReading, perLine, linesOf, countFits}
-use Rattle.text.proofs.Laws.{line-long}
+use Rattle.text.proofs.Laws.{line-long, fit-true}
 use Rattle.text.proofs.Reading.{noVerdict, length-lines-numbers, sets-filled, bad-header, bad-count, no-room, bad-lines, verdict-fits, refusal-read, lines-read}
 use Rattle.text.proofs.Writing.{per-line-most}
 use Rattle.text_read.proofs.Result.{reads-verdict}
@@ -146,7 +146,7 @@ store-lines-requires c κs =
       omega (arith, line-long five largest 2 (txt s) (form s)),
       omega (arith, k, per-line-most (e .result .first)),
       rw k (omega (arith, x .1, v .before .numbers-needed .ensures, v .if3 .left)),
-      rw k (ap (λ (m : ℕ). linesFit five largest (perLine (e .result .first)) m (behindHeader five (txt s))) (sym (x .2)) ∙ sym (judged (c .before .before .before)) ∙ not-false _ (c .before .before .if4 .left)),
+      rw k (fit-true five largest (perLine (e .result .first)) (e .result .second) (behindHeader five (txt s)) (ap (λ (m : ℕ). linesFit five largest (perLine (e .result .first)) m (behindHeader five (txt s))) (sym (x .2)) ∙ sym (judged (c .before .before .before)) ∙ not-false _ (c .before .before .if4 .left)) .0),
     )
 
 same-length-2 : tie.Need-same-length-2

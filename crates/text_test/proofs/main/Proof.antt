@@ -10,8 +10,8 @@ Inv-loop text n at₀ turns₀ at turns = turns ≤ n
 abbrev μ-loop : tie.MeasureT-loop
 μ-loop text n at₀ turns₀ at turns = n - turns
 
-buffer-requires : tie.Need-buffer-requires Inv-loop μ-loop
-buffer-requires c κs = search needs
+large-buffer-requires : tie.Need-large-buffer-requires Inv-loop μ-loop
+large-buffer-requires c κs = search needs
 
 slice-aggregate-read-full : tie.Need-slice-aggregate-read-full Inv-loop μ-loop
 slice-aggregate-read-full c = search needs
@@ -49,7 +49,7 @@ main-spec =
     (tie.spec
     Inv-loop
     μ-loop
-    buffer-requires
+    large-buffer-requires
     slice-aggregate-read-full
     read-full-requires
     loop-holds

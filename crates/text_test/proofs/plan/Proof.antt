@@ -5,8 +5,8 @@ use borrow.Author.Needs.{needs}
 use Rattle.text_test.proofs.plan.Statement.{statement}
 use Rattle.text_test.proofs.plan.Tie as tie
 
-array-borrow-prefix-ends : tie.Need-array-borrow-prefix-ends
-array-borrow-prefix-ends c = search needs
+array-borrow-prefix-table : tie.Need-array-borrow-prefix-table
+array-borrow-prefix-table c = search needs
 
 slice-aggregate-read-plan : tie.Need-slice-aggregate-read-plan
 slice-aggregate-read-plan c = simp length-take (omega arith)
@@ -27,7 +27,7 @@ pub plan-spec : {M : Type 1} → statement M
 plan-spec =
     tie.close
     (tie.spec
-    array-borrow-prefix-ends
+    array-borrow-prefix-table
     slice-aggregate-read-plan
     read-plan-requires
     admission-requires

@@ -26,17 +26,25 @@ slice-aggregate-write-text c = search needs
 slice-aggregate-write-text-2 : tie.Need-slice-aggregate-write-text-2
 slice-aggregate-write-text-2 c = search needs
 
+slice-aggregate-write-text-3 : tie.Need-slice-aggregate-write-text-3
+slice-aggregate-write-text-3 c = search needs
+
 write-text-requires : tie.Need-write-text-requires
 write-text-requires c κs = search needs
 
 returns : tie.Need-returns
 unfolding answerText
 returns c =
-    let answer = c .before .before .before .before .args .answer in
+    let answer = c .before .before .before .before .before .args .answer in
     let pair = answer .number ∷ (answer .place ∷ []) in
     c .before .write-text .ensures ∙ header-alone five pair _ _ 1 (omega (arith, length-replicate {A = ℕ} (lineSize five 2) 0, length-line five pair))
 
 pub answer-line-spec : {M : Type 1} → statement M
 answer-line-spec =
     tie.close
-    (tie.spec slice-aggregate-write-text slice-aggregate-write-text-2 write-text-requires returns)
+    (tie.spec
+    slice-aggregate-write-text
+    slice-aggregate-write-text-2
+    slice-aggregate-write-text-3
+    write-text-requires
+    returns)

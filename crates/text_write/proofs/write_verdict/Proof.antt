@@ -92,18 +92,23 @@ returns-2 c =
     writes-verdict (Writing.refused (answer 6 0))
     (verdict-short five limits (a .kind) (a .list .now) (length (a .text .now)) (z .shown) (omega (arith, z .same, n, c .before .if2 .taken))) (ap handed (c .refused-writing2 .ensures)) refl
 
-cast-write-text : tie.Need-cast-write-text
-cast-write-text c = omega (arith, sized (c .before) .few)
+cast-t14 : tie.Need-cast-t14
+cast-t14 c = omega (arith, sized (c .before) .few)
+
+slice-aggregate-write-text : tie.Need-slice-aggregate-write-text
+slice-aggregate-write-text c = search needs
 
 write-text-requires : tie.Need-write-text-requires
 write-text-requires c κs =
-    let o = c .before .before in
+    let o = c .before .before .before in
     let z = sized o in
     let a = o .before .before .before .before .before .before .before .args in (
+      omega arith,
+      omega arith,
       z .wide,
       rw (o .lines-of .ensures, o .before .per-line .ensures, o .before .before .count-of .ensures)
           (omega (arith, form five limits (a .kind) (a .list .now) (length (a .text .now)) (z .shown) .1, lines-needed (a .kind) (countOf (a .kind) (a .list .now)) .1)),
-      omega (arith, c .before .if2 .left),
+      omega (arith, c .before .before .if2 .left),
     )
 
 same-length : tie.Need-same-length
@@ -112,7 +117,7 @@ same-length c = search needs
 returns-3 : tie.Need-returns-3
 unfolding verdictText
 returns-3 c =
-    let o = c .before .before .before .before .before in
+    let o = c .before .before .before .before .before .before in
     let m = o .lines-of in
     let k = o .before .per-line in
     let q = o .before .before .count-of in
@@ -124,9 +129,9 @@ returns-3 c =
     let size : lineSize five 2 + m .result * lineSize five (k .result) ≡ length xs = omega (arith, z .same, n) in
     let text : w .last .1 .1 .1 .1 .1 .0 ≡ sets (a .text .now) 0 xs = w .ensures ∙ rw (m .ensures, k .ensures, q .ensures) in
     writes-verdict (Writing.written xs)
-    (verdict-written five limits (a .kind) (a .list .now) (length (a .text .now)) (z .shown) (omega (arith, size, c .before .before .before .before .if2 .left)))
+    (verdict-written five limits (a .kind) (a .list .now) (length (a .text .now)) (z .shown) (omega (arith, size, c .before .before .before .before .before .if2 .left)))
     (ap (λ (m : ℕ). served (m ∷ [])) size)
-    (text ∙ sets-filled (a .text .now) xs (omega (arith, size, c .before .before .before .before .if2 .left)))
+    (text ∙ sets-filled (a .text .now) xs (omega (arith, size, c .before .before .before .before .before .if2 .left)))
 
 pub write-verdict-spec : {M : Type 1} → statement M
 write-verdict-spec =
@@ -144,7 +149,8 @@ write-verdict-spec =
     add-size-2
     refused-writing-requires-2
     returns-2
-    cast-write-text
+    cast-t14
+    slice-aggregate-write-text
     write-text-requires
     same-length
     returns-3)

@@ -22,13 +22,13 @@ returns c =
     let made = c .before in
     let new = made .before .before in
     let p = constructed-refused _ _ (new .new .ensures) (made .made .given .1) in
-    p .1 ∙ sym (ap toldBy (failed-then _ _ (λ z. p .0 (admission-number _ (plan _ _) .0 z))))
+    p .1 ∙ sym (ap toldBy (failed-then _ _ (λ z. p .0 (admission-number _ (plan _ _ _) .0 z))))
 
 returns-2 : tie.Need-returns-2
 returns-2 c =
     let new = c .before .before in
     let p = constructed-admitted _ _ (new .new .ensures) (c .enum-told .given .1) in
-    sym (ap toldBy (passed-then _ _ (admission-number _ (plan _ _) .1 (p .0))))
+    sym (ap toldBy (passed-then _ _ (admission-number _ (plan _ _ _) .1 (p .admitted))))
 
 pub unknown-spec : {M : Type 1} → statement M
 unknown-spec = tie.close (tie.spec new-requires enum-known-made enum-told returns returns-2)

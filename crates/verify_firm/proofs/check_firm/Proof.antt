@@ -5,7 +5,7 @@ use Rattle.connectivity.specs.Plan.{plan, limits}
 use Rattle.connectivity.proofs.Judge.{judge-refused}
 use Rattle.graph.specs.Admission.{toldBy}
 use Rattle.graph.proofs.Lent.{constructed-refused, constructed-admitted}
-use Rattle.verify_firm.proofs.Judged.{judge-firm}
+use Rattle.verify_firm.proofs.Judged.{own-counts, judge-firm}
 use Rattle.verify_firm.proofs.check_firm.Statement.{statement}
 use Rattle.verify_firm.proofs.check_firm.Tie as tie
 
@@ -23,21 +23,21 @@ firm-admitted-requires c κs =
     let made = c .before in
     let new = made .before .before in
     let p = constructed-admitted _ _ (new .new .ensures) (made .made2 .given .1) in
-    (p .2, p .0)
+    own-counts p
 
 returns : tie.Need-returns
 returns c =
     let made = c .before in
     let new = made .before .before in
     let p = constructed-refused _ _ (new .new .ensures) (made .made .given .1) in
-    p .1 ∙ sym (ap toldBy (judge-refused limits (plan _ _) _ _ (p .0)))
+    p .1 ∙ sym (ap toldBy (judge-refused limits (plan _ _ _) _ _ (p .0)))
 
 returns-2 : tie.Need-returns-2
 returns-2 c =
     let made = c .before .before in
     let new = made .before .before in
     let p = constructed-admitted _ _ (new .new .ensures) (made .made2 .given .1) in
-    c .firm-admitted .ensures ∙ sym (ap toldBy (judge-firm (p .0) _))
+    c .firm-admitted .ensures ∙ rw (p .vertices) (sym (ap toldBy (judge-firm (p .admitted) _)))
 
 pub check-firm-spec : {M : Type 1} → statement M
 check-firm-spec =

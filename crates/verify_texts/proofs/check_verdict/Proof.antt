@@ -17,7 +17,7 @@ use Rattle.verify_texts.proofs.check_verdict.Tie as tie
 -- the front of the table is the verdict's list
 stored : (o : tie.After-read2) → let list = o .before .before .before .read-verdict .last .1 .0 in let count = o .read2 .given .0 .1 .0 in
     (count ≤ length list)
-    × (verdictIn five largest limits (o .before .before .before .before .before .before .before .args .verdict .now) ≡ VerdictReading.read (o .read2 .given .0 .0) (take count list))
+    × (verdictIn five largest limits (o .before .before .before .before .before .before .before .before .args .verdict .now) ≡ VerdictReading.read (o .read2 .given .0 .0) (take count list))
 stored o = verdict-stored five largest limits _ _ _ _ (o .before .before .before .read-verdict .ensures) (omega (arith, length-replicate {A = ℕ} (3 * limits .edges) 0)) (omega (arith, length-replicate {A = ℕ} (3 * limits .edges) 0)) _ _ (o .read2 .given .1)
 
 slice-aggregate-read-verdict : tie.Need-slice-aggregate-read-verdict
@@ -48,8 +48,8 @@ returns-2 : tie.Need-returns-2
 unfolding judgeRead
 returns-2 c =
     let read = c .before .before .before in
-    let start = read .before .before .before .before .before .before .before in
-    let drawn = PlanReading.read (plan (start .args .vertices) (start .args .ends .now)) in
+    let start = read .before .before .before .before .before .before .before .before in
+    let drawn = PlanReading.read (plan (start .args .vertices) (start .args .ends .now) (start .args .excluded .now)) in
     c .check .ensures ∙ sym (ap (λ (x : VerdictReading). toldBy (judgeRead limits drawn x)) (stored read .1))
 
 pub check-verdict-spec : {M : Type 1} → statement M

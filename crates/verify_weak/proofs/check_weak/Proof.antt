@@ -15,37 +15,25 @@ new-requires c κs = search needs
 enum-known-made : tie.Need-enum-known-made
 enum-known-made c = search needs
 
-enum-known-made-2 : tie.Need-enum-known-made-2
-enum-known-made-2 c = search needs
+enum-told : tie.Need-enum-told
+enum-told c = search needs
 
 weak-admitted-requires : tie.Need-weak-admitted-requires
-weak-admitted-requires c κs =
-    let made = c .before in
-    let new = made .before .before in
-    let p = constructed-admitted _ _ (new .new .ensures) (made .made2 .given .1) in
-    (p .2, p .0)
+weak-admitted-requires c κs = constructed-admitted _ _ (c .before .before .new .ensures) (c .enum-told .given .1) .admitted
 
 returns : tie.Need-returns
 returns c =
     let made = c .before in
-    let new = made .before .before in
-    let p = constructed-refused _ _ (new .new .ensures) (made .made .given .1) in
-    p .1 ∙ sym (ap toldBy (judge-refused limits (plan _ _) _ _ (p .0)))
+    let p = constructed-refused _ _ (made .before .before .new .ensures) (made .made .given .1) in
+    p .1 ∙ sym (ap toldBy (judge-refused limits (plan _ _ _) _ _ (p .0)))
 
 returns-2 : tie.Need-returns-2
 returns-2 c =
-    let made = c .before .before in
-    let new = made .before .before in
-    let p = constructed-admitted _ _ (new .new .ensures) (made .made2 .given .1) in
-    c .weak-admitted .ensures ∙ sym (ap toldBy (judge-weak limits _ _ (p .0)))
+    let made = c .before in
+    let p = constructed-admitted _ _ (made .before .before .new .ensures) (made .enum-told .given .1) in
+    c .weak-admitted .ensures ∙ sym (ap toldBy (judge-weak limits _ _ (p .admitted)))
 
 pub check-weak-spec : {M : Type 1} → statement M
 check-weak-spec =
     tie.close
-    (tie.spec
-    new-requires
-    enum-known-made
-    enum-known-made-2
-    weak-admitted-requires
-    returns
-    returns-2)
+    (tie.spec new-requires enum-known-made enum-told weak-admitted-requires returns returns-2)

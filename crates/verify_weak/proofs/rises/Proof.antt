@@ -1,32 +1,37 @@
 -- `rises` meets its contract. The loop's invariant: the answer is the one from number i on, where `low` is one more than the number before.
 use mathlib.Core.Path.{_≡_, refl, sym, ap, _∙_}
-use Prim.Native.Nat.{ℕ, _-_, _≤_}
+use mathlib.Core.Bool.{not}
+use Prim.Native.Nat.{ℕ, _-_, _/_, _≤_}
 use native.Mathlib.Omega.{arith}
-use lib.Dec.{ltb}
 use lib.ListN.{length, drop}
 use borrow.Author.Needs.{needs}
+use Rattle.connectivity.specs.Plan.{limits}
 use Rattle.connectivity.specs.Graph.{Graph, isEdge}
 use Rattle.connectivity.specs.Judge.{ascending}
 use Rattle.graph.specs.Admission.{toldBy}
-use Rattle.verify_weak.proofs.Weak.{turn-next, turn-none, turn-low, turn-over}
+use Rattle.verify_weak.specs.Weak.{isMissing}
+use Rattle.verify_weak.proofs.Weak.{not-missing, turn-next, turn-none, turn-low, turn-over}
 use Rattle.verify_weak.proofs.rises.Statement.{statement}
 use Rattle.verify_weak.proofs.rises.Tie as tie
 
 abbrev Inv-loop : tie.InvT-loop
-Inv-loop edges list low₀ i₀ low i = (i ≤ length list) × (length list ≤ 2)
-    × ((g : Graph) → ((e : ℕ) → isEdge g e ≡ ltb e edges) → ascending g 0 0 list ≡ ascending g i low (drop i list))
+Inv-loop ends excluded list low₀ i₀ low i = (i ≤ length list) × (length list ≤ 2) × (length ends / 2 ≤ limits .edges)
+    × ((g : Graph) → ((e : ℕ) → isEdge g e ≡ not (isMissing ends excluded e)) → ascending g 0 0 list ≡ ascending g i low (drop i list))
 
 abbrev μ-loop : tie.MeasureT-loop
-μ-loop edges list low₀ i₀ low i = length list - i
+μ-loop ends excluded list low₀ i₀ low i = length list - i
 
 loop-holds : tie.Need-loop-holds Inv-loop μ-loop
-loop-holds c = (omega arith, omega arith, λ g a. refl)
+loop-holds c = (omega arith, omega arith, omega arith, λ g a. refl)
 
 mul-e : tie.Need-mul-e Inv-loop μ-loop
 mul-e c = omega arith
 
 shared-slice-read-e : tie.Need-shared-slice-read-e Inv-loop μ-loop
 shared-slice-read-e c = omega arith
+
+is-missing-requires : tie.Need-is-missing-requires Inv-loop μ-loop
+is-missing-requires c κs = search needs
 
 cast-answer : tie.Need-cast-answer Inv-loop μ-loop
 cast-answer c = omega arith
@@ -36,8 +41,9 @@ answer-requires c κs = search needs
 
 returns : tie.Need-returns Inv-loop μ-loop
 returns c g a =
-    let l = c .before .before .before .before in
-    c .answer .ensures ∙ sym (ap toldBy (l .loop .inv .2 g a ∙ turn-none _ g a _ (l .loop .i) (l .loop .low) (omega arith) (omega arith)))
+    let call = c .before .before in
+    let l = call .before .before .before in
+    c .answer .ensures ∙ sym (ap toldBy (l .loop .inv .3 g a ∙ turn-none _ _ g a _ (l .loop .i) (l .loop .low) (omega arith) (sym (call .is-missing .ensures) ∙ c .before .if1 .taken)))
 
 cast-answer-2 : tie.Need-cast-answer-2 Inv-loop μ-loop
 cast-answer-2 c = omega arith
@@ -47,11 +53,14 @@ answer-requires-2 c κs = search needs
 
 returns-2 : tie.Need-returns-2 Inv-loop μ-loop
 returns-2 c g a =
-    let l = c .before .before .before .before .before in
-    c .answer2 .ensures ∙ sym (ap toldBy (l .loop .inv .2 g a ∙ turn-low _ g a _ (l .loop .i) (l .loop .low) (omega arith) (omega arith) (omega arith)))
+    let call = c .before .before .before in
+    let l = call .before .before .before in
+    c .answer2 .ensures ∙ sym (ap toldBy (l .loop .inv .3 g a ∙ turn-low _ _ g a _ (l .loop .i) (l .loop .low) (omega arith) (sym (call .is-missing .ensures) ∙ c .before .before .if1 .left) (omega arith)))
 
 add-low : tie.Need-add-low Inv-loop μ-loop
-add-low c = omega arith
+add-low c =
+    let call = c .before .before in
+    omega (arith, not-missing _ _ _ (sym (call .is-missing .ensures) ∙ c .before .if1 .left), call .before .before .before .loop .inv .2)
 
 add-i : tie.Need-add-i Inv-loop μ-loop
 add-i c = omega arith
@@ -61,8 +70,9 @@ loop-less c = omega arith
 
 loop-again : tie.Need-loop-again Inv-loop μ-loop
 loop-again c =
-    let l = c .before .before .before .before in
-    (omega arith, omega arith, λ g a. l .loop .inv .2 g a ∙ turn-next _ g a _ (l .loop .i) (l .loop .low) (omega arith) (omega arith) (omega arith))
+    let call = c .before .before in
+    let l = call .before .before .before in
+    (omega arith, omega arith, omega arith, λ g a. l .loop .inv .3 g a ∙ turn-next _ _ g a _ (l .loop .i) (l .loop .low) (omega arith) (sym (call .is-missing .ensures) ∙ c .before .if1 .left) (omega arith))
 
 answer-requires-3 : tie.Need-answer-requires-3 Inv-loop μ-loop
 answer-requires-3 c κs = search needs
@@ -70,7 +80,7 @@ answer-requires-3 c κs = search needs
 returns-3 : tie.Need-returns-3 Inv-loop μ-loop
 returns-3 c g a =
     let l = c .before .before in
-    c .answer3 .ensures ∙ sym (ap toldBy (l .loop .inv .2 g a ∙ turn-over g _ (l .loop .i) (l .loop .low) (omega arith)))
+    c .answer3 .ensures ∙ sym (ap toldBy (l .loop .inv .3 g a ∙ turn-over g _ (l .loop .i) (l .loop .low) (omega arith)))
 
 pub rises-spec : {M : Type 1} → statement M
 rises-spec =
@@ -81,6 +91,7 @@ rises-spec =
     loop-holds
     mul-e
     shared-slice-read-e
+    is-missing-requires
     cast-answer
     answer-requires
     returns

@@ -5,10 +5,10 @@ use Rattle.certify_test.proofs.plan.placed.Statement.{statement}
 use Rattle.certify_test.proofs.plan.placed.Tie as tie
 
 abbrev Inv-loop : tie.InvT-loop
-Inv-loop plan ends₀ e₀ ends e = e ≤ (plan .edges)
+Inv-loop plan sheet₀ e₀ sheet e = e ≤ (plan .edges)
 
 abbrev μ-loop : tie.MeasureT-loop
-μ-loop plan ends₀ e₀ ends e = (plan .edges) - e
+μ-loop plan sheet₀ e₀ sheet e = (plan .edges) - e
 
 loop-holds : tie.Need-loop-holds Inv-loop μ-loop
 loop-holds c = search needs
@@ -52,6 +52,12 @@ loop-less c = search needs
 loop-again : tie.Need-loop-again Inv-loop μ-loop
 loop-again c = search needs
 
+fallen-requires : tie.Need-fallen-requires Inv-loop μ-loop
+fallen-requires c κs = search needs
+
+listed-requires : tie.Need-listed-requires Inv-loop μ-loop
+listed-requires c κs = search needs
+
 spoiled-requires : tie.Need-spoiled-requires Inv-loop μ-loop
 spoiled-requires c κs = search needs
 
@@ -78,5 +84,7 @@ placed-spec =
     add-e
     loop-less
     loop-again
+    fallen-requires
+    listed-requires
     spoiled-requires
     returns)

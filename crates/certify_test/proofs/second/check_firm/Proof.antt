@@ -5,13 +5,16 @@ use Rattle.certify_test.proofs.second.check_firm.Statement.{statement}
 use Rattle.certify_test.proofs.second.check_firm.Tie as tie
 
 abbrev Inv-loop : tie.InvT-loop
-Inv-loop vertices ends list edges r₀ r = r ≤ edges
+Inv-loop kept ends list edges rows r₀ r = r ≤ rows
 
 abbrev μ-loop : tie.MeasureT-loop
-μ-loop vertices ends list edges r₀ r = edges - r
+μ-loop kept ends list edges rows r₀ r = rows - r
 
-edges-of-requires : tie.Need-edges-of-requires Inv-loop μ-loop
-edges-of-requires c κs = search needs
+kept-edges-requires : tie.Need-kept-edges-requires Inv-loop μ-loop
+kept-edges-requires c κs = search needs
+
+count-requires : tie.Need-count-requires Inv-loop μ-loop
+count-requires c κs = search needs
 
 cast-if1 : tie.Need-cast-if1 Inv-loop μ-loop
 cast-if1 c = search needs
@@ -67,7 +70,8 @@ check-firm-spec =
     (tie.spec
     Inv-loop
     μ-loop
-    edges-of-requires
+    kept-edges-requires
+    count-requires
     cast-if1
     mul-if1
     told-requires

@@ -21,7 +21,10 @@ returns-2 : tie.Need-returns-2
 returns-2 c = taken (c .if2 .taken) refl refl
 
 attempt-requires : tie.Need-attempt-requires
-attempt-requires c κs = search needs
+attempt-requires c κs =
+    let s = c .before .before .before .before .before .before .before .before .before .before .before .before .before .pre in
+    let w = s .2 in
+    (w .tabled, w .first-room, s .0, w .masking _ (s .1) (c .before .if2 .left), w .table-room, s .3)
 
 slice-write-claimed : tie.Need-slice-write-claimed
 slice-write-claimed c = search needs

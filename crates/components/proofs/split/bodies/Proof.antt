@@ -9,18 +9,17 @@ use Rattle.connectivity.specs.Plan.{plan}
 use Rattle.labels.specs.Answered.{ForestOf}
 use Rattle.components.specs.Bodies.{Rooting}
 use Rattle.components.proofs.Bodies.{rooting-start, rooting-step, bodied}
-use borrow.Author.Needs.{needs}
 use Rattle.components.proofs.split.bodies.Statement.{statement}
 use Rattle.components.proofs.split.bodies.Tie as tie
 
 abbrev Inv-loop : tie.InvT-loop
-Inv-loop vertices first order table₀ root₀ k₀ table root k = (k ≤ vertices) × (length table ≡ length table₀) × ((ends : List ℕ) → ForestOf (plan vertices ends) first order → Rooting vertices k root first order table₀ table)
+Inv-loop vertices first order table₀ root₀ k₀ table root k = (k ≤ vertices) × (length table ≡ length table₀) × ((ends excluded : List ℕ) → ForestOf (plan vertices ends excluded) first order → Rooting vertices k root first order table₀ table)
 
 abbrev μ-loop : tie.MeasureT-loop
 μ-loop vertices first order table₀ root₀ k₀ table root k = vertices - k
 
 loop-holds : tie.Need-loop-holds Inv-loop μ-loop
-loop-holds c = let s = c .before .before .before .args in (omega arith, refl, λ ends f. rooting-start (s .vertices) (s .first .now) (s .order .now) (s .table .now))
+loop-holds c = let s = c .before .before .before .args in (omega arith, refl, λ ends excluded f. rooting-start (s .vertices) (s .first .now) (s .order .now) (s .table .now))
 
 cast-v : tie.Need-cast-v Inv-loop μ-loop
 cast-v c = search needs
@@ -54,7 +53,7 @@ loop-again c =
     let i = c .before .before .before .loop .inv in
     let p = c .before .before .before .before .before .before .before .pre in
     let l = c .before .before .loop-test .taken in
-    (omega (arith, l), length-set (c .before .before .before .loop .table) _ _ ∙ i .1, λ ends f. rooting-step (plan (c .before .before .before .before .before .before .before .args .vertices) ends) f l (p .table-room) (c .root-of .ensures) (i .2 ends f))
+    (omega (arith, l), length-set (c .before .before .before .loop .table) _ _ ∙ i .1, λ ends excluded f. rooting-step (plan (c .before .before .before .before .before .before .before .args .vertices) ends excluded) f l (p .table-room) (c .root-of .ensures) (i .2 ends excluded f))
 
 same-length : tie.Need-same-length Inv-loop μ-loop
 same-length c = c .before .loop .inv .1
@@ -64,7 +63,7 @@ returns c =
     let i = c .before .loop .inv in
     let s = c .before .before .before .before .before .args in
     let q : c .before .loop .k ≡ s .vertices = omega (arith, i .0, c .loop-test .left) in
-    λ ends f. bodied (plan (s .vertices) ends) f (subst (λ (k : ℕ). Rooting (s .vertices) k (c .before .loop .root) (s .first .now) (s .order .now) (s .table .now) (c .before .loop .table)) q (i .2 ends f))
+    λ ends excluded f low. bodied (plan (s .vertices) ends excluded) f low (subst (λ (k : ℕ). Rooting (s .vertices) k (c .before .loop .root) (s .first .now) (s .order .now) (s .table .now) (c .before .loop .table)) q (i .2 ends excluded f))
 
 pub bodies-spec : {M : Type 1} → statement M
 bodies-spec =

@@ -22,7 +22,7 @@ slice-aggregate-lowest-two c = search needs
 
 lowest-two-requires : tie.Need-lowest-two-requires
 lowest-two-requires c κs =
-    let s = c .before .before .before .before .before .before .before .before .before .before .before .before .before .before .before .before .before .before .before .pre in
+    let s = c .before .before .before .before .before .before .before .before .before .before .before .before .before .before .before .before .before .before .before .before .pre in
     let h = s .0 .shown in
     let r = h .room in
     let e = h .edges in

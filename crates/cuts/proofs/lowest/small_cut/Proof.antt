@@ -11,7 +11,7 @@ cast-edges : tie.Need-cast-edges
 cast-edges c = search needs
 
 lowest-one-requires : tie.Need-lowest-one-requires
-lowest-one-requires c κs = let s = c .before .before .before .before .before .before .before .before .before .before .before .before .before .pre in (shows-one (s .0), s .1)
+lowest-one-requires c κs = let s = c .before .before .before .before .before .before .before .before .before .before .before .before .before .before .pre in (shows-one (s .0), s .1)
 
 cut-requires : tie.Need-cut-requires
 cut-requires c κs = search needs
@@ -30,12 +30,12 @@ same-length-4 c = search needs
 
 returns : tie.Need-returns
 returns c =
-    let w = c .before .before .before .before .before .before .before .before .before .before .before .before .before .before .before .before .before .before .before .before .before .before .before .before .pre .0 in
-    rw (lowest-one (w .admitted) _ refl (w .connected) _ (c .before .if1 .taken) (c .before .before .before .before .before .before .before .before .before .before .lowest-one .ensures .1), c .cut .ensures) (one _)
+    let w = c .before .before .before .before .before .before .before .before .before .before .before .before .before .before .before .before .before .before .before .before .before .before .before .before .before .pre .0 in
+    rw (lowest-one _ _ refl (w .connected) _ (c .before .if1 .taken) (c .before .before .before .before .before .before .before .before .before .before .lowest-one .ensures .1), c .cut .ensures) (one _)
 
 lowest-pair-requires : tie.Need-lowest-pair-requires
 lowest-pair-requires c κs =
-    let s = c .before .before .before .before .before .before .before .before .before .before .before .before .before .before .before .before .before .before .before .before .before .before .before .before .before .before .before .pre in
+    let s = c .before .before .before .before .before .before .before .before .before .before .before .before .before .before .before .before .before .before .before .before .before .before .before .before .before .before .before .before .pre in
     let l = c .before .before .before .before .before .before .before .before .before .before .before .before .before .lowest-one .ensures in
     (shows-both (s .0) (none-one _ _ _ (c .before .before .before .before .if1 .left) (l .1)), ready-again (s .1) (l .2))
 
@@ -53,8 +53,8 @@ same-length-8 c = search needs
 
 returns-2 : tie.Need-returns-2
 returns-2 c =
-    let w = c .before .before .before .before .before .before .before .before .before .before .before .before .before .before .before .before .before .before .before .before .before .before .before .before .before .before .before .before .before .before .before .before .before .before .before .before .pre .0 in
-    rw (lowest-two (w .admitted) _ refl (w .connected) (none-one _ _ _ (c .before .before .before .before .before .before .before .before .before .before .before .before .before .if1 .left) (c .before .before .before .before .before .before .before .before .before .before .before .before .before .before .before .before .before .before .before .before .before .before .lowest-one .ensures .1))) (c .before .before .before .before .before .before .before .before .lowest-pair .ensures)
+    let w = c .before .before .before .before .before .before .before .before .before .before .before .before .before .before .before .before .before .before .before .before .before .before .before .before .before .before .before .before .before .before .before .before .before .before .before .before .before .pre .0 in
+    rw (lowest-two _ _ refl (w .connected) (none-one _ _ _ (c .before .before .before .before .before .before .before .before .before .before .before .before .before .if1 .left) (c .before .before .before .before .before .before .before .before .before .before .before .before .before .before .before .before .before .before .before .before .before .before .lowest-one .ensures .1))) (c .before .before .before .before .before .before .before .before .lowest-pair .ensures)
 
 pub small-cut-spec : {M : Type 1} → statement M
 small-cut-spec =

@@ -1,4 +1,6 @@
--- `lower_end` meets its contract: an end of an edge is a vertex.
+-- `lower_end` meets its contract: an end of the edge.
+use mathlib.Core.Path.{refl}
+use mathlib.Core.Logic.{inl, inr}
 use Prim.Native.Nat.{_*_}
 use native.Mathlib.Omega.{arith}
 use borrow.Author.Needs.{needs}
@@ -27,7 +29,7 @@ add-if1 : tie.Need-add-if1
 add-if1 c = search needs
 
 returns : tie.Need-returns
-returns c = let s = c .before .before .before in λ n b. b (s .args .e) (s .pre .1) .0
+returns c = inl refl
 
 add-result : tie.Need-add-result
 add-result c = search needs
@@ -39,7 +41,7 @@ shared-slice-read-result : tie.Need-shared-slice-read-result
 shared-slice-read-result c = search needs
 
 returns-2 : tie.Need-returns-2
-returns-2 c = let s = c .before .before .before .before in λ n b. b (s .args .e) (s .pre .1) .1
+returns-2 c = inr refl
 
 pub lower-end-spec : {M : Type 1} → statement M
 lower-end-spec =

@@ -1,6 +1,8 @@
 -- `search` meets its contract: the root can be entered, and with tables that are long enough an admitted plan is not refused.
 use borrow.Author.Needs.{needs}
+use Rattle.connectivity.proofs.Kept.{vertex-size, admitted-entire}
 use Rattle.depth.proofs.Left.{fresh-at}
+use Rattle.depth.proofs.Masking.{found-kept}
 use Rattle.depth.proofs.Outcomes.{not-refused, found-from, tabled-enough}
 use Rattle.cuts.proofs.tries.search.Statement.{statement}
 use Rattle.cuts.proofs.tries.search.Tie as tie
@@ -26,8 +28,8 @@ same-length-3 c = c .before .before .before .before .before .before .before .bef
 returns : tie.Need-returns
 returns c =
     let e = rw (c .before .found .given .1) at (c .before .before .before .before .before .before .before .before .before .explore .ensures) in
-    let s = c .before .before .before .before .before .before .before .before .before .before .before .before .before .before .before .before .before .before .before .before .pre in
-    found-from _ _ _ _ _ _ _ _ _ _ _ _ _ (fresh-at _ _ _ (s .1) (s .0 .fresh)) e
+    let s = c .before .before .before .before .before .before .before .before .before .before .before .before .before .before .before .before .before .before .before .before .before .pre in
+    found-kept _ (s .0 .masking) (found-from _ _ _ _ _ _ _ _ _ _ _ _ _ (fresh-at _ _ _ (vertex-size _ (s .1)) (s .0 .fresh)) e)
 
 same-length-4 : tie.Need-same-length-4
 same-length-4 c = c .before .before .before .before .before .before .before .before .explore .kept .1 .1 .1 .1 .1 .1 .1 .0
@@ -41,8 +43,8 @@ same-length-6 c = c .before .before .before .before .before .before .before .bef
 returns-2 : tie.Need-returns-2
 returns-2 c =
     let e = rw (c .enum-told .given .1) at (c .before .before .before .before .before .before .before .before .explore .ensures) in
-    let t = c .before .before .before .before .before .before .before .before .before .before .before .before .before .before .before .before .before .before .before .pre .0 in
-    absurd (not-refused _ _ _ _ _ _ _ _ _ _ _ _ _ (t .tabled .admitted) (tabled-enough (t .tabled) (t .dead-room) (t .marks-room) (t .order-room) (t .cursor-room)) e)
+    let t = c .before .before .before .before .before .before .before .before .before .before .before .before .before .before .before .before .before .before .before .before .pre .0 in
+    absurd (not-refused _ _ _ _ _ _ _ _ _ _ _ _ _ (admitted-entire (t .tabled .admitted)) (tabled-enough (t .tabled) (t .dead-room) (t .marks-room) (t .order-room) (t .cursor-room)) e)
 
 pub search-spec : {M : Type 1} → statement M
 search-spec =

@@ -1,4 +1,4 @@
--- `run` is safe and ends.
+-- `run` is safe.
 use native.Mathlib.Omega.{arith}
 use lib.ListN.{length-take}
 use borrow.Author.Needs.{needs}
@@ -47,14 +47,11 @@ label-requires c κs = search needs
 chain-requires : tie.Need-chain-requires
 chain-requires c κs = search needs
 
+cut-requires : tie.Need-cut-requires
+cut-requires c κs = search needs
+
 below-requires : tie.Need-below-requires
 below-requires c κs = search needs
-
-at-requires : tie.Need-at-requires
-at-requires c κs = search needs
-
-at-requires-2 : tie.Need-at-requires-2
-at-requires-2 c κs = search needs
 
 large-requires : tie.Need-large-requires
 large-requires c κs = search needs
@@ -83,9 +80,8 @@ run-spec =
     balance-requires
     label-requires
     chain-requires
+    cut-requires
     below-requires
-    at-requires
-    at-requires-2
     large-requires
     byte-requires
     returns)

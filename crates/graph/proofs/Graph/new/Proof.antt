@@ -3,10 +3,11 @@ use mathlib.Core.Path.{sym, ap, _∙_}
 use native.Mathlib.Omega.{arith}
 use borrow.Author.Needs.{needs}
 use Rattle.connectivity.specs.Plan.{limits}
+use Rattle.connectivity.proofs.Admission.{told-zero, ends-told}
 use Rattle.graph.specs.declared.Answer.{Answer}
 use Rattle.graph.specs.declared.Admission.the-variants.{Refused}
 use Rattle.graph.specs.Admission.{handed}
-use Rattle.graph.proofs.Laws.{odd, too-few, too-many, too-long, misfit, fits}
+use Rattle.graph.proofs.Laws.{odd, too-few, too-many, too-long, misfit}
 use Rattle.graph.proofs.Graph.new.Statement.{statement}
 use Rattle.graph.proofs.Graph.new.Tie as tie
 
@@ -43,13 +44,13 @@ returns-5 c =
     let same = ap (λ (a : Answer). a .number) e in
     ap (λ (a : Answer). handed (Refused a)) e ∙ sym (misfit limits _ (omega arith) (omega arith) (omega arith) (omega arith) (omega arith))
 
-cast-t9 : tie.Need-cast-t9
-cast-t9 c = search needs
+admit-requires : tie.Need-admit-requires
+admit-requires c κs =
+    let same = ap (λ (a : Answer). a .number) (c .before .judge-ends .ensures) in
+    record { even = omega arith; two = omega arith; small = omega arith; short = omega arith; fits = told-zero (ends-told _ 0 _) (omega arith) }
 
 returns-6 : tie.Need-returns-6
-returns-6 c =
-    let same = ap (λ (a : Answer). a .number) (c .before .judge-ends .ensures) in
-    sym (fits limits _ (omega arith) (omega arith) (omega arith) (omega arith) (omega arith))
+returns-6 c = c .admit .ensures
 
 pub new-spec : {M : Type 1} → statement M
 new-spec =
@@ -65,5 +66,5 @@ new-spec =
     returns-4
     judge-ends-requires
     returns-5
-    cast-t9
+    admit-requires
     returns-6)

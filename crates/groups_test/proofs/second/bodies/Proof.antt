@@ -5,10 +5,10 @@ use Rattle.groups_test.proofs.second.bodies.Statement.{statement}
 use Rattle.groups_test.proofs.second.bodies.Tie as tie
 
 abbrev Inv-loop : tie.InvT-loop
-Inv-loop ends x y pairs₀ turn₀ pairs turn = turn ≤ 8
+Inv-loop ends live pairs₀ turn₀ pairs turn = turn ≤ 8
 
 abbrev μ-loop : tie.MeasureT-loop
-μ-loop ends x y pairs₀ turn₀ pairs turn = 8 - turn
+μ-loop ends live pairs₀ turn₀ pairs turn = 8 - turn
 
 loop-holds : tie.Need-loop-holds Inv-loop μ-loop
 loop-holds c = search needs

@@ -5,13 +5,22 @@ use Rattle.groups_test.proofs.second.held.Statement.{statement}
 use Rattle.groups_test.proofs.second.held.Tie as tie
 
 abbrev Inv-loop : tie.InvT-loop
-Inv-loop ends tabs pairs₀ k₀ pairs k = k ≤ 169
+Inv-loop ends excluded tabs kept pairs₀ k₀ pairs k = k ≤ 169
 
 abbrev μ-loop : tie.MeasureT-loop
-μ-loop ends tabs pairs₀ k₀ pairs k = 169 - k
+μ-loop ends excluded tabs kept pairs₀ k₀ pairs k = 169 - k
+
+kept-requires : tie.Need-kept-requires Inv-loop μ-loop
+kept-requires c κs = search needs
 
 loop-holds : tie.Need-loop-holds Inv-loop μ-loop
 loop-holds c = search needs
+
+one-requires : tie.Need-one-requires Inv-loop μ-loop
+one-requires c κs = search needs
+
+one-requires-2 : tie.Need-one-requires-2 Inv-loop μ-loop
+one-requires-2 c κs = search needs
 
 bodies-requires : tie.Need-bodies-requires Inv-loop μ-loop
 bodies-requires c κs = search needs
@@ -31,4 +40,15 @@ returns c = search needs
 pub held-spec : {M : Type 1} → statement M
 held-spec =
     tie.close
-    (tie.spec Inv-loop μ-loop loop-holds bodies-requires add-k loop-less loop-again returns)
+    (tie.spec
+    Inv-loop
+    μ-loop
+    kept-requires
+    loop-holds
+    one-requires
+    one-requires-2
+    bodies-requires
+    add-k
+    loop-less
+    loop-again
+    returns)

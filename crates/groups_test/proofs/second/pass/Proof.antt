@@ -5,13 +5,16 @@ use Rattle.groups_test.proofs.second.pass.Statement.{statement}
 use Rattle.groups_test.proofs.second.pass.Tie as tie
 
 abbrev Inv-loop : tie.InvT-loop
-Inv-loop ends x y start tabs pairs₀ e₀ pairs e = e ≤ tabs
+Inv-loop ends live start tabs pairs₀ e₀ pairs e = e ≤ tabs
 
 abbrev μ-loop : tie.MeasureT-loop
-μ-loop ends x y start tabs pairs₀ e₀ pairs e = tabs - e
+μ-loop ends live start tabs pairs₀ e₀ pairs e = tabs - e
 
 loop-holds : tie.Need-loop-holds Inv-loop μ-loop
 loop-holds c = search needs
+
+one-requires : tie.Need-one-requires Inv-loop μ-loop
+one-requires c κs = search needs
 
 mul-at : tie.Need-mul-at Inv-loop μ-loop
 mul-at c = search needs
@@ -50,6 +53,7 @@ pass-spec =
     Inv-loop
     μ-loop
     loop-holds
+    one-requires
     mul-at
     at-requires
     mul-at-2

@@ -5,10 +5,10 @@ use Rattle.groups_test.proofs.trial.counted.Statement.{statement}
 use Rattle.groups_test.proofs.trial.counted.Tie as tie
 
 abbrev Inv-loop : tie.InvT-loop
-Inv-loop run i₀ i = i ≤ 16
+Inv-loop run i₀ i = i ≤ 19
 
 abbrev μ-loop : tie.MeasureT-loop
-μ-loop run i₀ i = 16 - i
+μ-loop run i₀ i = 19 - i
 
 slice-aggregate-say : tie.Need-slice-aggregate-say Inv-loop μ-loop
 slice-aggregate-say c = search needs

@@ -10,6 +10,9 @@ fill-requires c κs = search needs
 clear-edges-requires : tie.Need-clear-edges-requires
 clear-edges-requires c κs = search needs
 
+mask-requires : tie.Need-mask-requires
+mask-requires c κs = search needs
+
 clear-requires : tie.Need-clear-requires
 clear-requires c κs = search needs
 
@@ -28,10 +31,11 @@ same-length-4 c = search needs
 returns : tie.Need-returns
 returns c =
     let marks = c .before .before in
-    let edges = marks .before .before .before .before in
+    let barred = marks .before .before .before .before in
+    let edges = barred .before .before .before .before in
     let fill = edges .before .before .before .before .before .before in
-    let start = fill .before .before .before .before .before .before .before .before in
-    prepared (start .pre .0) (start .pre .1) (fill .fill .ensures) (edges .clear-edges .ensures) (marks .clear .ensures)
+    let start = fill .before .before .before .before .before .before .before .before .before in
+    prepared (start .pre .0) (start .pre .1) (fill .fill .ensures) (edges .clear-edges .ensures) (barred .mask .ensures) (marks .clear .ensures)
 
 pub prepare-spec : {M : Type 1} → statement M
 prepare-spec =
@@ -39,6 +43,7 @@ prepare-spec =
     (tie.spec
     fill-requires
     clear-edges-requires
+    mask-requires
     clear-requires
     same-length
     same-length-2

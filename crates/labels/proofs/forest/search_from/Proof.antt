@@ -1,6 +1,10 @@
--- `search_from` meets its contract: over the tables of an admitted plan and with room for all, a search is not refused.
+-- `search_from` meets its contract: over the tables of an admitted plan and with room for all, a search is not refused; it enters no excluded vertex but as its root.
 use borrow.Author.Needs.{needs}
+use Rattle.connectivity.specs.Plan.{plan}
+use Rattle.connectivity.proofs.Kept.{admitted-entire}
 use Rattle.depth.proofs.Outcomes.{not-refused, searched, tabled-enough}
+use Rattle.depth.proofs.Masking.{searched-kept}
+use Rattle.labels.proofs.Masks.{masks-masking}
 use Rattle.labels.proofs.forest.search_from.Statement.{statement}
 use Rattle.labels.proofs.forest.search_from.Tie as tie
 
@@ -25,10 +29,10 @@ same-length-3 c = search needs
 returns : tie.Need-returns
 returns c =
     let explore = c .before .before .before .before .before .before .before .before in
-    let start = explore .before .before .before .before .before .before .before .before .before .before .before in
+    let start = explore .before .before .before .before .before .before .before .before .before .before .before .before in
     let o = start .pre .0 in
     let r = start .pre .1 in
-    absurd (not-refused _ _ _ _ _ _ _ _ _ _ _ _ _ (o .tabled .admitted) (tabled-enough (o .tabled) (o .dead-room) (r .first-room) (r .order-room) (r .cursor-room))
+    absurd (not-refused _ _ _ _ _ _ _ _ _ _ _ _ _ (admitted-entire (o .tabled .admitted)) (tabled-enough (o .tabled) (o .masks .room) (r .first-room) (r .order-room) (r .cursor-room))
     (rw (c .enum-told .given .1) at (explore .explore .ensures)))
 
 same-length-4 : tie.Need-same-length-4
@@ -43,7 +47,9 @@ same-length-6 c = search needs
 returns-2 : tie.Need-returns-2
 returns-2 c =
     let explore = c .before .before .before .before .before .before .before .before .before in
-    searched _ _ _ _ _ _ _ _ _ _ _ _ _ (rw (c .before .found .given .1) at (explore .explore .ensures))
+    let start = explore .before .before .before .before .before .before .before .before .before .before .before .before in
+    let a = start .args in
+    searched-kept (plan (a .vertices) (a .ends .now) (a .excluded .now)) (masks-masking (start .pre .0 .masks)) (searched _ _ _ _ _ _ _ _ _ _ _ _ _ (rw (c .before .found .given .1) at (explore .explore .ensures)))
 
 pub search-from-spec : {M : Type 1} → statement M
 search-from-spec =

@@ -1,9 +1,9 @@
--- `own_one` meets its contract: an edge that is not the first of its lower end is put at its own place, and handed to that first one.
+-- `own_one` meets its contract: an edge that is not the first of its lower end is put at its own place, and handed to that first one, if there is one.
 use native.Mathlib.Omega.{arith}
 use mathlib.Core.Path.{_∙_}
 use Prim.Native.Nat.{_+_, _/_}
 use lib.ListN.{length, length-set}
-use Rattle.numbers.proofs.Steps.{ends-below, mark-edge, own-other, own-first}
+use Rattle.numbers.proofs.Steps.{ends-below, mark-edge, own-other, own-none, own-first}
 use borrow.Author.Needs.{needs}
 use Rattle.numbers.proofs.below.own_one.Statement.{statement}
 use Rattle.numbers.proofs.below.own_one.Tie as tie
@@ -14,8 +14,8 @@ lower-requires c κs = let pre = c .before .before .before .before .pre in (pre 
 mark-requires : tie.Need-mark-requires
 mark-requires c κs = search needs
 
-add-if1 : tie.Need-add-if1
-add-if1 c = search needs
+add-if2 : tie.Need-add-if2
+add-if2 c = search needs
 
 add-over : tie.Need-add-over
 add-over c = search needs
@@ -31,7 +31,7 @@ add-hand c = search needs
 
 hand-requires : tie.Need-hand-requires
 hand-requires c κs =
-    let m = c .before .before in
+    let m = c .before .before .before in
     let a = m .before .before .before .before .before .before .args in
     let pre = m .before .before .before .before .before .before .pre in (
       ends-below (pre .0),
@@ -41,23 +41,28 @@ hand-requires c κs =
 same-length : tie.Need-same-length
 same-length c =
     let h = c .before .before in
-    let a = h .before .before .before .before .before .before .before .before .before .args in
+    let a = h .before .before .before .before .before .before .before .before .before .before .args in
     h .hand .kept .1 .1 .1 .1 .0 ∙ length-set (a .over .now) (a .e) (a .e + 1)
 
 returns : tie.Need-returns
 returns c =
     let h = c .before .before in
-    let m = h .before .before .before in
-    let start = m .before .before .before .before .before .before in
-    let a = start .args in
+    let m = h .before .before .before .before in
+    let a = m .before .before .before .before .before .before .args in
     own-other (a .vertices) (a .ends .now) (a .first .now) (a .number .now) (a .over .now) (a .e) (m .mark .result) (m .before .lower .result) (m .before .lower .ensures) (m .mark .ensures) _
-    (h .before .before .if1 .taken) (h .hand .ensures)
+    (h .before .before .before .if1 .taken) (h .before .before .if2 .taken) (h .hand .ensures)
 
 returns-2 : tie.Need-returns-2
 returns-2 c =
+    let m = c .before .before in
+    let a = m .before .before .before .before .before .before .args in
+    own-first (a .vertices) (a .ends .now) (a .first .now) (a .number .now) (a .over .now) (a .e) (m .mark .result) (m .before .lower .result) (m .before .lower .ensures) (m .mark .ensures) (c .if2 .left)
+
+returns-3 : tie.Need-returns-3
+returns-3 c =
     let m = c .before in
     let a = m .before .before .before .before .before .before .args in
-    own-first (a .vertices) (a .ends .now) (a .first .now) (a .number .now) (a .over .now) (a .e) (m .mark .result) (m .before .lower .result) (m .before .lower .ensures) (m .mark .ensures) (c .if1 .left)
+    own-none (a .vertices) (a .ends .now) (a .first .now) (a .number .now) (a .over .now) (a .e) (m .mark .result) (m .before .lower .result) (m .before .lower .ensures) (m .mark .ensures) (c .if1 .left)
 
 pub own-one-spec : {M : Type 1} → statement M
 own-one-spec =
@@ -65,7 +70,7 @@ own-one-spec =
     (tie.spec
     lower-requires
     mark-requires
-    add-if1
+    add-if2
     add-over
     mul-over
     slice-write-over
@@ -73,4 +78,5 @@ own-one-spec =
     hand-requires
     same-length
     returns
-    returns-2)
+    returns-2
+    returns-3)

@@ -29,7 +29,7 @@ build-all-requires : tie.Need-build-all-requires
 build-all-requires c κs =
     let below = c .before .before .before .before .before .before .before in
     let start = below .before .before .before .before .before .before .before .before .before .before in
-    ready (start .pre .0) (start .pre .1) (below .look-below .ensures)
+    ready (start .pre) (below .look-below .ensures)
 
 same-length : tie.Need-same-length
 same-length c = search needs
@@ -38,8 +38,7 @@ returns : tie.Need-returns
 returns c =
     let build = c .before .before .before in
     let below = build .before .before .before .before .before .before .before .before in
-    let start = below .before .before .before .before .before .before .before .before .before .before in
-    build .build-all .ensures (ready (start .pre .0) (start .pre .1) (below .look-below .ensures))
+    λ d. build .build-all .ensures (ready d (below .look-below .ensures))
 
 pub build-record-spec : {M : Type 1} → statement M
 build-record-spec =

@@ -6,7 +6,7 @@ use Prim.Native.Nat.{_+_, _<_, _≤_}
 use borrow.Author.Needs.{needs}
 use Rattle.graph.specs.Marks.{read}
 use Rattle.record.proofs.TwoTips.{tips-length}
-use Rattle.record.proofs.Parts.{own-room, own-small, next-small, split-cutting, split-new, split-already, split-old, split-more}
+use Rattle.record.proofs.Parts.{v-fits, own-room, own-small, next-small, split-cutting, split-new, split-already, split-old, split-more}
 use Rattle.record.proofs.link.split.Statement.{statement}
 use Rattle.record.proofs.link.split.Tie as tie
 
@@ -27,7 +27,7 @@ mul-own : tie.Need-mul-own
 mul-own c = search needs
 
 slice-read-own : tie.Need-slice-read-own
-slice-read-own c = search needs
+slice-read-own c = v-fits (c .before .before .before .before .before .before .pre)
 
 returns : tie.Need-returns
 returns c = split-already (c .if1 .taken)
@@ -36,7 +36,7 @@ mul-places : tie.Need-mul-places
 mul-places c = search needs
 
 slice-write-places : tie.Need-slice-write-places
-slice-write-places c = search needs
+slice-write-places c = omega (arith, v-fits (entry c .pre))
 
 cast-k : tie.Need-cast-k
 cast-k c = omega (arith, own-small (entry c .pre))

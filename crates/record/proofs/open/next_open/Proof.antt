@@ -16,17 +16,17 @@ abbrev μ-loop : tie.MeasureT-loop
 
 -- the vertex and its group are there
 here : (l : tie.At-loop Inv-loop μ-loop) → let s = l .before .before .before .before .before in
-    (getD (s .args .order .now) (l .loop .i) 0 < s .pre .n) × (l .loop .i < length (s .args .order .now)) × (getD (s .args .order .now) (l .loop .i) 0 + 1 < length (s .args .begins .now))
+    (getD (s .args .order .now) (l .loop .i) 0 < s .pre .p .vertices) × (l .loop .i < length (s .args .order .now)) × (getD (s .args .order .now) (l .loop .i) 0 + 1 < length (s .args .begins .now))
 here l = let s = l .before .before .before .before .before in scanned-vertex (s .pre) (l .loop .inv (s .pre))
 
 -- the next is too, where the group has nothing
-more : (c : tie.Else1 Inv-loop μ-loop) → let l = c .before .before .before .before in l .loop .i + 1 < l .before .before .before .before .before .pre .n
+more : (c : tie.Else1 Inv-loop μ-loop) → let l = c .before .before .before .before in l .loop .i + 1 < l .before .before .before .before .before .pre .p .vertices
 more c =
     let l = c .before .before .before .before in
     let s = l .before .before .before .before .before in
     scanned-more (s .pre) (l .loop .inv (s .pre)) (c .before .next-slot .ensures) (omega (arith, c .if1 .left))
 
-few : (l : tie.At-loop Inv-loop μ-loop) → l .before .before .before .before .before .pre .n ≤ limits .vertices
+few : (l : tie.At-loop Inv-loop μ-loop) → l .before .before .before .before .before .pre .p .vertices ≤ limits .vertices
 few l = l .before .before .before .before .before .pre .admitted .vertices
 
 loop-holds : tie.Need-loop-holds Inv-loop μ-loop

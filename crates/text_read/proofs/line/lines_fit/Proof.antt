@@ -1,73 +1,42 @@
--- `lines_fit` meets its contract. The loop's invariant: the text fits exactly if it does so from the next line on.
-use mathlib.Core.Path.{_≡_, refl, sym, _∙_}
-use Prim.Native.Nat.{_+_, _≤_}
+-- `lines_fit` meets its contract: lines that are there end where the text does.
+use mathlib.Core.Path.{sym, _∙_}
 use native.Mathlib.Omega.{arith}
-use lib.ListN.{length, drop, length-drop}
-use borrow.Author.Tests.{not-true, not-false}
-use Rattle.text.specs.Column.{five, largest, lineSize, linesFit}
-use Rattle.text.proofs.Laws.{lines-next, lines-last, line-long}
+use lib.ListN.{drop, length-drop}
+use borrow.Author.Needs.{needs}
+use Rattle.text.specs.Column.{five, largest}
+use Rattle.text.proofs.Laws.{begin-long, fit-none, fit-some}
 use Rattle.text_read.proofs.line.lines_fit.Statement.{statement}
 use Rattle.text_read.proofs.line.lines_fit.Tie as tie
 
-abbrev Inv-loop : tie.InvT-loop
-Inv-loop text at columns count next₀ left₀ next left = (next ≤ length text) × (columns ≤ 3) × (linesFit five largest columns count (drop at text) ≡ linesFit five largest columns left (drop next text))
+lines-begin-requires : tie.Need-lines-begin-requires
+lines-begin-requires c κs = search needs
 
-abbrev μ-loop : tie.MeasureT-loop
-μ-loop text at columns count next₀ left₀ next left = left
+sub-result : tie.Need-sub-result
+sub-result c = search needs
 
-loop-holds : tie.Need-loop-holds Inv-loop μ-loop
-loop-holds c = (omega arith, omega arith, refl)
+mul-result : tie.Need-mul-result
+mul-result c = search needs
 
-judge-line-requires : tie.Need-judge-line-requires Inv-loop μ-loop
-judge-line-requires c κs = omega arith
+add-result : tie.Need-add-result
+add-result c = search needs
 
-returns : tie.Need-returns Inv-loop μ-loop
+mul-result-2 : tie.Need-mul-result-2
+mul-result-2 c =
+    let a = c .before .before .before .args in
+    omega (arith, begin-long five largest (a .columns) (a .count) (drop (a .at) (a .text .now)) (sym (c .before .lines-begin .ensures) ∙ c .if1 .taken), length-drop (a .at) (a .text .now))
+
+returns : tie.Need-returns
 returns c =
-    let l = c .before .before .before in
-    let a = l .before .before .args in
-    let q = sym (c .before .judge-line .ensures .0) ∙ not-true _ (c .if1 .taken) in
-    sym (l .loop .inv .2 ∙ lines-next five (a .columns) (l .loop .left) (l .loop .next) (a .text .now) (omega arith) largest ∙ rw q)
+    let a = c .before .before .before .args in
+    let text = drop (a .at) (a .text .now) in
+    sym (fit-some five largest (a .columns) (a .count) text (sym (c .before .lines-begin .ensures) ∙ c .if1 .taken) ∙ rw (length-drop (a .at) (a .text .now)))
 
--- a line that fits is there
-room : (c : tie.Else1 Inv-loop μ-loop)
-    → let l = c .before .before .before in
-    l .loop .next + lineSize five (l .before .before .args .columns) ≤ length (l .before .before .args .text .now)
-room c =
-    let l = c .before .before .before in
-    let a = l .before .before .args in
-    let q = sym (c .before .judge-line .ensures .0) ∙ not-false _ (c .if1 .left) in
-    omega (arith, line-long five largest (a .columns) (drop (l .loop .next) (a .text .now)) q, length-drop (l .loop .next) (a .text .now))
-
-sub-left : tie.Need-sub-left Inv-loop μ-loop
-sub-left c = omega arith
-
-loop-less : tie.Need-loop-less Inv-loop μ-loop
-loop-less c = omega arith
-
-loop-again : tie.Need-loop-again Inv-loop μ-loop
-loop-again c =
-    let l = c .before .before .before in
-    let a = l .before .before .args in
-    let q = sym (c .before .judge-line .ensures .0) ∙ not-false _ (c .if1 .left) in
-    let n = c .before .judge-line .ensures .1 (not-false _ (c .if1 .left)) in
-    (omega (arith, n, room c), omega arith, rw n (l .loop .inv .2 ∙ lines-next five (a .columns) (l .loop .left) (l .loop .next) (a .text .now) (omega arith) largest ∙ rw q))
-
-returns-2 : tie.Need-returns-2 Inv-loop μ-loop
+returns-2 : tie.Need-returns-2
 returns-2 c =
-    let l = c .before in
-    let a = l .before .before .args in
-    sym (l .loop .inv .2 ∙ lines-last five largest (a .columns) (l .loop .left) (l .loop .next) (a .text .now) (omega arith) (omega arith))
+    let a = c .before .before .before .args in
+    sym (fit-none five largest (a .columns) (a .count) (drop (a .at) (a .text .now)) (sym (c .before .lines-begin .ensures) ∙ c .if1 .left))
 
 pub lines-fit-spec : {M : Type 1} → statement M
 lines-fit-spec =
     tie.close
-    (tie.spec
-    Inv-loop
-    μ-loop
-    loop-holds
-    judge-line-requires
-    returns
-    sub-left
-    loop-less
-    loop-again
-    returns-2)
+    (tie.spec lines-begin-requires sub-result mul-result add-result mul-result-2 returns returns-2)

@@ -5,16 +5,16 @@ use Prim.Native.Nat.{_+_, _*_, _-_, _≤_}
 use native.Mathlib.Omega.{arith}
 use lib.ListN.{length, drop, length-drop}
 use lib.Seq.{sets}
-use Rattle.text.specs.Column.{five, largest, lineSize, linesFit, linesNumbers}
+use Rattle.text.specs.Column.{five, largest, lineSize, linesBegin, linesNumbers}
 use Rattle.text.proofs.Laws.{lines-true, store-lines-next, lines-numbers-last, one-less}
 use Rattle.text_read.proofs.line.store_lines.Statement.{statement}
 use Rattle.text_read.proofs.line.store_lines.Tie as tie
 
 abbrev Inv-loop : tie.InvT-loop
-Inv-loop text at columns count list₀ next₀ to₀ left₀ list next to left = (next ≤ length text) × (length list ≡ length list₀) × (to + columns * left ≤ length list) × (linesFit five largest columns left (drop next text) ≡ true) × (sets list to (linesNumbers five columns left (drop next text)) ≡ sets list₀ 0 (linesNumbers five columns count (drop at text)))
+Inv-loop text at columns count list₀ to next₀ place₀ left₀ list next place left = (next ≤ length text) × (length list ≡ length list₀) × (place + columns * left ≤ length list) × (linesBegin five largest columns left (drop next text) ≡ true) × (sets list place (linesNumbers five columns left (drop next text)) ≡ sets list₀ to (linesNumbers five columns count (drop at text)))
 
 abbrev μ-loop : tie.MeasureT-loop
-μ-loop text at columns count list₀ next₀ to₀ left₀ list next to left = left
+μ-loop text at columns count list₀ to next₀ place₀ left₀ list next place left = left
 
 loop-holds : tie.Need-loop-holds Inv-loop μ-loop
 loop-holds c = let s = c .before .before in (omega arith, refl, omega arith, s .pre .3, refl)
@@ -30,15 +30,15 @@ store-line-requires c κs =
 turn : (c : tie.After-slice-known2 Inv-loop μ-loop)
     → let l = c .before .before .before .before .before in
     let a = l .before .before .before .args in
-    (l .loop .next + lineSize five (a .columns) ≤ length (a .text .now)) × (l .loop .to + a .columns + a .columns * (l .loop .left - 1) ≤ length (l .loop .list))
+    (l .loop .next + lineSize five (a .columns) ≤ length (a .text .now)) × (l .loop .place + a .columns + a .columns * (l .loop .left - 1) ≤ length (l .loop .list))
 turn c =
     let l = c .before .before .before .before .before in
     let a = l .before .before .before .args in
     let q = lines-true five (a .columns) (l .loop .left) (l .loop .next) (a .text .now) (omega arith) largest (l .loop .inv .3) in
     (omega (arith, q .2, length-drop (l .loop .next) (a .text .now)), omega (arith, one-less (a .columns) (l .loop .left) (omega arith)))
 
-add-to : tie.Need-add-to Inv-loop μ-loop
-add-to c = omega (arith, turn c)
+add-place : tie.Need-add-place Inv-loop μ-loop
+add-place c = omega (arith, turn c)
 
 sub-left : tie.Need-sub-left Inv-loop μ-loop
 sub-left c = omega arith
@@ -57,7 +57,7 @@ loop-again c =
       omega (arith, w .kept .1 .1 .1 .0),
       omega (arith, t .1, w .kept .1 .1 .1 .0),
       rw (w .ensures .0) (q .1),
-      rw (w .ensures .0, w .ensures .1) (sym (store-lines-next five (l .loop .list) (a .text .now) (l .loop .to) (l .loop .next) (a .columns) (l .loop .left) (omega arith)) ∙ l .loop .inv .4),
+      rw (w .ensures .0, w .ensures .1) (sym (store-lines-next five (l .loop .list) (a .text .now) (l .loop .place) (l .loop .next) (a .columns) (l .loop .left) (omega arith)) ∙ l .loop .inv .4),
     )
 
 same-length : tie.Need-same-length Inv-loop μ-loop
@@ -74,7 +74,7 @@ store-lines-spec =
     μ-loop
     loop-holds
     store-line-requires
-    add-to
+    add-place
     sub-left
     loop-less
     loop-again

@@ -16,7 +16,7 @@ passed : (c : tie.Else3) → let a = c .before .before .before .before .before .
     ≡ cond ((eqb (getD (a .ends .now) (2 * a .e) 0) (a .v) || eqb (getD (a .ends .now) (2 * a .e + 1) 0) (a .v)) && (eqb (a .run .first) (a .row) || eqb (a .run .at) (a .v))) 0 12
 passed c =
     let two = c .before .before in
-    rw (eq-eqb _ _ (two .before .if1 .left), lt-ltb _ _ (two .if2 .left), c .if3 .left)
+    rw (eq-eqb _ _ (two .before .if1 .left), lt-ltb _ _ (two .if2 .left), eq-eqb _ _ (c .if3 .left))
 
 -- and its vertex is an end of the edge
 ended : (c : tie.Else4) → let a = c .before .before .before .before .before .before .before .before .before .before .args in
@@ -34,7 +34,7 @@ shared-slice-read-if3 : tie.Need-shared-slice-read-if3
 shared-slice-read-if3 c = search needs
 
 returns-3 : tie.Need-returns-3
-returns-3 c = let two = c .before .before in rw (eq-eqb _ _ (two .before .if1 .left), lt-ltb _ _ (two .if2 .left), c .if3 .taken)
+returns-3 c = let two = c .before .before in rw (eq-eqb _ _ (two .before .if1 .left), lt-ltb _ _ (two .if2 .left), ne-eqb _ _ (c .if3 .taken))
 
 mul-is-end : tie.Need-mul-is-end
 mul-is-end c = search needs

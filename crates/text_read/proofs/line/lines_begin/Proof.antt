@@ -1,0 +1,73 @@
+-- `lines_begin` meets its contract. The loop's invariant: the text begins so exactly if it does from the next line on.
+use mathlib.Core.Path.{_≡_, refl, sym, _∙_}
+use Prim.Native.Nat.{_+_, _≤_}
+use native.Mathlib.Omega.{arith}
+use lib.ListN.{length, drop, length-drop}
+use borrow.Author.Tests.{not-true, not-false}
+use Rattle.text.specs.Column.{five, largest, lineSize, linesBegin}
+use Rattle.text.proofs.Laws.{lines-next, lines-last, line-long}
+use Rattle.text_read.proofs.line.lines_begin.Statement.{statement}
+use Rattle.text_read.proofs.line.lines_begin.Tie as tie
+
+abbrev Inv-loop : tie.InvT-loop
+Inv-loop text at columns count next₀ left₀ next left = (next ≤ length text) × (columns ≤ 3) × (linesBegin five largest columns count (drop at text) ≡ linesBegin five largest columns left (drop next text))
+
+abbrev μ-loop : tie.MeasureT-loop
+μ-loop text at columns count next₀ left₀ next left = left
+
+loop-holds : tie.Need-loop-holds Inv-loop μ-loop
+loop-holds c = (omega arith, omega arith, refl)
+
+judge-line-requires : tie.Need-judge-line-requires Inv-loop μ-loop
+judge-line-requires c κs = omega arith
+
+returns : tie.Need-returns Inv-loop μ-loop
+returns c =
+    let l = c .before .before .before in
+    let a = l .before .before .args in
+    let q = sym (c .before .judge-line .ensures .0) ∙ not-true _ (c .if1 .taken) in
+    sym (l .loop .inv .2 ∙ lines-next five (a .columns) (l .loop .left) (l .loop .next) (a .text .now) (omega arith) largest ∙ rw q)
+
+-- a line that fits is there
+room : (c : tie.Else1 Inv-loop μ-loop)
+    → let l = c .before .before .before in
+    l .loop .next + lineSize five (l .before .before .args .columns) ≤ length (l .before .before .args .text .now)
+room c =
+    let l = c .before .before .before in
+    let a = l .before .before .args in
+    let q = sym (c .before .judge-line .ensures .0) ∙ not-false _ (c .if1 .left) in
+    omega (arith, line-long five largest (a .columns) (drop (l .loop .next) (a .text .now)) q, length-drop (l .loop .next) (a .text .now))
+
+sub-left : tie.Need-sub-left Inv-loop μ-loop
+sub-left c = omega arith
+
+loop-less : tie.Need-loop-less Inv-loop μ-loop
+loop-less c = omega arith
+
+loop-again : tie.Need-loop-again Inv-loop μ-loop
+loop-again c =
+    let l = c .before .before .before in
+    let a = l .before .before .args in
+    let q = sym (c .before .judge-line .ensures .0) ∙ not-false _ (c .if1 .left) in
+    let n = c .before .judge-line .ensures .1 (not-false _ (c .if1 .left)) in
+    (omega (arith, n, room c), omega arith, rw n (l .loop .inv .2 ∙ lines-next five (a .columns) (l .loop .left) (l .loop .next) (a .text .now) (omega arith) largest ∙ rw q))
+
+returns-2 : tie.Need-returns-2 Inv-loop μ-loop
+returns-2 c =
+    let l = c .before in
+    let a = l .before .before .args in
+    sym (l .loop .inv .2 ∙ lines-last five largest (a .columns) (l .loop .left) (drop (l .loop .next) (a .text .now)) (omega arith))
+
+pub lines-begin-spec : {M : Type 1} → statement M
+lines-begin-spec =
+    tie.close
+    (tie.spec
+    Inv-loop
+    μ-loop
+    loop-holds
+    judge-line-requires
+    returns
+    sub-left
+    loop-less
+    loop-again
+    returns-2)
