@@ -4,12 +4,12 @@ use mathlib.Core.Bool.{Bool, true, false, not}
 use mathlib.Core.List.{List}
 use Prim.Native.Nat.{ℕ, _*_, _/_, _≤_, _<_}
 use native.Mathlib.Omega.{arith}
-use lib.Dec.{eqb, ltb}
+use lib.Dec.{T, eqb, ltb}
 use lib.ListN.{length, getD, replicate, length-replicate}
 use Rattle.connectivity.specs.Plan.{Plan, entire, graph, Limits}
 use Rattle.connectivity.specs.Graph.{isVertex, isEdge}
 use Rattle.connectivity.specs.Admission.{Answer, passed, keptVertices, Admitted, admission}
-use Rattle.connectivity.proofs.Lists.{T-dec, T-true, T-false}
+use Rattle.connectivity.proofs.Lists.{T-dec, T-true, T-false, decides-le, decides-and}
 use Rattle.connectivity.proofs.Search.{is-vertex, is-edge}
 use Rattle.connectivity.proofs.CutOff.{Lowest}
 use Rattle.connectivity.proofs.Admission.{admission-number}
@@ -24,6 +24,7 @@ use Rattle.graph.proofs.Handed.{lent-own, refused-not, refused-answer}
 use Rattle.graph.proofs.Telling.{told-refused}
 use Rattle.graph.proofs.Barring.{lowest-is, masked-out, masked-in}
 use Rattle.incidence.specs.Tables.{Filled, Tabled}
+use Rattle.incidence.specs.Tables as tables
 use Rattle.incidence.proofs.Filled.{filled-for, tabled-room}
 use Rattle.depth.specs.declared.Explored.{Explored}
 use Rattle.depth.specs.declared.Explored.the-variants.{Refused, Seen}
@@ -55,6 +56,15 @@ ready most =
     }
 
 -- What `without` says: the plan's own refusal, or what the search has left.
+
+-- with room for every plan, filling answers what all that is listed is refused by
+pub whole-told : {most : Limits} {w : Plan} {incident₀ begins₀ dead₀ first₀ order₀ cursor₀ incident begins : List ℕ} {a : code.Answer}
+    → Ready most incident₀ begins₀ dead₀ first₀ order₀ cursor₀ → Filled most w incident₀ begins₀ incident begins a → a ≡ toldBy (lent most w true)
+whole-told {most} {w} {incident₀} {begins₀} s f =
+    let room : Admitted most w → T (tables.enough w incident₀ begins₀)
+    = λ d. decides-and (decides-le (2 * (length (w .ends) / 2)) (length incident₀)) (decides-le (w .vertices) (length begins₀)) .test
+    (omega (arith, d .edges, d .even, s .incident-room), omega (arith, d .vertices, s .begins-room)) in
+    f .answer ∙ ap toldBy (lent-own most w (tables.enough w incident₀ begins₀) room ∙ sym (lent-own most w true (λ d. tt)))
 
 pub own-refusal : {most : Limits} {p : Plan} {a : code.Answer} → a ≡ toldBy (lent most p true) → (a .number ≡ 0 → ⊥) → (Admitted most p → ⊥) × (a ≡ toldBy (admission most p))
 own-refusal {most} {p} q h =

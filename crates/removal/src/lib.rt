@@ -3,10 +3,12 @@ use depth::Explored;
 use graph::Answer;
 use graph::Graph;
 ghost use mathlib.Core.Path.{_≡_};
+ghost use mathlib.Core.Bool.{true};
 ghost use mathlib.Core.List.{List};
 ghost use Prim.Native.Nat.{ℕ, _≤_};
 ghost use lib.ListN.{length};
-ghost use Rattle.connectivity.specs.Plan.{plan, limits};
+ghost use Rattle.connectivity.specs.Plan.{plan, entire, limits};
+ghost use Rattle.graph.specs.Admission.{toldBy, lent};
 ghost use Rattle.removal.specs.Cut.{handed, splitBy, Answered, Ready, Left, Searched, Copied};
 
 // What is said of a set of edges (01: a set of tabs): refused; the rest is connected (one body); or it is not (the set parts the sheet).
@@ -75,12 +77,12 @@ fn without(
     requires { ⌜ Ready limits (now incident) (now begins) (now dead) (now first) (now order) (now cursor) ⌝ }
     ensures { λ r. ⌜ Searched limits (plan vertices (now (ends .entry)) (now (excluded .entry))) (now (cut .entry)) (now (first .exit)) r ⌝ }
 {
-    let own = graph::refusal(vertices, ends, excluded, false);
-    let number = own.number;
+    let filled = incidence::fill(vertices, ends, incident, begins);
+    let answer = own(vertices, ends, excluded, filled);
+    let number = answer.number;
     if number != 0 {
-        return Explored::Refused(own);
+        return Explored::Refused(answer);
     }
-    incidence::fill(vertices, ends, incident, begins);
     graph::excluded::mark(cut, dead);
     graph::excluded::mask(ends, excluded, dead);
     let root = graph::excluded::lowest_kept(excluded) as u16;
@@ -96,6 +98,18 @@ fn without(
         order,
         cursor,
     )
+}
+
+// The plan's own refusal, where `filled` is that of all that it lists: without excluded vertices it is the same, and no edge is looked at
+// again.
+fn own(vertices: u16, ends: &[u16], excluded: &[u16], filled: Answer) -> Answer
+    requires { ⌜ filled ≡ toldBy (lent limits (entire vertices (now ends)) true) ⌝ }
+    ensures { λ r. ⌜ r ≡ toldBy (lent limits (plan vertices (now (ends .entry)) (now (excluded .entry))) true) ⌝ }
+{
+    if excluded.len() == 0 {
+        return filled;
+    }
+    graph::refusal(vertices, ends, excluded, false)
 }
 
 // What a search that has seen `count` vertices says of a cut: refused by 6 where `reached` is too short.
