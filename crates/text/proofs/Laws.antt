@@ -9,7 +9,7 @@ use native.Mathlib.Nat.{suc-mul, mul-suc, pow-suc, one-le-pow, mul-le-mul-left}
 use native.Mathlib.Decide.{ℕ-discrete}
 use lib.Dec.{eqb, leb}
 use lib.ListN.{length, take, drop, getD, set, length-take, length-drop, length-append, drop-of-length-le}
-use lib.Seq.{sets, length-take-le, drop-cons, take-suc, take-suc-set, take-take, drop-drop, getD-drop, getD-take, take-nil}
+use lib.Seq.{sets, length-take-le, drop-cons, take-take, drop-drop, getD-drop, getD-take, take-nil}
 use borrow.Author.Tests.{leb-true, eqb-true, eq-eqb, ne-eqb}
 use Rattle.text.specs.Column.{worths, byteAt, column, line, lines, lineSize, digit, value, same, columnFits, lineFits, numbers, linesBegin, behindLines, linesFit, linesNumbers}
 
@@ -20,6 +20,14 @@ and-true true true p = (refl, refl)
 and-true true false p = (refl, p)
 and-true false true p = (p, refl)
 and-true false false p = (p, p)
+
+pub and-right : (a : Bool) → (a && true) ≡ a
+and-right true = refl
+and-right false = refl
+
+and-assoc : (a b c : Bool) → ((a && b) && c) ≡ (a && (b && c))
+and-assoc true b c = refl
+and-assoc false b c = refl
 
 pub same-true : (a b : List ℕ) → same a b ≡ true → a ≡ b
 unfolding same
@@ -53,16 +61,12 @@ pub column-next : (ws : List ℕ) (x i : ℕ) → i < length ws → column (drop
 unfolding column
 column-next ws x i h = rw (add-one i, drop-cons ws i 0 h)
 
-same-next : (a b : List ℕ) (i : ℕ) → i < length a → i < length b → same (drop i a) (drop i b) ≡ (eqb (getD a i 0) (getD b i 0) && same (drop (i + 1) a) (drop (i + 1) b))
-unfolding same
-same-next a b i h k = rw (add-one i, drop-cons a i 0 h, drop-cons b i 0 k)
-
-pub value-next : (ws col : List ℕ) (i : ℕ) → i < length ws → i < length col
+value-next : (ws col : List ℕ) (i : ℕ) → i < length ws → i < length col
     → value (drop i ws) (drop i col) ≡ getD ws i 0 * digit (getD col i 0) + value (drop (i + 1) ws) (drop (i + 1) col)
 unfolding value
 value-next ws col i h k = rw (add-one i, drop-cons ws i 0 h, drop-cons col i 0 k)
 
-digit-most : (b : ℕ) → digit b ≤ 9
+pub digit-most : (b : ℕ) → digit b ≤ 9
 unfolding digit
 digit-most b = go (leb 48 b) (leb b 57) refl
   where
@@ -113,20 +117,6 @@ numbers-part ws zero text = refl
 numbers-part ws (suc k) text =
     rw (size-suc ws k, take-less (length ws) (lineSize ws k) text, drop-take (length ws) (lineSize ws k) text, numbers-part ws k (drop (length ws) text))
 
--- so it may be read of a copy
-module _ (ws : List ℕ) (k : ℕ) (copy text : List ℕ) (p : take (lineSize ws k) copy ≡ take (lineSize ws k) text) where
-  pub line-copied : (most : ℕ) → lineFits ws most k copy ≡ lineFits ws most k text
-  line-copied most = sym (line-part ws most k copy) ∙ ap (lineFits ws most k) p ∙ line-part ws most k text
-
-  pub numbers-copied : numbers ws k copy ≡ numbers ws k text
-  numbers-copied = sym (numbers-part ws k copy) ∙ ap (numbers ws k) p ∙ numbers-part ws k text
-
-pub copy-next : (copy text : List ℕ) (at i : ℕ) → i < length copy → at + i < length text → take i copy ≡ take i (drop at text)
-    → take (i + 1) (set copy i (getD text (at + i) 0)) ≡ take (i + 1) (drop at text)
-copy-next copy text at i h k p =
-    let l : i < length (drop at text) = omega (arith, length-drop at text) in
-    rw (add-one i, take-suc-set copy i (getD text (at + i) 0) h, take-suc (drop at text) i 0 l, getD-drop at text i 0, p)
-
 -- lists filled from a place on
 pub sets-append : (l : List ℕ) (i : ℕ) (xs ys : List ℕ) → sets l i (xs ++ ys) ≡ sets (sets l i xs) (i + length xs) ys
 sets-append l i [] ys = let p : i + 0 ≡ i = omega arith in rw p
@@ -134,36 +124,19 @@ sets-append l i (x ∷ xs) ys =
     let p : i + suc (length xs) ≡ suc i + length xs = omega arith in
     rw p (sets-append (set l i x) (suc i) xs ys)
 
--- what the loops over the worths use, of the column that begins at a place of a copied line
-module _ (ws copy : List ℕ) (at i : ℕ) (h : i < length ws) (k : at + length ws ≤ length copy) where
+-- what the loops over the worths use, of the column that begins at a place of a line
+module _ (ws l : List ℕ) (at i : ℕ) (h : i < length ws) (k : at + length ws ≤ length l) where
   abbrev col : List ℕ
-  col = take (length ws) (drop at copy)
+  col = take (length ws) (drop at l)
 
-  col-long : i < length col
-  col-long = omega (arith, length-take (length ws) (drop at copy), length-drop at copy)
+  pub col-long : i < length col
+  col-long = omega (arith, length-take (length ws) (drop at l), length-drop at l)
 
-  col-at : getD col i 0 ≡ getD copy (at + i) 0
-  col-at = getD-take (length ws) (drop at copy) i 0 h ∙ getD-drop at copy i 0
+  pub col-at : getD col i 0 ≡ getD l (at + i) 0
+  col-at = getD-take (length ws) (drop at l) i 0 h ∙ getD-drop at l i 0
 
-  pub number-next : (d : ℕ) → d ≡ digit (getD copy (at + i) 0) → value (drop i ws) (drop i col) ≡ getD ws i 0 * d + value (drop (i + 1) ws) (drop (i + 1) col)
+  pub number-next : (d : ℕ) → d ≡ digit (getD l (at + i) 0) → value (drop i ws) (drop i col) ≡ getD ws i 0 * d + value (drop (i + 1) ws) (drop (i + 1) col)
   number-next d p = value-next ws col i h col-long ∙ rw (col-at, p)
-
-  module _ (bytes : List ℕ) (l : length bytes ≡ length ws) where
-    bytes-next : same (drop i bytes) (drop i col) ≡ (eqb (getD bytes i 0) (getD copy (at + i) 0) && same (drop (i + 1) bytes) (drop (i + 1) col))
-    bytes-next = same-next bytes col i (omega arith) col-long ∙ rw col-at
-
-    pub bytes-same : getD copy (at + i) 0 ≡ getD bytes i 0 → same (drop i bytes) (drop i col) ≡ same (drop (i + 1) bytes) (drop (i + 1) col)
-    bytes-same q = bytes-next ∙ rw (eq-eqb (getD bytes i 0) (getD copy (at + i) 0) (sym q))
-
-    pub bytes-differ : (getD copy (at + i) 0 ≡ getD bytes i 0 → ⊥) → same (drop i bytes) (drop i col) ≡ false
-    bytes-differ q = bytes-next ∙ rw (ne-eqb (getD bytes i 0) (getD copy (at + i) 0) (λ z. q (sym z)))
-
--- after the last of them
-pub bytes-over : (ws copy : List ℕ) (at i : ℕ) (bytes : List ℕ) → length bytes ≡ length ws → length ws ≤ i
-    → same (drop i bytes) (drop i (take (length ws) (drop at copy))) ≡ true
-unfolding same
-bytes-over ws copy at i bytes l h =
-    rw (drop-of-length-le bytes {i = i} (omega arith), drop-of-length-le (take (length ws) (drop at copy)) {i = i} (omega (arith, length-take (length ws) (drop at copy))))
 
 -- each worth is at least 1
 pub worth-some : (w i : ℕ) → i < w → 0 < getD (worths w) i 0
@@ -180,10 +153,6 @@ length-line ws [] = omega arith
 length-line ws (x ∷ xs) =
     omega (arith, length-append (column ws x) (line ws xs), length-column ws x, length-line ws xs, suc-mul (length xs) (length ws))
 
-and-right : (a : Bool) → (a && true) ≡ a
-and-right true = refl
-and-right false = refl
-
 column-end : (ws : List ℕ) (k : ℕ) → (k + 1) * length ws ≡ k * length ws + length ws
 column-end ws k = rw (add-one k) (suc-mul k (length ws))
 
@@ -195,7 +164,7 @@ module _ (ws l : List ℕ) (n k : ℕ) (h : k < n) where
   on : drop (length ws) (drop (k * length ws) l) ≡ drop ((k + 1) * length ws) l
   on = drop-drop (length ws) (k * length ws) l ∙ ap (λ (j : ℕ). drop j l) (sym (column-end ws k))
 
-  pub line-next : (most : ℕ) → lineFits ws most (n - k) (drop (k * length ws) l)
+  line-next : (most : ℕ) → lineFits ws most (n - k) (drop (k * length ws) l)
       ≡ (columnFits ws most (take (length ws) (drop (k * length ws) l)) && lineFits ws most (n - (k + 1)) (drop ((k + 1) * length ws) l))
   unfolding lineFits
   line-next most = rw (less, on)
@@ -212,13 +181,6 @@ module _ (ws l : List ℕ) (n k : ℕ) (h : k < n) where
       let q = and-true (columnFits ws most col) (lineFits ws most (n - (k + 1)) (drop ((k + 1) * length ws) l)) (sym (line-next most) ∙ p) in
       (column-true ws most col (q .0) .0, q .1)
 
--- behind the last column
-pub line-last : (ws l : List ℕ) (n k most : ℕ) → n ≤ k → k * length ws < length l → lineFits ws most (n - k) (drop (k * length ws) l) ≡ eqb (getD l (k * length ws) 0) 10
-unfolding lineFits same
-line-last ws l n k most h j =
-    let p : n - k ≡ 0 = omega arith in
-    rw (p, drop-cons l (k * length ws) 0 j) (and-right (eqb (getD l (k * length ws) 0) 10))
-
 pub numbers-last : (ws l : List ℕ) (n k : ℕ) → n ≤ k → numbers ws (n - k) l ≡ []
 unfolding numbers
 numbers-last ws l n k h = let p : n - k ≡ 0 = omega arith in rw p
@@ -230,27 +192,6 @@ line-short ws text most k h = go (lineFits ws most k text) refl
     go : (t : Bool) → lineFits ws most k text ≡ t → lineFits ws most k text ≡ false
     go true p = absurd (omega (arith, line-long ws most k text p))
     go false p = p
-
--- the first number of a copied line of k and one more
-module _ (ws : List ℕ) (k : ℕ) (copy text : List ℕ) (p : take (lineSize ws (suc k)) copy ≡ take (lineSize ws (suc k)) text) where
-  pub first-copied : value ws (take (length ws) copy) ≡ getD (numbers ws (suc k) text) 0 0
-  unfolding numbers
-  first-copied = ap (λ (l : List ℕ). getD l 0 0) (numbers-copied ws (suc k) copy text p)
-
-  pub first-true : (most : ℕ) → lineFits ws most (suc k) text ≡ true → (value ws (take (length ws) copy) ≤ most) × (lineFits ws most k (drop (length ws) copy) ≡ true)
-  unfolding lineFits
-  first-true most q =
-      let r = and-true (columnFits ws most (take (length ws) copy)) (lineFits ws most k (drop (length ws) copy)) (line-copied ws (suc k) copy text p most ∙ q) in
-      (column-true ws most (take (length ws) copy) (r .0) .0, r .1)
-
--- and the second of two
-module _ (ws copy text : List ℕ) (p : take (lineSize ws 2) copy ≡ take (lineSize ws 2) text) where
-  pub second-copied : value ws (take (length ws) (drop (length ws) copy)) ≡ getD (numbers ws 2 text) 1 0
-  unfolding numbers
-  second-copied = ap (λ (l : List ℕ). getD l 1 0) (numbers-copied ws 2 copy text p)
-
-  pub second-true : (most : ℕ) → lineFits ws most 2 text ≡ true → value ws (take (length ws) (drop (length ws) copy)) ≤ most
-  second-true most q = first-true ws 0 (drop (length ws) copy) (drop (length ws) copy) refl most (first-true ws 1 copy text p most q .1) .0
 
 -- m lines, from a place on
 module _ (ws : List ℕ) (columns left at : ℕ) (text : List ℕ) (h : 0 < left) where
@@ -268,6 +209,15 @@ module _ (ws : List ℕ) (columns left at : ℕ) (text : List ℕ) (h : 0 < left
       go : (m : ℕ) → m ≡ suc (left - 1) → linesBegin ws most columns m (drop at text)
           ≡ (lineFits ws most columns (drop at text) && linesBegin ws most columns (left - 1) (drop (at + lineSize ws columns) text))
       go m p = rw (p, next)
+
+  pub lines-fit-next : (most : ℕ) → linesFit ws most columns left (drop at text)
+      ≡ (lineFits ws most columns (drop at text) && linesFit ws most columns (left - 1) (drop (at + lineSize ws columns) text))
+  unfolding linesFit
+  lines-fit-next most =
+      let size = lineSize ws columns in
+      let far : at + left * size ≡ at + size + (left - 1) * size = omega (arith, ap (λ (m : ℕ). m * size) some, suc-mul (left - 1) size) in
+      rw (lines-next most, drop-drop (left * size) at text, far, drop-drop ((left - 1) * size) (at + size) text)
+      (and-assoc (lineFits ws most columns (drop at text)) (linesBegin ws most columns (left - 1) (drop (at + size) text)) (same (drop (at + size + (left - 1) * size) text) []))
 
   pub lines-numbers-next : linesNumbers ws columns left (drop at text)
       ≡ numbers ws columns (drop at text) ++ linesNumbers ws columns (left - 1) (drop (at + lineSize ws columns) text)

@@ -204,7 +204,7 @@ plan-is ws most limits text space p h =
 never-read : {A : Type 0} (a : Answer) (n : ℕ) (list : List ℕ) → VerdictReading.refused a ≡ VerdictReading.read n list → A
 never-read a n list p = let z : _≡_ {A = ℕ} 0 1 = cc in absurd (omega arith)
 
-per-line-some : (kind : ℕ) → 0 < perLine kind
+pub per-line-some : (kind : ℕ) → 0 < perLine kind
 unfolding perLine
 per-line-some kind = go (eqb kind 0)
   where

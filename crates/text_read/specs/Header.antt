@@ -1,22 +1,14 @@
 -- A plan text as the code goes over it: its header, and the lines from a place on.
 use mathlib.Core.Path.{_≡_}
-use mathlib.Core.Bool.{true, _&&_, _||_}
+use mathlib.Core.Bool.{Bool, true, cond, _&&_}
 use mathlib.Core.List.{List}
 use Prim.Native.Nat.{ℕ, _≤_}
-use lib.Dec.{ltb, leb}
-use lib.ListN.{length, drop, getD}
-use Rattle.connectivity.specs.Plan.{Limits}
-use Rattle.text.specs.Column.{lineSize, numbers, linesBegin, behindLines, linesFit, linesNumbers}
-use Rattle.text.specs.Plan.{headerFirst, headerSecond, headerThird, headerFits, edgeLines}
+use lib.ListN.{length, drop}
+use Rattle.connectivity.specs.Plan.{plan, Limits}
+use Rattle.connectivity.specs.Admission.{Answer, answer, endsAnswer, excludedAnswer}
+use Rattle.text.specs.Column.{linesBegin, behindLines, linesFit, linesNumbers}
+use Rattle.text.specs.Plan.{headerFirst, headerSecond, headerThird, headerFits, edgeLines, listedAnswer}
 use Rattle.text_read.specs.declared.plan.Header.{Header}
-
--- a first line of so many columns, taken for a header
-pub record HeaderTaken (ws : List ℕ) (columns : ℕ) (text : List ℕ) (h : Header) : Type 0 where
-  pub fits : h .fits ≡ (ltb columns 3 || (leb 1 (h .excluded) && leb (h .excluded) (h .vertices)))
-  pub vertices : h .vertices ≡ getD (numbers ws columns text) 0 0
-  pub edges : h .edges ≡ getD (numbers ws columns text) 1 0
-  pub excluded : h .excluded ≡ getD (numbers ws columns text) 2 0
-  pub next : h .next ≡ lineSize ws columns
 
 -- the header of a text that has one in the form
 pub record Headed (ws : List ℕ) (most : ℕ) (text : List ℕ) (h : Header) : Type 0 where
@@ -46,3 +38,21 @@ pub record Fitting (ws : List ℕ) (most : ℕ) (limits : Limits) (text : List �
   pub few : excluded ≤ vertices
   pub begin : linesBegin ws most 2 edges (drop at text) ≡ true
   pub fit : linesFit ws most 1 excluded (behindLines ws 2 edges (drop at text)) ≡ true
+
+-- an answer to lines, if they are in the form; else 7
+abbrev pub ifFits : Bool → Answer → Answer
+ifFits fits a = cond fits a (answer 7 0)
+
+-- the answer to the lines of the edges at the front of a text, from number e on: 7, else the first edge with 4 or 5
+unfoldable pub edgeLinesAnswer : List ℕ → ℕ → ℕ → ℕ → ℕ → List ℕ → Answer
+edgeLinesAnswer ws most n e m text = ifFits (linesBegin ws most 2 m text) (endsAnswer n e (linesNumbers ws 2 m text))
+
+-- the answer to a text of lines of excluded vertices, from position k on: 7, else the first one with 18
+unfoldable pub excludedLinesAnswer : List ℕ → ℕ → ℕ → ℕ → ℕ → ℕ → List ℕ → Answer
+excludedLinesAnswer ws most n k low m text = ifFits (linesFit ws most 1 m text) (excludedAnswer n k low (linesNumbers ws 1 m text))
+
+-- the answer to both, one behind the other: 7, else 4 and 5, 18, 19
+abbrev pub linesAnswer : List ℕ → ℕ → ℕ → ℕ → ℕ → List ℕ → Answer
+linesAnswer ws most n m k text =
+    let rest = behindLines ws 2 m text in
+    ifFits (linesBegin ws most 2 m text && linesFit ws most 1 k rest) (listedAnswer (plan n (linesNumbers ws 2 m text) (linesNumbers ws 1 k rest)))

@@ -1,14 +1,20 @@
-// A number in a column of five, read.
-use text::LONGEST;
+// A number in a column of five: read, and judged in the same look.
 use text::WIDTH;
 use text::WORTHS;
 ghost use mathlib.Core.Path.{_≡_};
 ghost use Prim.Native.Nat.{_+_, _≤_};
 ghost use lib.ListN.{length, take, drop};
-ghost use Rattle.text.specs.Column.{five, largest, column, lineSize, digit, value, same, columnFits};
+ghost use Rattle.text.specs.Column.{five, largest, digit, value};
+ghost use Rattle.text_read.specs.Line.{zeroAt, misfit, misfits, ColumnRead};
 
 // The largest value in the form.
 const LARGEST: u32 = 65535;
+
+// A column as it was read: whether it is in the form, and then its number.
+pub(crate) struct Column {
+    pub fits: bool,
+    pub number: u16,
+}
 
 // The digit that a byte stands for; any other byte counts 0.
 fn digit_of(b: u8) -> u32
@@ -24,8 +30,8 @@ fn digit_of(b: u8) -> u32
 }
 
 // The number in the column that begins at `at`.
-pub(crate) fn number(line: &[u8; LONGEST], at: usize) -> u32
-    requires { ⌜ (at + length five ≤ lineSize five 3) × (length (now line) ≡ lineSize five 3) ⌝ }
+pub(crate) fn number(line: &[u8], at: usize) -> u32
+    requires { ⌜ at + length five ≤ length (now line) ⌝ }
     ensures { λ r. ⌜ r ≡ value five (take (length five) (drop at (now (line .entry)))) ⌝ }
 {
     let mut sum = 0;
@@ -37,30 +43,59 @@ pub(crate) fn number(line: &[u8; LONGEST], at: usize) -> u32
     sum
 }
 
-// The column that begins at `at` is in the form.
-pub(crate) fn column_fits(line: &[u8; LONGEST], at: usize) -> bool
-    requires { ⌜ (at + length five ≤ lineSize five 3) × (length (now line) ≡ lineSize five 3) ⌝ }
-    ensures { λ r. ⌜ r ≡ columnFits five largest (take (length five) (drop at (now (line .entry)))) ⌝ }
+// Reads the column that begins at `at`.
+pub(crate) fn read_column(line: &[u8], at: usize) -> Column
+    requires { ⌜ at + length five ≤ length (now line) ⌝ }
+    ensures { λ r. ⌜ ColumnRead five largest (take (length five) (drop at (now (line .entry)))) r ⌝ }
 {
     let x = number(line, at);
     if LARGEST < x {
-        return false;
+        return Column {
+            fits: false,
+            number: 0,
+        };
     }
-    column_is(line, at, x as u16)
+    Column {
+        fits: misfits(line, at, x) == 0,
+        number: x as u16,
+    }
 }
 
-// The column that begins at `at` has the very bytes of x.
-fn column_is(line: &[u8; LONGEST], at: usize, x: u16) -> bool
-    requires { ⌜ (at + length five ≤ lineSize five 3) × (length (now line) ≡ lineSize five 3) ⌝ }
-    ensures { λ r. ⌜ r ≡ same (column five x) (take (length five) (drop at (now (line .entry)))) ⌝ }
+// How many bytes of the column that begins at `at` are not those of its number x. It is a sum, with no way out, so that all bytes are looked at
+// at once.
+fn misfits(line: &[u8], at: usize, x: u32) -> u32
+    requires { ⌜ at + length five ≤ length (now line) ⌝ }
+    ensures { λ r. ⌜ r ≡ misfits five x (take (length five) (drop at (now (line .entry)))) ⌝ }
 {
-    let bytes = text::column(x);
+    let mut sum = 0;
     let mut i = 0;
     while i < WIDTH {
-        if line[at + i] != bytes[i] {
-            return false;
-        }
+        sum += misfit(WORTHS[i], x, line[at + i]);
         i += 1;
     }
-    true
+    sum
+}
+
+// 1 where the byte is not the one that its digit has at this worth in the number x. So nothing is divided: the digits are those of the bytes.
+fn misfit(worth: u32, x: u32, b: u8) -> u32
+    ensures { λ r. ⌜ r ≡ misfit worth x b ⌝ }
+{
+    if zero_at(worth, x) + digit_of(b) == b as u32 {
+        0
+    } else {
+        1
+    }
+}
+
+// The byte of the digit 0 at this worth: a blank in front of the number x, else a 0; the last digit is always written.
+fn zero_at(worth: u32, x: u32) -> u32
+    ensures { λ r. ⌜ r ≡ zeroAt worth x ⌝ }
+{
+    if worth <= x {
+        return 48;
+    }
+    if 1 < worth {
+        return 32;
+    }
+    48
 }

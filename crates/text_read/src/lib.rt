@@ -50,10 +50,11 @@ fn refused_plan(number: u16) -> Admission
 pub fn read_verdict(text: &[u8], list: &mut [u16]) -> VerdictRead
     ensures { λ r. ⌜ ReadsVerdict five largest limits (now (text .entry)) (now (list .entry)) (now (list .exit)) r ⌝ }
 {
-    if !line::line_fits(text, 0, 2) {
+    let header = line::read_line(text, 0, 2);
+    let fits = header.fits;
+    if !fits {
         return refused_verdict(8);
     }
-    let header = line::two_numbers(text, 0);
     let kind = header.first;
     let count = header.second as usize;
     if !text::count_fits(kind, count) {

@@ -1,95 +1,105 @@
-// Lines of numbers in columns, taken by the reader.
-use crate::column::column_fits;
+// Lines of numbers in columns, taken by the reader: judged with their numbers in one look, and stored in another.
 use crate::column::number;
+use crate::column::read_column;
 use crate::reader::take_line;
-use text::HEADER;
-use text::LONGEST;
-use text::SHORTEST;
 use text::WIDTH;
 ghost use mathlib.Core.Path.{_≡_};
-ghost use mathlib.Core.Bool.{true};
+ghost use mathlib.Core.Bool.{true, false};
 ghost use Prim.Native.Nat.{_+_, _*_, _≤_};
-ghost use lib.ListN.{length, drop, getD};
+ghost use lib.ListN.{length, drop};
 ghost use lib.Seq.{sets};
 ghost use Rattle.text.specs.Column.{five, largest, lineSize, lineFits, numbers, linesBegin, linesFit, linesNumbers};
-ghost use Rattle.text.specs.Plan.{headerFirst, headerSecond};
+ghost use Rattle.text_read.specs.Line.{LineRead};
 
-// The two numbers of a line, and the place behind it.
-pub struct Pair {
+// A line as it was read: whether it is in the form, and then its numbers; those of columns that it does not have are 0.
+pub(crate) struct Line {
+    pub fits: bool,
     pub first: u16,
     pub second: u16,
-    pub next: usize,
+    pub third: u16,
 }
 
-// The number of a line of one, and the place behind it.
-pub struct Single {
-    pub number: u16,
-    pub next: usize,
-}
-
-// Whether a line is in the form, and the place behind it.
-struct Judged {
-    fits: bool,
-    next: usize,
-}
-
-// A line of `columns` numbers in the form begins at `at`.
-pub(crate) fn line_fits(text: &[u8], at: usize, columns: usize) -> bool
-    requires { ⌜ (at ≤ length (now text)) × (columns ≤ 3) ⌝ }
-    ensures { λ r. ⌜ r ≡ lineFits five largest columns (drop at (now (text .entry))) ⌝ }
-{
-    let judged = judge_line(text, at, columns);
-    judged.fits
-}
-
-// Judges the line of `columns` numbers that begins at `at`. The place behind it counts if it fits.
-fn judge_line(text: &[u8], at: usize, columns: usize) -> Judged
-    requires { ⌜ (at ≤ length (now text)) × (columns ≤ 3) ⌝ }
-    ensures { λ r. ⌜ (r .fits ≡ lineFits five largest columns (drop at (now (text .entry)))) × (r .fits ≡ true → r .next ≡ at + lineSize five columns) ⌝ }
+// Reads the line of `columns` numbers that begins at `at`.
+pub(crate) fn read_line(text: &[u8], at: usize, columns: usize) -> Line
+    requires { ⌜ (at ≤ length (now text)) × (1 ≤ columns) × (columns ≤ 3) ⌝ }
+    ensures { λ r. ⌜ LineRead five largest columns (drop at (now (text .entry))) r ⌝ }
 {
     let size = columns * WIDTH + 1;
     if text.len() - at < size {
-        return Judged {
-            fits: false,
-            next: at,
-        };
+        return not_in_form();
     }
-    let line = take_line(text, at, size);
-    Judged {
-        fits: columns_fit(&line.bytes, columns),
-        next: line.next,
+    read_columns(take_line(text, at, size), columns)
+}
+
+fn not_in_form() -> Line
+    ensures { λ r. ⌜ r .fits ≡ false ⌝ }
+{
+    Line {
+        fits: false,
+        first: 0,
+        second: 0,
+        third: 0,
     }
 }
 
-// The line has `columns` columns in the form and then a line feed.
-fn columns_fit(copy: &[u8; LONGEST], columns: usize) -> bool
-    requires { ⌜ (columns ≤ 3) × (length (now copy) ≡ lineSize five 3) ⌝ }
-    ensures { λ r. ⌜ r ≡ lineFits five largest columns (now (copy .entry)) ⌝ }
+// Reads the columns of a line: each byte is looked at once.
+fn read_columns(line: &[u8], columns: usize) -> Line
+    requires { ⌜ (1 ≤ columns) × (columns ≤ 3) × (length (now line) ≡ lineSize five columns) ⌝ }
+    ensures { λ r. ⌜ LineRead five largest columns (now (line .entry)) r ⌝ }
 {
-    let mut k = 0;
-    while k < columns {
-        if !column_fits(copy, k * WIDTH) {
-            return false;
-        }
-        k += 1;
+    if line[columns * WIDTH] != 10 {
+        return not_in_form();
     }
-    copy[columns * WIDTH] == 10
+    let first = read_column(line, 0);
+    if columns < 2 {
+        return Line {
+            fits: first.fits,
+            first: first.number,
+            second: 0,
+            third: 0,
+        };
+    }
+    let one = first.fits;
+    if !one {
+        return not_in_form();
+    }
+    let second = read_column(line, WIDTH);
+    if columns < 3 {
+        return Line {
+            fits: second.fits,
+            first: first.number,
+            second: second.number,
+            third: 0,
+        };
+    }
+    let two = second.fits;
+    if !two {
+        return not_in_form();
+    }
+    let third = read_column(line, 2 * WIDTH);
+    Line {
+        fits: third.fits,
+        first: first.number,
+        second: second.number,
+        third: third.number,
+    }
 }
 
 // From `at` on the text begins with `count` lines of `columns` numbers each, in the form.
 pub(crate) fn lines_begin(text: &[u8], at: usize, columns: usize, count: usize) -> bool
-    requires { ⌜ (at ≤ length (now text)) × (columns ≤ 3) ⌝ }
+    requires { ⌜ (at ≤ length (now text)) × (1 ≤ columns) × (columns ≤ 3) ⌝ }
     ensures { λ r. ⌜ r ≡ linesBegin five largest columns count (drop at (now (text .entry))) ⌝ }
 {
+    let size = columns * WIDTH + 1;
     let mut next = at;
     let mut left = count;
     while 0 < left {
-        let judged = judge_line(text, next, columns);
-        let fits = judged.fits;
+        let line = read_line(text, next, columns);
+        let fits = line.fits;
         if !fits {
             return false;
         }
-        next = judged.next;
+        next += size;
         left -= 1;
     }
     true
@@ -97,7 +107,7 @@ pub(crate) fn lines_begin(text: &[u8], at: usize, columns: usize, count: usize) 
 
 // The same, and nothing follows the last.
 pub(crate) fn lines_fit(text: &[u8], at: usize, columns: usize, count: usize) -> bool
-    requires { ⌜ (at ≤ length (now text)) × (columns ≤ 3) ⌝ }
+    requires { ⌜ (at ≤ length (now text)) × (1 ≤ columns) × (columns ≤ 3) ⌝ }
     ensures { λ r. ⌜ r ≡ linesFit five largest columns count (drop at (now (text .entry))) ⌝ }
 {
     if lines_begin(text, at, columns, count) {
@@ -106,54 +116,21 @@ pub(crate) fn lines_fit(text: &[u8], at: usize, columns: usize, count: usize) ->
     false
 }
 
-// The two numbers of the line that begins at `at`.
-pub(crate) fn two_numbers(text: &[u8], at: usize) -> Pair
-    requires { ⌜ (at ≤ length (now text)) × (lineFits five largest 2 (drop at (now text)) ≡ true) ⌝ }
-    ensures { λ r. ⌜ (r .first ≡ headerFirst five (drop at (now (text .entry)))) × (r .second ≡ headerSecond five (drop at (now (text .entry)))) × (r .next ≡ at + lineSize five 2) ⌝ }
-{
-    let line = take_line(text, at, HEADER);
-    Pair {
-        first: number(&line.bytes, 0) as u16,
-        second: number(&line.bytes, WIDTH) as u16,
-        next: line.next,
-    }
-}
-
-// The number of the line of one that begins at `at`.
-pub(crate) fn one_number(text: &[u8], at: usize) -> Single
-    requires { ⌜ (at ≤ length (now text)) × (lineFits five largest 1 (drop at (now text)) ≡ true) ⌝ }
-    ensures { λ r. ⌜ (r .number ≡ getD (numbers five 1 (drop at (now (text .entry)))) 0 0) × (r .next ≡ at + lineSize five 1) ⌝ }
-{
-    let line = take_line(text, at, SHORTEST);
-    Single {
-        number: number(&line.bytes, 0) as u16,
-        next: line.next,
-    }
-}
-
-// Stores the numbers of the line that begins at `at` from `to` on, and gives the place behind it.
-pub(crate) fn store_line(
-    text: &[u8],
-    at: usize,
-    columns: usize,
-    list: &mut [u16],
-    to: usize,
-) -> usize
+// Stores the numbers of the line that begins at `at` from `to` on.
+fn store_line(text: &[u8], at: usize, columns: usize, list: &mut [u16], to: usize)
     requires { ⌜ (at ≤ length (now text)) × (columns ≤ 3) × (to + columns ≤ length (now list)) × (lineFits five largest columns (drop at (now text)) ≡ true) ⌝ }
-    ensures { λ r. ⌜ (r ≡ at + lineSize five columns) × (now (list .exit) ≡ sets (now (list .entry)) to (numbers five columns (drop at (now (text .entry))))) ⌝ }
+    ensures { λ r. ⌜ now (list .exit) ≡ sets (now (list .entry)) to (numbers five columns (drop at (now (text .entry)))) ⌝ }
 {
-    let line = take_line(text, at, columns * WIDTH + 1);
-    store_columns(&line.bytes, columns, list, to);
-    line.next
+    store_columns(take_line(text, at, columns * WIDTH + 1), columns, list, to);
 }
 
-fn store_columns(copy: &[u8; LONGEST], columns: usize, list: &mut [u16], to: usize)
-    requires { ⌜ (columns ≤ 3) × (length (now copy) ≡ lineSize five 3) × (to + columns ≤ length (now list)) × (lineFits five largest columns (now copy) ≡ true) ⌝ }
-    ensures { λ r. ⌜ now (list .exit) ≡ sets (now (list .entry)) to (numbers five columns (now (copy .entry))) ⌝ }
+fn store_columns(line: &[u8], columns: usize, list: &mut [u16], to: usize)
+    requires { ⌜ (columns ≤ 3) × (length (now line) ≡ lineSize five columns) × (to + columns ≤ length (now list)) × (lineFits five largest columns (now line) ≡ true) ⌝ }
+    ensures { λ r. ⌜ now (list .exit) ≡ sets (now (list .entry)) to (numbers five columns (now (line .entry))) ⌝ }
 {
     let mut k = 0;
     while k < columns {
-        list[to + k] = number(copy, k * WIDTH) as u16;
+        list[to + k] = number(line, k * WIDTH) as u16;
         k += 1;
     }
 }
@@ -170,11 +147,13 @@ pub(crate) fn store_lines(
     requires { ⌜ (at ≤ length (now text)) × (columns ≤ 3) × (to + columns * count ≤ length (now list)) × (linesBegin five largest columns count (drop at (now text)) ≡ true) ⌝ }
     ensures { λ r. ⌜ now (list .exit) ≡ sets (now (list .entry)) to (linesNumbers five columns count (drop at (now (text .entry)))) ⌝ }
 {
+    let size = columns * WIDTH + 1;
     let mut next = at;
     let mut place = to;
     let mut left = count;
     while 0 < left {
-        next = store_line(text, next, columns, list, place);
+        store_line(text, next, columns, list, place);
+        next += size;
         place += columns;
         left -= 1;
     }

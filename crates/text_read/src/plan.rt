@@ -4,18 +4,20 @@ use graph::Admission;
 use graph::Answer;
 use graph::Graph;
 use text::HEADER;
+use text::LONGEST;
+use text::SHORTEST;
 ghost use mathlib.Core.Path.{_≡_};
-ghost use mathlib.Core.Bool.{true, _&&_, _||_};
+ghost use mathlib.Core.Bool.{_&&_};
 ghost use mathlib.Core.List.{_++_};
 ghost use Prim.Native.Nat.{_+_, _*_, _≤_, _<_};
 ghost use lib.Dec.{ltb, leb};
 ghost use lib.ListN.{length, take, drop};
 ghost use Rattle.connectivity.specs.Plan.{plan, limits};
-ghost use Rattle.connectivity.specs.Admission.{answer, endsAnswer, excludedAnswer};
+ghost use Rattle.connectivity.specs.Admission.{answer};
 ghost use Rattle.graph.specs.Admission.{toldBy, handed, constructed};
-ghost use Rattle.text.specs.Column.{five, largest, lineFits, linesBegin, behindLines, linesFit, linesNumbers};
-ghost use Rattle.text.specs.Plan.{filled, listedAnswer, readAnswer};
-ghost use Rattle.text_read.specs.Header.{HeaderTaken, HeaderRead, Headed, endsAt, excludedAt, Fitting};
+ghost use Rattle.text.specs.Column.{five, largest};
+ghost use Rattle.text.specs.Plan.{filled, readAnswer};
+ghost use Rattle.text_read.specs.Header.{HeaderRead, Headed, endsAt, excludedAt, Fitting, ifFits, edgeLinesAnswer, excludedLinesAnswer, linesAnswer};
 
 // The header of a plan text: whether it is in the form, its counts, and the place behind it.
 pub(crate) struct Header {
@@ -30,47 +32,39 @@ pub(crate) struct Header {
 pub(crate) fn read_header(text: &[u8]) -> Header
     ensures { λ r. ⌜ HeaderRead five largest (now (text .entry)) r ⌝ }
 {
-    if line::line_fits(text, 0, 2) {
-        return take_header(text, 2);
+    let two = line::read_line(text, 0, 2);
+    let short = two.fits;
+    if short {
+        return Header {
+            fits: true,
+            vertices: two.first,
+            edges: two.second,
+            excluded: 0,
+            next: HEADER,
+        };
     }
-    if line::line_fits(text, 0, 3) {
-        return take_header(text, 3);
-    }
+    let three = line::read_line(text, 0, 3);
+    let long = three.fits;
     Header {
-        fits: false,
-        vertices: 0,
-        edges: 0,
-        excluded: 0,
-        next: 0,
+        fits: third_fits(long, three.first, three.third),
+        vertices: three.first,
+        edges: three.second,
+        excluded: three.third,
+        next: LONGEST,
     }
 }
 
-// The header of so many columns. Of a third, only 1 to the number of vertices is in the form.
-fn take_header(text: &[u8], columns: usize) -> Header
-    requires { ⌜ (columns ≤ 3) × (lineFits five largest columns (now text) ≡ true) ⌝ }
-    ensures { λ r. ⌜ HeaderTaken five columns (now (text .entry)) r ⌝ }
+// Of a third column, only 1 to the number of vertices is in the form.
+fn third_fits(long: bool, vertices: u16, excluded: u16) -> bool
+    ensures { λ r. ⌜ r ≡ (long && (leb 1 excluded && leb excluded vertices)) ⌝ }
 {
-    let mut numbers = [0u16; 3];
-    let next = line::store_line(text, 0, columns, &mut numbers, 0);
-    Header {
-        fits: third_fits(columns, numbers[0], numbers[2]),
-        vertices: numbers[0],
-        edges: numbers[1],
-        excluded: numbers[2],
-        next: next,
+    if long {
+        if excluded < 1 {
+            return false;
+        }
+        return excluded <= vertices;
     }
-}
-
-fn third_fits(columns: usize, vertices: u16, excluded: u16) -> bool
-    ensures { λ r. ⌜ r ≡ (ltb columns 3 || (leb 1 excluded && leb excluded vertices)) ⌝ }
-{
-    if columns < 3 {
-        return true;
-    }
-    if excluded < 1 {
-        return false;
-    }
-    excluded <= vertices
+    false
 }
 
 // The first refusal of a text with this header: 2, 3, 6, 7 for the lines, then 4, 5, 18 and 19; else 0.
@@ -93,9 +87,6 @@ pub(crate) fn judge(text: &[u8], header: Header, space: usize) -> Answer
     if space < 2 * edges + excluded {
         return number_alone(6);
     }
-    if !lines_fit(text, header.next, edges, excluded) {
-        return number_alone(7);
-    }
     judge_lines(text, header.next, vertices, edges, excluded)
 }
 
@@ -108,29 +99,25 @@ fn number_alone(number: u16) -> Answer
     }
 }
 
-// From `at` on the text is a line of two for each edge and then a line of one for each excluded vertex, in the form, and nothing follows.
-fn lines_fit(text: &[u8], at: usize, edges: usize, excluded: usize) -> bool
-    requires { ⌜ at ≤ length (now text) ⌝ }
-    ensures { λ r. ⌜ r ≡ (linesBegin five largest 2 edges (drop at (now (text .entry))) && linesFit five largest 1 excluded (behindLines five 2 edges (drop at (now (text .entry))))) ⌝ }
-{
-    if line::lines_begin(text, at, 2, edges) {
-        return line::lines_fit(text, at + edges * HEADER, 1, excluded);
-    }
-    false
-}
-
-// The first edge of these lines with 4 or 5; then the first excluded vertex with 18; then 19; else 0.
+// 7 unless the text from `at` on is a line of two for each edge and a line of one for each excluded vertex, in the form, and nothing follows; then
+// the first edge with 4 or 5, the first excluded vertex with 18, and 19; else 0.
 fn judge_lines(text: &[u8], at: usize, vertices: u16, edges: usize, excluded: usize) -> Answer
-    requires { ⌜ Fitting five largest limits (now text) at vertices edges excluded ⌝ }
-    ensures { λ r. ⌜ r ≡ toldBy (listedAnswer (plan vertices (endsAt five (now (text .entry)) at edges) (excludedAt five (now (text .entry)) at edges excluded))) ⌝ }
+    requires { ⌜ (at ≤ length (now text)) × (edges ≤ limits .edges) × (excluded ≤ vertices) ⌝ }
+    ensures { λ r. ⌜ r ≡ toldBy (linesAnswer five largest vertices edges excluded (drop at (now (text .entry)))) ⌝ }
 {
     let fit = judge_edges(text, at, vertices, edges);
     let first = fit.number;
-    if first != 0 {
+    if first == 7 {
         return fit;
     }
     let rising = judge_excluded(text, at + edges * HEADER, vertices, excluded);
     let second = rising.number;
+    if second == 7 {
+        return rising;
+    }
+    if first != 0 {
+        return fit;
+    }
     if second != 0 {
         return rising;
     }
@@ -140,60 +127,77 @@ fn judge_lines(text: &[u8], at: usize, vertices: u16, edges: usize, excluded: us
     number_alone(0)
 }
 
-// The first edge of the lines from `at` on with 4 or 5.
+// 7 unless the lines of the edges from `at` on are in the form; then the first edge with 4 or 5. Of the lines behind it just the form counts.
 fn judge_edges(text: &[u8], at: usize, vertices: u16, edges: usize) -> Answer
-    requires { ⌜ (edges ≤ limits .edges) × (at ≤ length (now text)) × (linesBegin five largest 2 edges (drop at (now text)) ≡ true) ⌝ }
-    ensures { λ r. ⌜ r ≡ toldBy (endsAnswer vertices 0 (linesNumbers five 2 edges (drop at (now (text .entry))))) ⌝ }
+    requires { ⌜ (edges ≤ limits .edges) × (at ≤ length (now text)) ⌝ }
+    ensures { λ r. ⌜ r ≡ toldBy (edgeLinesAnswer five largest vertices 0 edges (drop at (now (text .entry)))) ⌝ }
 {
     let mut next = at;
     let mut e = 0;
     while e < edges {
-        let ends = line::two_numbers(text, next);
-        let number = graph::judge_edge(vertices, ends.first, ends.second);
-        if number != 0 {
-            return Answer {
-                number: number,
-                place: e as u16,
-            };
+        let line = line::read_line(text, next, 2);
+        let fits = line.fits;
+        if !fits {
+            return number_alone(7);
         }
-        next = ends.next;
+        next += HEADER;
+        let number = graph::judge_edge(vertices, line.first, line.second);
+        if number != 0 {
+            return if_fits(line::lines_begin(text, next, 2, edges - e - 1), number, e);
+        }
         e += 1;
     }
     number_alone(0)
 }
 
-// The first number of the lines from `at` on that is not below `vertices` or not above the one before, with 18.
+// This refusal, if the lines behind its place are in the form, too; else 7.
+fn if_fits(fits: bool, number: u16, place: usize) -> Answer
+    requires { ⌜ place < 65536 ⌝ }
+    ensures { λ r. ⌜ r ≡ toldBy (ifFits fits (answer number place)) ⌝ }
+{
+    if fits {
+        return Answer {
+            number: number,
+            place: place as u16,
+        };
+    }
+    number_alone(7)
+}
+
+// 7 unless the lines of the excluded vertices from `at` on are in the form and nothing follows; then the first one that is not below `vertices` or
+// not above the one before, with 18.
 fn judge_excluded(text: &[u8], at: usize, vertices: u16, excluded: usize) -> Answer
-    requires { ⌜ (excluded ≤ vertices) × (at ≤ length (now text)) × (linesBegin five largest 1 excluded (drop at (now text)) ≡ true) ⌝ }
-    ensures { λ r. ⌜ r ≡ toldBy (excludedAnswer vertices 0 0 (linesNumbers five 1 excluded (drop at (now (text .entry))))) ⌝ }
+    requires { ⌜ (excluded ≤ vertices) × (at ≤ length (now text)) ⌝ }
+    ensures { λ r. ⌜ r ≡ toldBy (excludedLinesAnswer five largest vertices 0 0 excluded (drop at (now (text .entry)))) ⌝ }
 {
     let mut next = at;
     let mut low: u16 = 0;
     let mut k = 0;
     while k < excluded {
-        let line = line::one_number(text, next);
-        let v = line.number;
-        if v < low {
-            return eighteen(k); // not above the one before
+        let line = line::read_line(text, next, 1);
+        let fits = line.fits;
+        if !fits {
+            return number_alone(7);
         }
-        if vertices <= v {
-            return eighteen(k);
+        next += SHORTEST;
+        let v = line.first;
+        if !between(low, v, vertices) {
+            return if_fits(line::lines_fit(text, next, 1, excluded - k - 1), 18, k);
         }
         low = v + 1;
-        next = line.next;
         k += 1;
     }
-    number_alone(0)
+    if_fits(line::lines_fit(text, next, 1, 0), 0, 0)
 }
 
-fn eighteen(place: usize) -> Answer
-    requires { ⌜ place < 65536 ⌝ }
-    ensures { λ r. ⌜ r ≡ toldBy (answer 18 place) ⌝ }
+// v is not below `low` and below `high`.
+fn between(low: u16, v: u16, high: u16) -> bool
+    ensures { λ r. ⌜ r ≡ (leb low v && ltb v high) ⌝ }
 {
-    Answer {
-        number: 18,
-        place: place as u16,
+    if v < low {
+        return false;
     }
+    v < high
 }
 
 // Fills the table: the ends of each edge, and directly behind them the excluded vertices.

@@ -5,19 +5,19 @@ use Prim.Native.Nat.{ℕ, _+_, _*_, _-_, _^_, _≤_, _<_}
 use native.Mathlib.Omega.{arith}
 use lib.ListN.{length, take, drop, getD, drop-of-length-le}
 use borrow.Author.Needs.{needs}
-use Rattle.text.specs.Column.{worths, five, lineSize, value}
+use Rattle.text.specs.Column.{worths, five, value}
 use Rattle.text.proofs.Laws.{number-next, value-most}
 use Rattle.text_read.proofs.column.number.Statement.{statement}
 use Rattle.text_read.proofs.column.number.Tie as tie
 
 abbrev Inv-loop : tie.InvT-loop
-Inv-loop line at sum₀ i₀ sum i = (i ≤ length five) × (at + length five ≤ lineSize five 3) × (length line ≡ lineSize five 3) × (value five (take (length five) (drop at line)) ≡ sum + value (drop i five) (drop i (take (length five) (drop at line))))
+Inv-loop line at sum₀ i₀ sum i = (i ≤ length five) × (at + length five ≤ length line) × (value five (take (length five) (drop at line)) ≡ sum + value (drop i five) (drop i (take (length five) (drop at line))))
 
 abbrev μ-loop : tie.MeasureT-loop
 μ-loop line at sum₀ i₀ sum i = length five - i
 
 loop-holds : tie.Need-loop-holds Inv-loop μ-loop
-loop-holds c = (omega arith, omega arith, omega arith, omega arith)
+loop-holds c = (omega arith, omega arith, omega arith)
 
 mul-sum : tie.Need-mul-sum Inv-loop μ-loop
 mul-sum c = omega arith
@@ -28,8 +28,8 @@ array-read-sum c = omega arith
 add-digit-of : tie.Need-add-digit-of Inv-loop μ-loop
 add-digit-of c = omega arith
 
-element-copy-out-digit-of : tie.Need-element-copy-out-digit-of Inv-loop μ-loop
-element-copy-out-digit-of c = omega arith
+shared-slice-read-digit-of : tie.Need-shared-slice-read-digit-of Inv-loop μ-loop
+shared-slice-read-digit-of c = omega arith
 
 digit-of-requires : tie.Need-digit-of-requires Inv-loop μ-loop
 digit-of-requires c κs = search needs
@@ -37,12 +37,12 @@ digit-of-requires c κs = search needs
 -- in a turn, the sum after it, the rest and the bound of all
 turn : (c : tie.After-digit-of Inv-loop μ-loop)
     → let l = c .before .before .before in
-    let col = take (length five) (drop (l .before .args .at) (l .before .args .line .now)) in
+    let col = take (length five) (drop (l .before .before .args .at) (l .before .before .args .line .now)) in
     (value five col ≡ l .loop .sum + getD five (l .loop .i) 0 * c .digit-of .result + value (drop (l .loop .i + 1) five) (drop (l .loop .i + 1) col)) × (value five col < 10 ^ length five)
 unfolding worths
 turn c =
     let l = c .before .before .before in
-    let a = l .before .args in
+    let a = l .before .before .args in
     let p = number-next five (a .line .now) (a .at) (l .loop .i) (omega arith) (omega arith) (c .digit-of .result) (c .digit-of .ensures) in
     (omega arith, value-most (length five) (take (length five) (drop (a .at) (a .line .now))))
 
@@ -59,11 +59,11 @@ loop-less : tie.Need-loop-less Inv-loop μ-loop
 loop-less c = omega arith
 
 loop-again : tie.Need-loop-again Inv-loop μ-loop
-loop-again c = (omega arith, omega arith, omega arith, turn c .0)
+loop-again c = (omega arith, omega arith, turn c .0)
 
 returns : tie.Need-returns Inv-loop μ-loop
 unfolding value
-returns c = let l = c .before .loop in omega (arith, l .inv .3, ap (λ (ws : List ℕ). value ws (drop (l .i) (take (length five) (drop (c .before .before .args .at) (c .before .before .args .line .now))))) (drop-of-length-le five {i = l .i} (omega arith)))
+returns c = let l = c .before .loop in omega (arith, l .inv .2, ap (λ (ws : List ℕ). value ws (drop (l .i) (take (length five) (drop (c .before .before .before .args .at) (c .before .before .before .args .line .now))))) (drop-of-length-le five {i = l .i} (omega arith)))
 
 pub number-spec : {M : Type 1} → statement M
 number-spec =
@@ -75,7 +75,7 @@ number-spec =
     mul-sum
     array-read-sum
     add-digit-of
-    element-copy-out-digit-of
+    shared-slice-read-digit-of
     digit-of-requires
     mul-sum-2
     add-sum

@@ -3,6 +3,7 @@ use mathlib.Core.Path.{_≡_, refl, sym, _∙_}
 use Prim.Native.Nat.{_+_, _≤_}
 use native.Mathlib.Omega.{arith}
 use lib.ListN.{length, drop, length-drop}
+use borrow.Author.Needs.{needs}
 use borrow.Author.Tests.{not-true, not-false}
 use Rattle.text.specs.Column.{five, largest, lineSize, linesBegin}
 use Rattle.text.proofs.Laws.{lines-next, lines-last, line-long}
@@ -10,23 +11,29 @@ use Rattle.text_read.proofs.line.lines_begin.Statement.{statement}
 use Rattle.text_read.proofs.line.lines_begin.Tie as tie
 
 abbrev Inv-loop : tie.InvT-loop
-Inv-loop text at columns count next₀ left₀ next left = (next ≤ length text) × (columns ≤ 3) × (linesBegin five largest columns count (drop at text) ≡ linesBegin five largest columns left (drop next text))
+Inv-loop text at columns count size next₀ left₀ next left = (next ≤ length text) × (1 ≤ columns) × (columns ≤ 3) × (linesBegin five largest columns count (drop at text) ≡ linesBegin five largest columns left (drop next text))
 
 abbrev μ-loop : tie.MeasureT-loop
-μ-loop text at columns count next₀ left₀ next left = left
+μ-loop text at columns count size next₀ left₀ next left = left
+
+mul-size : tie.Need-mul-size Inv-loop μ-loop
+mul-size c = search needs
+
+add-size : tie.Need-add-size Inv-loop μ-loop
+add-size c = search needs
 
 loop-holds : tie.Need-loop-holds Inv-loop μ-loop
-loop-holds c = (omega arith, omega arith, refl)
+loop-holds c = (omega arith, omega arith, omega arith, refl)
 
-judge-line-requires : tie.Need-judge-line-requires Inv-loop μ-loop
-judge-line-requires c κs = omega arith
+read-line-requires : tie.Need-read-line-requires Inv-loop μ-loop
+read-line-requires c κs = omega arith
 
 returns : tie.Need-returns Inv-loop μ-loop
 returns c =
     let l = c .before .before .before in
     let a = l .before .before .args in
-    let q = sym (c .before .judge-line .ensures .0) ∙ not-true _ (c .if1 .taken) in
-    sym (l .loop .inv .2 ∙ lines-next five (a .columns) (l .loop .left) (l .loop .next) (a .text .now) (omega arith) largest ∙ rw q)
+    let q = sym (c .before .read-line .ensures .fits) ∙ not-true _ (c .if1 .taken) in
+    sym (l .loop .inv .3 ∙ lines-next five (a .columns) (l .loop .left) (l .loop .next) (a .text .now) (omega arith) largest ∙ rw q)
 
 -- a line that fits is there
 room : (c : tie.Else1 Inv-loop μ-loop)
@@ -35,8 +42,11 @@ room : (c : tie.Else1 Inv-loop μ-loop)
 room c =
     let l = c .before .before .before in
     let a = l .before .before .args in
-    let q = sym (c .before .judge-line .ensures .0) ∙ not-false _ (c .if1 .left) in
+    let q = sym (c .before .read-line .ensures .fits) ∙ not-false _ (c .if1 .left) in
     omega (arith, line-long five largest (a .columns) (drop (l .loop .next) (a .text .now)) q, length-drop (l .loop .next) (a .text .now))
+
+add-next : tie.Need-add-next Inv-loop μ-loop
+add-next c = omega (arith, room c)
 
 sub-left : tie.Need-sub-left Inv-loop μ-loop
 sub-left c = omega arith
@@ -48,15 +58,14 @@ loop-again : tie.Need-loop-again Inv-loop μ-loop
 loop-again c =
     let l = c .before .before .before in
     let a = l .before .before .args in
-    let q = sym (c .before .judge-line .ensures .0) ∙ not-false _ (c .if1 .left) in
-    let n = c .before .judge-line .ensures .1 (not-false _ (c .if1 .left)) in
-    (omega (arith, n, room c), omega arith, rw n (l .loop .inv .2 ∙ lines-next five (a .columns) (l .loop .left) (l .loop .next) (a .text .now) (omega arith) largest ∙ rw q))
+    let q = sym (c .before .read-line .ensures .fits) ∙ not-false _ (c .if1 .left) in
+    (room c, omega arith, omega arith, l .loop .inv .3 ∙ lines-next five (a .columns) (l .loop .left) (l .loop .next) (a .text .now) (omega arith) largest ∙ rw q)
 
 returns-2 : tie.Need-returns-2 Inv-loop μ-loop
 returns-2 c =
     let l = c .before in
     let a = l .before .before .args in
-    sym (l .loop .inv .2 ∙ lines-last five largest (a .columns) (l .loop .left) (drop (l .loop .next) (a .text .now)) (omega arith))
+    sym (l .loop .inv .3 ∙ lines-last five largest (a .columns) (l .loop .left) (drop (l .loop .next) (a .text .now)) (omega arith))
 
 pub lines-begin-spec : {M : Type 1} → statement M
 lines-begin-spec =
@@ -64,9 +73,12 @@ lines-begin-spec =
     (tie.spec
     Inv-loop
     μ-loop
+    mul-size
+    add-size
     loop-holds
-    judge-line-requires
+    read-line-requires
     returns
+    add-next
     sub-left
     loop-less
     loop-again

@@ -11,13 +11,13 @@ use Rattle.text_read.proofs.line.store_columns.Statement.{statement}
 use Rattle.text_read.proofs.line.store_columns.Tie as tie
 
 abbrev Inv-loop : tie.InvT-loop
-Inv-loop copy columns list₀ to k₀ list k = (k ≤ columns) × (length list ≡ length list₀) × (lineFits five largest (columns - k) (drop (k * length five) copy) ≡ true) × (sets list (to + k) (numbers five (columns - k) (drop (k * length five) copy)) ≡ sets list₀ to (numbers five columns copy))
+Inv-loop line columns list₀ to k₀ list k = (k ≤ columns) × (length list ≡ length list₀) × (lineFits five largest (columns - k) (drop (k * length five) line) ≡ true) × (sets list (to + k) (numbers five (columns - k) (drop (k * length five) line)) ≡ sets list₀ to (numbers five columns line))
 
 abbrev μ-loop : tie.MeasureT-loop
-μ-loop copy columns list₀ to k₀ list k = columns - k
+μ-loop line columns list₀ to k₀ list k = columns - k
 
 loop-holds : tie.Need-loop-holds Inv-loop μ-loop
-loop-holds c = let a = c .before .args in let p : a .to + 0 ≡ a .to = omega arith in let q : a .columns - 0 ≡ a .columns = omega arith in (omega arith, refl, rw q (c .before .pre .3), rw (p, q))
+loop-holds c = let a = c .before .before .args in let p : a .to + 0 ≡ a .to = omega arith in let q : a .columns - 0 ≡ a .columns = omega arith in (omega arith, refl, rw q (c .before .before .pre .3), rw (p, q))
 
 mul-number : tie.Need-mul-number Inv-loop μ-loop
 mul-number c = omega arith
@@ -28,8 +28,8 @@ number-requires c κs = omega arith
 cast-list : tie.Need-cast-list Inv-loop μ-loop
 cast-list c =
     let l = c .before .before in
-    let a = l .before .before .args in
-    let q = line-true five (a .copy .now) (a .columns) (l .loop .k) (omega arith) largest (l .loop .inv .2) in
+    let a = l .before .before .before .args in
+    let q = line-true five (a .line .now) (a .columns) (l .loop .k) (omega arith) largest (l .loop .inv .2) in
     omega (arith, c .number .ensures, q .0)
 
 add-list : tie.Need-add-list Inv-loop μ-loop
@@ -50,20 +50,20 @@ loop-less c = omega arith
 loop-again : tie.Need-loop-again Inv-loop μ-loop
 loop-again c =
     let l = c .before .before in
-    let a = l .before .before .args in
-    let q = line-true five (a .copy .now) (a .columns) (l .loop .k) (omega arith) largest (l .loop .inv .2) in
+    let a = l .before .before .before .args in
+    let q = line-true five (a .line .now) (a .columns) (l .loop .k) (omega arith) largest (l .loop .inv .2) in
     let p : a .to + (l .loop .k + 1) ≡ suc (a .to + l .loop .k) = omega arith in (
       omega arith,
       simp length-set (omega arith),
       q .1,
-      rw (p, c .number .ensures) (rw (numbers-next five (a .copy .now) (a .columns) (l .loop .k) (omega arith)) at (l .loop .inv .3)),
+      rw (p, c .number .ensures) (rw (numbers-next five (a .line .now) (a .columns) (l .loop .k) (omega arith)) at (l .loop .inv .3)),
     )
 
 same-length : tie.Need-same-length Inv-loop μ-loop
 same-length c = omega arith
 
 returns : tie.Need-returns Inv-loop μ-loop
-returns c = let l = c .before in let a = l .before .before .args in rw (numbers-last five (drop (l .loop .k * length five) (a .copy .now)) (a .columns) (l .loop .k) (omega arith)) at (l .loop .inv .3)
+returns c = let l = c .before in let a = l .before .before .before .args in rw (numbers-last five (drop (l .loop .k * length five) (a .line .now)) (a .columns) (l .loop .k) (omega arith)) at (l .loop .inv .3)
 
 pub store-columns-spec : {M : Type 1} → statement M
 store-columns-spec =

@@ -1,11 +1,11 @@
--- `store_line` meets its contract: the numbers are read of the copied line.
+-- `store_line` meets its contract: the numbers are read of the line's part of the text.
 use mathlib.Core.Path.{ap, _∙_}
 use native.Mathlib.Omega.{arith}
-use lib.ListN.{drop, length-drop}
-use lib.Seq.{sets}
+use lib.ListN.{length, drop, length-drop}
+use lib.Seq.{sets, length-take-le}
 use borrow.Author.Needs.{needs}
-use Rattle.text.specs.Column.{five, largest}
-use Rattle.text.proofs.Laws.{line-long, line-copied, numbers-copied}
+use Rattle.text.specs.Column.{five, largest, lineSize, lineFits, numbers}
+use Rattle.text.proofs.Laws.{line-long, line-part, numbers-part}
 use Rattle.text_read.proofs.line.store_line.Statement.{statement}
 use Rattle.text_read.proofs.line.store_line.Tie as tie
 
@@ -20,13 +20,14 @@ take-line-requires c κs = let s = c .before .before in let a = s .args in omega
 
 store-columns-requires : tie.Need-store-columns-requires
 store-columns-requires c κs =
-    let w = c .before .before .before in
-    let s = w .before .before .before in
-    let a = s .args in (
+    let w = c .before .take-line in
+    let s = c .before .before .before .before in
+    let a = s .args in
+    let t = drop (a .at) (a .text .now) in (
       omega arith,
-      w .take-line .ensures .1,
+      ap length (w .ensures) ∙ length-take-le (lineSize five (a .columns)) t (line-long five largest (a .columns) t (s .pre .3)),
       omega arith,
-      line-copied five (a .columns) (w .take-line .result .bytes) (drop (a .at) (a .text .now)) (w .take-line .ensures .0) largest ∙ s .pre .3,
+      ap (lineFits five largest (a .columns)) (w .ensures) ∙ line-part five largest (a .columns) t ∙ s .pre .3,
     )
 
 same-length : tie.Need-same-length
@@ -34,9 +35,9 @@ same-length c = search needs
 
 returns : tie.Need-returns
 returns c =
-    let w = c .before .before .before .before .before .before in
-    let a = w .before .before .before .args in
-    (w .take-line .ensures .2, c .before .before .store-columns .ensures ∙ ap (sets (a .list .now) (a .to)) (numbers-copied five (a .columns) (w .take-line .result .bytes) (drop (a .at) (a .text .now)) (w .take-line .ensures .0)))
+    let w = c .before .before .before .before .take-line in
+    let a = c .before .before .before .before .before .before .before .args in
+    c .before .before .store-columns .ensures ∙ ap (sets (a .list .now) (a .to)) (ap (numbers five (a .columns)) (w .ensures) ∙ numbers-part five (a .columns) (drop (a .at) (a .text .now)))
 
 pub store-line-spec : {M : Type 1} → statement M
 store-line-spec =

@@ -5,16 +5,23 @@ use Prim.Native.Nat.{_+_, _*_, _-_, _≤_}
 use native.Mathlib.Omega.{arith}
 use lib.ListN.{length, drop, length-drop}
 use lib.Seq.{sets}
+use borrow.Author.Needs.{needs}
 use Rattle.text.specs.Column.{five, largest, lineSize, linesBegin, linesNumbers}
 use Rattle.text.proofs.Laws.{lines-true, store-lines-next, lines-numbers-last, one-less}
 use Rattle.text_read.proofs.line.store_lines.Statement.{statement}
 use Rattle.text_read.proofs.line.store_lines.Tie as tie
 
 abbrev Inv-loop : tie.InvT-loop
-Inv-loop text at columns count list₀ to next₀ place₀ left₀ list next place left = (next ≤ length text) × (length list ≡ length list₀) × (place + columns * left ≤ length list) × (linesBegin five largest columns left (drop next text) ≡ true) × (sets list place (linesNumbers five columns left (drop next text)) ≡ sets list₀ to (linesNumbers five columns count (drop at text)))
+Inv-loop text at columns count list₀ to size next₀ place₀ left₀ list next place left = (next ≤ length text) × (length list ≡ length list₀) × (place + columns * left ≤ length list) × (linesBegin five largest columns left (drop next text) ≡ true) × (sets list place (linesNumbers five columns left (drop next text)) ≡ sets list₀ to (linesNumbers five columns count (drop at text)))
 
 abbrev μ-loop : tie.MeasureT-loop
-μ-loop text at columns count list₀ to next₀ place₀ left₀ list next place left = left
+μ-loop text at columns count list₀ to size next₀ place₀ left₀ list next place left = left
+
+mul-size : tie.Need-mul-size Inv-loop μ-loop
+mul-size c = search needs
+
+add-size : tie.Need-add-size Inv-loop μ-loop
+add-size c = search needs
 
 loop-holds : tie.Need-loop-holds Inv-loop μ-loop
 loop-holds c = let s = c .before .before in (omega arith, refl, omega arith, s .pre .3, refl)
@@ -37,6 +44,9 @@ turn c =
     let q = lines-true five (a .columns) (l .loop .left) (l .loop .next) (a .text .now) (omega arith) largest (l .loop .inv .3) in
     (omega (arith, q .2, length-drop (l .loop .next) (a .text .now)), omega (arith, one-less (a .columns) (l .loop .left) (omega arith)))
 
+add-next : tie.Need-add-next Inv-loop μ-loop
+add-next c = omega (arith, turn c)
+
 add-place : tie.Need-add-place Inv-loop μ-loop
 add-place c = omega (arith, turn c)
 
@@ -53,11 +63,11 @@ loop-again c =
     let w = c .before .before .store-line in
     let q = lines-true five (a .columns) (l .loop .left) (l .loop .next) (a .text .now) (omega arith) largest (l .loop .inv .3) in
     let t = turn c in (
-      rw (w .ensures .0) (t .0),
+      t .0,
       omega (arith, w .kept .1 .1 .1 .0),
       omega (arith, t .1, w .kept .1 .1 .1 .0),
-      rw (w .ensures .0) (q .1),
-      rw (w .ensures .0, w .ensures .1) (sym (store-lines-next five (l .loop .list) (a .text .now) (l .loop .place) (l .loop .next) (a .columns) (l .loop .left) (omega arith)) ∙ l .loop .inv .4),
+      q .1,
+      rw (w .ensures) (sym (store-lines-next five (l .loop .list) (a .text .now) (l .loop .place) (l .loop .next) (a .columns) (l .loop .left) (omega arith)) ∙ l .loop .inv .4),
     )
 
 same-length : tie.Need-same-length Inv-loop μ-loop
@@ -72,8 +82,11 @@ store-lines-spec =
     (tie.spec
     Inv-loop
     μ-loop
+    mul-size
+    add-size
     loop-holds
     store-line-requires
+    add-next
     add-place
     sub-left
     loop-less

@@ -1,54 +1,87 @@
 -- `judge_edges` meets its contract. The loop's invariant: the answer is the one from edge e on.
 use mathlib.Core.Path.{_≡_, sym, ap, _∙_}
 use mathlib.Core.Bool.{true}
-use Prim.Native.Nat.{ℕ, _+_, _-_, _≤_}
+use Prim.Native.Nat.{_+_, _-_, _≤_}
 use native.Mathlib.Omega.{arith}
-use lib.ListN.{length, drop, getD, length-drop}
+use lib.ListN.{length, drop, length-drop}
 use borrow.Author.Needs.{needs}
-use Rattle.text.specs.Column.{five, largest, numbers, linesBegin, linesNumbers}
-use Rattle.text.proofs.Laws.{lines-true}
-use Rattle.text_read.proofs.Edges.{edge-next, edge-stop, edges-over}
+use borrow.Author.Tests.{not-true, not-false}
 use Rattle.connectivity.specs.Plan.{limits}
-use Rattle.connectivity.specs.Admission.{edgeNumber, endsAnswer}
 use Rattle.graph.specs.Admission.{toldBy}
+use Rattle.text.specs.Column.{five, largest, lineSize, lineFits}
+use Rattle.text.proofs.Laws.{line-long}
+use Rattle.text_read.specs.Header.{edgeLinesAnswer}
+use Rattle.text_read.proofs.Edges.{edgeAt, edge-none, edge-next, edge-stop, edges-over}
 use Rattle.text_read.proofs.plan.judge_edges.Statement.{statement}
 use Rattle.text_read.proofs.plan.judge_edges.Tie as tie
 
 abbrev Inv-loop : tie.InvT-loop
-Inv-loop text at vertices edges next₀ e₀ next e = (e ≤ edges) × (edges ≤ limits .edges) × (next ≤ length text) × (linesBegin five largest 2 (edges - e) (drop next text) ≡ true) × (endsAnswer vertices 0 (linesNumbers five 2 edges (drop at text)) ≡ endsAnswer vertices e (linesNumbers five 2 (edges - e) (drop next text)))
+Inv-loop text at vertices edges next₀ e₀ next e = (e ≤ edges) × (edges ≤ limits .edges) × (next ≤ length text) × (edgeLinesAnswer five largest vertices 0 edges (drop at text) ≡ edgeLinesAnswer five largest vertices e (edges - e) (drop next text))
 
 abbrev μ-loop : tie.MeasureT-loop
 μ-loop text at vertices edges next₀ e₀ next e = edges - e
 
 loop-holds : tie.Need-loop-holds Inv-loop μ-loop
-loop-holds c = let a = c .before .args in let p : a .edges - 0 ≡ a .edges = omega arith in (omega arith, omega arith, omega arith, rw p (c .before .pre .2), rw p)
+loop-holds c = let a = c .before .args in let p : a .edges - 0 ≡ a .edges = omega arith in (omega arith, omega arith, omega arith, rw p)
 
-two-numbers-requires : tie.Need-two-numbers-requires Inv-loop μ-loop
-two-numbers-requires c κs =
-    let l = c .before in
+read-line-requires : tie.Need-read-line-requires Inv-loop μ-loop
+read-line-requires c κs = omega arith
+
+number-alone-requires : tie.Need-number-alone-requires Inv-loop μ-loop
+number-alone-requires c κs = search needs
+
+returns : tie.Need-returns Inv-loop μ-loop
+returns c =
+    let l = c .before .before .before .before in
     let a = l .before .before .args in
-    (l .loop .inv .2, lines-true five 2 (a .edges - l .loop .e) (l .loop .next) (a .text .now) (omega arith) largest (l .loop .inv .3) .0)
+    let f = sym (c .before .before .read-line .ensures .fits) ∙ not-true _ (c .before .if1 .taken) in
+    c .number-alone .ensures ∙ sym (ap toldBy (l .loop .inv .3 ∙ edge-none five largest (a .vertices) (l .loop .e) (l .loop .next) (a .edges - l .loop .e) (a .text .now) (omega arith) f))
+
+-- the line is in the form, so it is there
+fits : (c : tie.Else1 Inv-loop μ-loop) → let l = c .before .before .before in lineFits five largest 2 (drop (l .loop .next) (l .before .before .args .text .now)) ≡ true
+fits c = sym (c .before .read-line .ensures .fits) ∙ not-false _ (c .if1 .left)
+
+room : (c : tie.Else1 Inv-loop μ-loop) → let l = c .before .before .before in l .loop .next + lineSize five 2 ≤ length (l .before .before .args .text .now)
+room c =
+    let l = c .before .before .before in
+    let t = l .before .before .args .text .now in
+    omega (arith, line-long five largest 2 (drop (l .loop .next) t) (fits c), length-drop (l .loop .next) t)
+
+add-next : tie.Need-add-next Inv-loop μ-loop
+add-next c = omega (arith, room c)
 
 judge-edge-requires : tie.Need-judge-edge-requires Inv-loop μ-loop
 judge-edge-requires c κs = search needs
 
 -- the edge is judged by the line's two numbers
 judged : (c : tie.After-judge-edge Inv-loop μ-loop)
-    → let l = c .before .before .before in
+    → let l = c .before .before .before .before in
     let a = l .before .before .args in
-    let xs = numbers five 2 (drop (l .loop .next) (a .text .now)) in
-    c .judge-edge .result ≡ edgeNumber (a .vertices) (getD xs 0 0) (getD xs 1 0)
-judged c = let e = c .before .two-numbers .ensures in c .judge-edge .ensures ∙ rw (e .0, e .1)
+    c .judge-edge .result ≡ edgeAt five (a .vertices) (drop (l .loop .next) (a .text .now))
+judged c =
+    let r = c .before .before .read-line .ensures in
+    let e = not-false _ (c .before .if1 .left) in
+    c .judge-edge .ensures ∙ rw (r .first e, r .second e)
 
-cast-t10 : tie.Need-cast-t10 Inv-loop μ-loop
-cast-t10 c = omega arith
+sub-lines-begin : tie.Need-sub-lines-begin Inv-loop μ-loop
+sub-lines-begin c = omega arith
 
-returns : tie.Need-returns Inv-loop μ-loop
-returns c =
-    let l = c .before .before .before .before in
+sub-lines-begin-2 : tie.Need-sub-lines-begin-2 Inv-loop μ-loop
+sub-lines-begin-2 c = omega arith
+
+lines-begin-requires : tie.Need-lines-begin-requires Inv-loop μ-loop
+lines-begin-requires c κs = omega (arith, room (c .before .before))
+
+if-fits-requires : tie.Need-if-fits-requires Inv-loop μ-loop
+if-fits-requires c κs = omega arith
+
+returns-2 : tie.Need-returns-2 Inv-loop μ-loop
+returns-2 c =
+    let j = c .before .before .before in
+    let l = j .before .before .before .before in
     let a = l .before .before .args in
-    let q = l .loop .inv .4 ∙ edge-stop five (a .vertices) (l .loop .e) (l .loop .next) (a .edges - l .loop .e) (a .text .now) (omega arith) (λ p. c .if1 .taken (judged (c .before) ∙ p)) in
-    ap (λ (n : ℕ). record { number = n; place = l .loop .e }) (judged (c .before)) ∙ sym (ap toldBy q)
+    let q = edge-stop five largest (a .vertices) (l .loop .e) (l .loop .next) (a .edges - l .loop .e) (a .text .now) (omega arith) (fits (j .before)) (λ z. c .before .before .if2 .taken (judged j ∙ z)) in
+    c .if-fits .ensures ∙ rw (c .before .lines-begin .ensures, judged j) (sym (ap toldBy (l .loop .inv .3 ∙ q)))
 
 add-e : tie.Need-add-e Inv-loop μ-loop
 add-e c = omega arith
@@ -58,26 +91,24 @@ loop-less c = omega arith
 
 loop-again : tie.Need-loop-again Inv-loop μ-loop
 loop-again c =
-    let l = c .before .before .before .before in
+    let j = c .before in
+    let l = j .before .before .before .before in
     let a = l .before .before .args in
-    let q = lines-true five 2 (a .edges - l .loop .e) (l .loop .next) (a .text .now) (omega arith) largest (l .loop .inv .3) in
-    let p : a .edges - (l .loop .e + 1) ≡ a .edges - l .loop .e - 1 = omega arith in
-    let n = c .before .before .two-numbers .ensures .2 in (
+    let p : a .edges - (l .loop .e + 1) ≡ a .edges - l .loop .e - 1 = omega arith in (
       omega arith,
       omega arith,
-      omega (arith, length-drop (l .loop .next) (a .text .now), n, q .2),
-      rw (p, n) (q .1),
-      rw (p, n) (l .loop .inv .4 ∙ edge-next five (a .vertices) (l .loop .e) (l .loop .next) (a .edges - l .loop .e) (a .text .now) (omega arith) (sym (judged (c .before)) ∙ c .if1 .left)),
+      room (j .before),
+      rw p (l .loop .inv .3 ∙ edge-next five largest (a .vertices) (l .loop .e) (l .loop .next) (a .edges - l .loop .e) (a .text .now) (omega arith) (fits (j .before)) (sym (judged j) ∙ c .if2 .left)),
     )
 
-number-alone-requires : tie.Need-number-alone-requires Inv-loop μ-loop
-number-alone-requires c κs = search needs
+number-alone-requires-2 : tie.Need-number-alone-requires-2 Inv-loop μ-loop
+number-alone-requires-2 c κs = search needs
 
-returns-2 : tie.Need-returns-2 Inv-loop μ-loop
-returns-2 c =
+returns-3 : tie.Need-returns-3 Inv-loop μ-loop
+returns-3 c =
     let l = c .before .before in
     let a = l .before .before .args in
-    c .number-alone .ensures ∙ sym (ap toldBy (l .loop .inv .4 ∙ edges-over five (a .vertices) (l .loop .e) (a .edges - l .loop .e) (drop (l .loop .next) (a .text .now)) (omega arith)))
+    c .number-alone2 .ensures ∙ sym (ap toldBy (l .loop .inv .3 ∙ edges-over five largest (a .vertices) (l .loop .e) (a .edges - l .loop .e) (drop (l .loop .next) (a .text .now)) (omega arith)))
 
 pub judge-edges-spec : {M : Type 1} → statement M
 judge-edges-spec =
@@ -86,12 +117,18 @@ judge-edges-spec =
     Inv-loop
     μ-loop
     loop-holds
-    two-numbers-requires
-    judge-edge-requires
-    cast-t10
+    read-line-requires
+    number-alone-requires
     returns
+    add-next
+    judge-edge-requires
+    sub-lines-begin
+    sub-lines-begin-2
+    lines-begin-requires
+    if-fits-requires
+    returns-2
     add-e
     loop-less
     loop-again
-    number-alone-requires
-    returns-2)
+    number-alone-requires-2
+    returns-3)

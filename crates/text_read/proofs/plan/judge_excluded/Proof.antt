@@ -1,83 +1,104 @@
 -- `judge_excluded` meets its contract. The loop's invariant: the answer is the one from the next line on.
-use mathlib.Core.Path.{_≡_, refl, sym, ap, _∙_}
-use mathlib.Core.Bool.{true}
-use mathlib.Core.List.{List}
-use Prim.Native.Nat.{ℕ, _+_, _-_, _≤_, _<_}
+use mathlib.Core.Path.{_≡_, sym, ap, _∙_}
+use mathlib.Core.Bool.{true, _&&_}
+use Prim.Native.Nat.{_+_, _-_, _≤_}
 use native.Mathlib.Omega.{arith}
-use lib.ListN.{length, drop, getD, length-drop}
+use lib.Dec.{ltb, leb}
+use lib.ListN.{length, drop, length-drop}
 use borrow.Author.Needs.{needs}
-use Rattle.connectivity.specs.Admission.{excludedAnswer}
+use borrow.Author.Tests.{not-true, not-false, ltb-true}
 use Rattle.graph.specs.Admission.{toldBy}
-use Rattle.graph.proofs.Barring.{excluded-next, excluded-low, excluded-high, excluded-over}
-use Rattle.text.specs.Column.{five, largest, linesBegin, linesNumbers}
-use Rattle.text.proofs.Laws.{lines-true}
-use Rattle.text.proofs.Reading.{length-lines-numbers}
-use Rattle.text_read.proofs.Edges.{excluded-line}
+use Rattle.text.specs.Column.{five, largest, lineSize, lineFits}
+use Rattle.text.proofs.Laws.{and-true, line-long}
+use Rattle.text_read.specs.Header.{excludedLinesAnswer}
+use Rattle.text_read.proofs.Edges.{excludedOn, excluded-none, excluded-next, excluded-stop, excluded-over}
 use Rattle.text_read.proofs.plan.judge_excluded.Statement.{statement}
 use Rattle.text_read.proofs.plan.judge_excluded.Tie as tie
 
 abbrev Inv-loop : tie.InvT-loop
-Inv-loop text at vertices excluded next₀ low₀ k₀ next low k = (k ≤ excluded) × (excluded ≤ vertices) × (next ≤ length text) × (linesBegin five largest 1 (excluded - k) (drop next text) ≡ true) × (drop k (linesNumbers five 1 excluded (drop at text)) ≡ linesNumbers five 1 (excluded - k) (drop next text)) × (excludedAnswer vertices 0 0 (linesNumbers five 1 excluded (drop at text)) ≡ excludedAnswer vertices k low (drop k (linesNumbers five 1 excluded (drop at text))))
+Inv-loop text at vertices excluded next₀ low₀ k₀ next low k = (k ≤ excluded) × (excluded ≤ vertices) × (next ≤ length text) × (excludedLinesAnswer five largest vertices 0 0 excluded (drop at text) ≡ excludedLinesAnswer five largest vertices k low (excluded - k) (drop next text))
 
 abbrev μ-loop : tie.MeasureT-loop
 μ-loop text at vertices excluded next₀ low₀ k₀ next low k = excluded - k
 
 loop-holds : tie.Need-loop-holds Inv-loop μ-loop
-loop-holds c = let a = c .before .args in let p : a .excluded - 0 ≡ a .excluded = omega arith in (omega arith, omega arith, omega arith, rw p (c .before .pre .2), rw p, refl)
+loop-holds c = let a = c .before .args in let p : a .excluded - 0 ≡ a .excluded = omega arith in (omega arith, omega arith, omega arith, rw p)
 
-one-number-requires : tie.Need-one-number-requires Inv-loop μ-loop
-one-number-requires c κs =
-    let l = c .before in
-    let a = l .before .before .args in
-    (l .loop .inv .2, lines-true five 1 (a .excluded - l .loop .k) (l .loop .next) (a .text .now) (omega arith) largest (l .loop .inv .3) .0)
+read-line-requires : tie.Need-read-line-requires Inv-loop μ-loop
+read-line-requires c κs = omega arith
 
--- the number that was read is the excluded vertex of this place; the lines behind it
-record Taken (list : List ℕ) (k v next : ℕ) (text : List ℕ) (left : ℕ) : Type 0 where
-  there : k < length list
-  here : getD list k 0 ≡ v
-  behind : drop (k + 1) list ≡ linesNumbers five 1 left (drop next text)
-  begin : linesBegin five largest 1 left (drop next text) ≡ true
-  inside : next ≤ length text
-
-taken : (c : tie.After-one-number Inv-loop μ-loop)
-    → let l = c .before .before in
-    let a = l .before .before .args in
-    Taken (linesNumbers five 1 (a .excluded) (drop (a .at) (a .text .now))) (l .loop .k) (c .one-number .result .number) (c .one-number .result .next) (a .text .now) (a .excluded - (l .loop .k + 1))
-taken c =
-    let l = c .before .before in
-    let a = l .before .before .args in
-    let e = c .one-number .ensures in
-    let x = excluded-line five (l .loop .k) (l .loop .next) (a .excluded - l .loop .k) _ (a .text .now) (omega arith) (l .loop .inv .4) in
-    let q = lines-true five 1 (a .excluded - l .loop .k) (l .loop .next) (a .text .now) (omega arith) largest (l .loop .inv .3) in
-    let p : a .excluded - (l .loop .k + 1) ≡ a .excluded - l .loop .k - 1 = omega arith in
-    record {
-      there = x .0;
-      here = x .1 ∙ sym (e .0);
-      behind = rw (p, e .1) (x .2);
-      begin = rw (p, e .1) (q .1);
-      inside = omega (arith, length-drop (l .loop .next) (a .text .now), e .1, q .2);
-    }
-
-eighteen-requires : tie.Need-eighteen-requires Inv-loop μ-loop
-eighteen-requires c κs = omega (arith, c .before .before .before .before .before .fits .vertices)
+number-alone-requires : tie.Need-number-alone-requires Inv-loop μ-loop
+number-alone-requires c κs = search needs
 
 returns : tie.Need-returns Inv-loop μ-loop
 returns c =
-    let l = c .before .before .before .before .loop in
-    let t = taken (c .before .before) in
-    c .eighteen .ensures ∙ sym (ap toldBy (l .inv .5 ∙ excluded-low _ (l .k) (l .low) _ (t .there) (omega (arith, t .here))))
+    let l = c .before .before .before .before in
+    let a = l .before .before .args in
+    let f = sym (c .before .before .read-line .ensures .fits) ∙ not-true _ (c .before .if1 .taken) in
+    c .number-alone .ensures ∙ sym (ap toldBy (l .loop .inv .3 ∙ excluded-none five largest (a .vertices) (l .loop .k) (l .loop .low) (l .loop .next) (a .excluded - l .loop .k) (a .text .now) (omega arith) f))
 
-eighteen-requires-2 : tie.Need-eighteen-requires-2 Inv-loop μ-loop
-eighteen-requires-2 c κs = omega (arith, c .before .before .before .before .before .before .fits .vertices)
+-- the line is in the form, so it is there
+fits : (c : tie.Else1 Inv-loop μ-loop) → let l = c .before .before .before in lineFits five largest 1 (drop (l .loop .next) (l .before .before .args .text .now)) ≡ true
+fits c = sym (c .before .read-line .ensures .fits) ∙ not-false _ (c .if1 .left)
+
+room : (c : tie.Else1 Inv-loop μ-loop) → let l = c .before .before .before in l .loop .next + lineSize five 1 ≤ length (l .before .before .args .text .now)
+room c =
+    let l = c .before .before .before in
+    let t = l .before .before .args .text .now in
+    omega (arith, line-long five largest 1 (drop (l .loop .next) t) (fits c), length-drop (l .loop .next) t)
+
+-- its number is the excluded vertex
+taken : (c : tie.Else1 Inv-loop μ-loop) → let l = c .before .before .before in c .before .read-line .result .first ≡ excludedOn five (drop (l .loop .next) (l .before .before .args .text .now))
+taken c = c .before .read-line .ensures .first (not-false _ (c .if1 .left))
+
+add-next : tie.Need-add-next Inv-loop μ-loop
+add-next c = omega (arith, room c)
+
+between-requires : tie.Need-between-requires Inv-loop μ-loop
+between-requires c κs = search needs
+
+-- the test is that of the definition
+judged : (c : tie.After-between Inv-loop μ-loop)
+    → let l = c .before .before .before .before in
+    let a = l .before .before .args in
+    let v = excludedOn five (drop (l .loop .next) (a .text .now)) in
+    c .between .result ≡ (leb (l .loop .low) v && ltb v (a .vertices))
+judged c = c .between .ensures ∙ rw (taken (c .before))
+
+sub-lines-fit : tie.Need-sub-lines-fit Inv-loop μ-loop
+sub-lines-fit c = omega arith
+
+sub-lines-fit-2 : tie.Need-sub-lines-fit-2 Inv-loop μ-loop
+sub-lines-fit-2 c = omega arith
+
+lines-fit-requires : tie.Need-lines-fit-requires Inv-loop μ-loop
+lines-fit-requires c κs = omega (arith, room (c .before .before))
+
+if-fits-requires : tie.Need-if-fits-requires Inv-loop μ-loop
+if-fits-requires c κs = omega (arith, c .before .before .before .before .before .before .before .before .fits .vertices)
 
 returns-2 : tie.Need-returns-2 Inv-loop μ-loop
 returns-2 c =
-    let l = c .before .before .before .before .before .loop in
-    let t = taken (c .before .before .before) in
-    c .eighteen2 .ensures ∙ sym (ap toldBy (l .inv .5 ∙ excluded-high _ (l .k) (l .low) _ (t .there) (omega (arith, t .here))))
+    let j = c .before .before .before in
+    let l = j .before .before .before .before in
+    let a = l .before .before .args in
+    let q = excluded-stop five largest (a .vertices) (l .loop .k) (l .loop .low) (l .loop .next) (a .excluded - l .loop .k) (a .text .now) (omega arith) (fits (j .before)) (sym (judged j) ∙ not-true _ (c .before .before .if2 .taken)) in
+    c .if-fits .ensures ∙ rw (c .before .lines-fit .ensures) (sym (ap toldBy (l .loop .inv .3 ∙ q)))
+
+-- the excluded vertex is in order
+rises : (c : tie.Else2 Inv-loop μ-loop)
+    → let l = c .before .before .before .before .before in
+    let a = l .before .before .args in
+    let v = excludedOn five (drop (l .loop .next) (a .text .now)) in
+    (leb (l .loop .low) v && ltb v (a .vertices)) ≡ true
+rises c = sym (judged (c .before)) ∙ not-false _ (c .if2 .left)
 
 add-low : tie.Need-add-low Inv-loop μ-loop
-add-low c = omega (arith, c .before .before .before .before .before .before .fits .vertices)
+add-low c =
+    let l = c .before .before .before .before .before in
+    let s = l .before .before in
+    let v = excludedOn five (drop (l .loop .next) (s .args .text .now)) in
+    omega (arith, ltb-true v (s .args .vertices) (and-true (leb (l .loop .low) v) (ltb v (s .args .vertices)) (rises c) .1), taken (c .before .before), s .fits .vertices)
 
 add-k : tie.Need-add-k Inv-loop μ-loop
 add-k c = omega arith
@@ -87,20 +108,27 @@ loop-less c = omega arith
 
 loop-again : tie.Need-loop-again Inv-loop μ-loop
 loop-again c =
-    let l = c .before .before .before .before .loop in
-    let t = taken (c .before .before) in
-    (omega arith, omega arith, t .inside, t .begin, t .behind, l .inv .5 ∙ excluded-next _ (l .k) (l .low) _ (t .there) (omega (arith, t .here)) (omega (arith, t .here)) ∙ rw (t .here))
+    let j = c .before in
+    let l = j .before .before .before .before in
+    let a = l .before .before .args in
+    let p : a .excluded - (l .loop .k + 1) ≡ a .excluded - l .loop .k - 1 = omega arith in (
+      omega arith,
+      omega arith,
+      room (j .before),
+      rw (p, taken (j .before)) (l .loop .inv .3 ∙ excluded-next five largest (a .vertices) (l .loop .k) (l .loop .low) (l .loop .next) (a .excluded - l .loop .k) (a .text .now) (omega arith) (fits (j .before)) (rises c)),
+    )
 
-number-alone-requires : tie.Need-number-alone-requires Inv-loop μ-loop
-number-alone-requires c κs = search needs
+lines-fit-requires-2 : tie.Need-lines-fit-requires-2 Inv-loop μ-loop
+lines-fit-requires-2 c κs = omega arith
+
+if-fits-requires-2 : tie.Need-if-fits-requires-2 Inv-loop μ-loop
+if-fits-requires-2 c κs = search needs
 
 returns-3 : tie.Need-returns-3 Inv-loop μ-loop
 returns-3 c =
-    let l = c .before .before in
+    let l = c .before .before .before in
     let a = l .before .before .args in
-    let list = linesNumbers five 1 (a .excluded) (drop (a .at) (a .text .now)) in
-    c .number-alone .ensures
-    ∙ sym (ap toldBy (l .loop .inv .5 ∙ excluded-over _ (l .loop .k) (l .loop .low) (drop (l .loop .k) list) (omega (arith, length-drop (l .loop .k) list, length-lines-numbers five 1 (a .excluded) (drop (a .at) (a .text .now))))))
+    c .if-fits2 .ensures ∙ rw (c .before .lines-fit2 .ensures) (sym (ap toldBy (l .loop .inv .3 ∙ excluded-over five largest (a .vertices) (l .loop .k) (l .loop .low) (a .excluded - l .loop .k) (drop (l .loop .next) (a .text .now)) (omega arith))))
 
 pub judge-excluded-spec : {M : Type 1} → statement M
 judge-excluded-spec =
@@ -109,14 +137,20 @@ judge-excluded-spec =
     Inv-loop
     μ-loop
     loop-holds
-    one-number-requires
-    eighteen-requires
+    read-line-requires
+    number-alone-requires
     returns
-    eighteen-requires-2
+    add-next
+    between-requires
+    sub-lines-fit
+    sub-lines-fit-2
+    lines-fit-requires
+    if-fits-requires
     returns-2
     add-low
     add-k
     loop-less
     loop-again
-    number-alone-requires
+    lines-fit-requires-2
+    if-fits-requires-2
     returns-3)

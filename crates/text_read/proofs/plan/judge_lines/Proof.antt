@@ -1,96 +1,142 @@
 -- `judge_lines` meets its contract: each way out cites the law for its tests.
 use mathlib.Core.Path.{_≡_, sym, ap, _∙_}
+use mathlib.Core.Bool.{true}
 use mathlib.Core.List.{List}
 use Prim.Native.Nat.{ℕ, _+_, _*_, _≤_}
 use native.Mathlib.Omega.{arith}
 use lib.ListN.{length, drop, length-drop}
 use lib.Seq.{drop-drop}
 use borrow.Author.Needs.{needs}
-use Rattle.connectivity.specs.Plan.{Plan, plan}
+use Rattle.connectivity.specs.Plan.{Plan}
 use Rattle.connectivity.specs.Admission.{endsAnswer, excludedAnswer}
 use Rattle.graph.specs.Admission.{toldBy}
 use Rattle.graph.specs.declared.Answer.{Answer}
-use Rattle.text.specs.Column.{five, largest, lineSize, behindLines, linesNumbers}
-use Rattle.text.proofs.Laws.{begin-long, fit-true}
+use Rattle.text.specs.Column.{five, largest, lineSize, linesBegin, behindLines}
+use Rattle.text.specs.Plan.{listedAnswer}
+use Rattle.text.proofs.Laws.{begin-long}
 use Rattle.text.proofs.Reading.{length-lines-numbers}
-use Rattle.text_read.specs.Header.{endsAt, excludedAt}
-use Rattle.text_read.proofs.Edges.{ends-refused, excluded-refused, few-kept, two-kept}
+use Rattle.text_read.specs.Header.{edgeLinesAnswer, excludedLinesAnswer, linesAnswer}
+use Rattle.text_read.proofs.Edges.{drawn, edges-unread, edges-read, excluded-unread, excluded-read, ends-refused, excluded-refused, few-kept, two-kept}
 use Rattle.text_read.proofs.plan.judge_lines.Statement.{statement}
 use Rattle.text_read.proofs.plan.judge_lines.Tie as tie
 
--- the text, and the plan that its lines list
 abbrev txt : tie.Start → List ℕ
-txt s = s .args .text .now
+txt s = drop (s .args .at) (s .args .text .now)
 
-abbrev drawn : tie.Start → Plan
-drawn s = plan (s .args .vertices) (endsAt five (txt s) (s .args .at) (s .args .edges)) (excludedAt five (txt s) (s .args .at) (s .args .edges) (s .args .excluded))
-
--- where the lines of the excluded vertices begin
-room : (s : tie.Start) → s .args .at + s .args .edges * lineSize five 2 ≤ length (txt s)
-room s = let a = s .args in omega (arith, begin-long five largest 2 (a .edges) (drop (a .at) (txt s)) (s .pre .begin), length-drop (a .at) (txt s), s .pre .inside)
-
-behind : (s : tie.Start) → drop (s .args .at + s .args .edges * lineSize five 2) (txt s) ≡ behindLines five 2 (s .args .edges) (drop (s .args .at) (txt s))
-behind s = sym (drop-drop (s .args .edges * lineSize five 2) (s .args .at) (txt s))
+-- the plan that the lines list
+abbrev listed : tie.Start → Plan
+listed s = let a = s .args in drawn five largest (a .vertices) (a .edges) (a .excluded) (txt s)
 
 number : {x y : Answer} → x ≡ y → x .number ≡ y .number
 number p = ap (λ (z : Answer). z .number) p
 
 judge-edges-requires : tie.Need-judge-edges-requires
-judge-edges-requires c κs = let p = c .before .pre in (p .short, p .inside, p .begin)
+judge-edges-requires c κs = omega arith
 
 returns : tie.Need-returns
 returns c =
-    let e = c .before .judge-edges .ensures in
-    e ∙ sym (ap toldBy (ends-refused (drawn (c .before .before .before)) (λ z. c .if1 .taken (number e ∙ z))))
-
-mul-judge-excluded : tie.Need-mul-judge-excluded
-mul-judge-excluded c = omega (arith, room (c .before .before .before))
-
-add-judge-excluded : tie.Need-add-judge-excluded
-add-judge-excluded c = omega (arith, room (c .before .before .before))
-
-judge-excluded-requires : tie.Need-judge-excluded-requires
-judge-excluded-requires c κs =
     let s = c .before .before .before in
     let a = s .args in
-    (s .pre .few, room s, rw (behind s) (fit-true five largest 1 (a .excluded) (behindLines five 2 (a .edges) (drop (a .at) (txt s))) (s .pre .fit) .0))
+    let e = c .before .judge-edges .ensures in
+    e ∙ sym (ap toldBy (edges-unread five largest (a .vertices) (a .edges) (a .excluded) (txt s) (sym (number e) ∙ c .if1 .taken)))
 
--- the ends fit
-fit : (c : tie.Else1) → (endsAnswer (c .before .before .before .args .vertices) 0 (drawn (c .before .before .before) .ends)) .number ≡ 0
-fit c = sym (number (c .before .judge-edges .ensures)) ∙ c .if1 .left
+-- the lines of the edges are in the form, and those of the excluded vertices begin behind them
+edged : (c : tie.Else1)
+    → let a = c .before .before .before .args in
+    (linesBegin five largest 2 (a .edges) (txt (c .before .before .before)) ≡ true) × (edgeLinesAnswer five largest (a .vertices) 0 (a .edges) (txt (c .before .before .before)) ≡ endsAnswer (a .vertices) 0 (listed (c .before .before .before) .ends))
+edged c =
+    let s = c .before .before .before in
+    let a = s .args in
+    edges-read five largest (a .vertices) (a .edges) (a .excluded) (txt s) (λ z. c .if1 .left (number (c .before .judge-edges .ensures) ∙ z))
 
--- and what is said of the excluded vertices
-risen : (c : tie.After-judge-excluded) → c .judge-excluded .result ≡ toldBy (excludedAnswer (c .before .before .before .before .args .vertices) 0 0 (drawn (c .before .before .before .before) .excluded))
+room : (c : tie.Else1) → let a = c .before .before .before .args in a .at + a .edges * lineSize five 2 ≤ length (a .text .now)
+room c =
+    let a = c .before .before .before .args in
+    omega (arith, begin-long five largest 2 (a .edges) (txt (c .before .before .before)) (edged c .0), length-drop (a .at) (a .text .now), c .before .before .before .pre)
+
+mul-judge-excluded : tie.Need-mul-judge-excluded
+mul-judge-excluded c = omega (arith, room c)
+
+add-judge-excluded : tie.Need-add-judge-excluded
+add-judge-excluded c = omega (arith, room c)
+
+judge-excluded-requires : tie.Need-judge-excluded-requires
+judge-excluded-requires c κs = omega (arith, room c)
+
+risen : (c : tie.After-judge-excluded)
+    → let s = c .before .before .before .before in
+    let a = s .args in
+    c .judge-excluded .result ≡ toldBy (excludedLinesAnswer five largest (a .vertices) 0 0 (a .excluded) (behindLines five 2 (a .edges) (txt s)))
 risen c =
     let a = c .before .before .before .before .args in
-    c .judge-excluded .ensures ∙ ap (λ (l : List ℕ). toldBy (excludedAnswer (a .vertices) 0 0 (linesNumbers five 1 (a .excluded) l))) (behind (c .before .before .before .before))
-
-long : (s : tie.Start) → length (drawn s .excluded) ≡ s .args .excluded
-long s = let a = s .args in omega (arith, length-lines-numbers five 1 (a .excluded) (behindLines five 2 (a .edges) (drop (a .at) (txt s))))
+    c .judge-excluded .ensures ∙ ap (λ (l : List ℕ). toldBy (excludedLinesAnswer five largest (a .vertices) 0 0 (a .excluded) l)) (sym (drop-drop (a .edges * lineSize five 2) (a .at) (a .text .now)))
 
 returns-2 : tie.Need-returns-2
 returns-2 c =
+    let o = c .before .before in
+    let s = o .before .before .before in
+    let a = s .args in
     let e = risen (c .before) in
-    e ∙ sym (ap toldBy (excluded-refused (drawn (c .before .before .before .before .before)) (fit (c .before .before)) (λ z. c .if2 .taken (number e ∙ z))))
+    e ∙ sym (ap toldBy (excluded-unread five largest (a .vertices) (a .edges) (a .excluded) (txt s) (edged o .0) (sym (number e) ∙ c .if2 .taken)))
 
-sub-if3 : tie.Need-sub-if3
-sub-if3 c = omega (arith, c .before .before .before .before .before .pre .few)
+-- both are in the form: the answer to what they list
+both : (c : tie.Else2)
+    → let s = c .before .before .before .before .before in
+    let a = s .args in
+    (linesAnswer five largest (a .vertices) (a .edges) (a .excluded) (txt s) ≡ listedAnswer (listed s))
+    × (c .before .judge-excluded .result ≡ toldBy (excludedAnswer (a .vertices) 0 0 (listed s .excluded)))
+    × (c .before .before .before .judge-edges .result ≡ toldBy (endsAnswer (a .vertices) 0 (listed s .ends)))
+both c =
+    let o = c .before .before in
+    let s = o .before .before .before in
+    let a = s .args in
+    let e = risen (c .before) in
+    let x = excluded-read five largest (a .vertices) (a .edges) (a .excluded) (txt s) (edged o .0) (λ z. c .if2 .left (number e ∙ z)) in
+    (x .0, e ∙ ap toldBy (x .1), o .before .judge-edges .ensures ∙ ap toldBy (edged o .1))
+
+returns-3 : tie.Need-returns-3
+returns-3 c =
+    let b = both (c .before) in
+    let s = c .before .before .before .before .before .before in
+    b .2 ∙ sym (ap toldBy (b .0 ∙ ends-refused (listed s) (λ z. c .if3 .taken (number (b .2) ∙ z))))
+
+-- the ends fit
+fit : (c : tie.Else3) → let s = c .before .before .before .before .before .before in (endsAnswer (s .args .vertices) 0 (listed s .ends)) .number ≡ 0
+fit c = sym (number (both (c .before) .2)) ∙ c .if3 .left
+
+returns-4 : tie.Need-returns-4
+returns-4 c =
+    let b = both (c .before .before) in
+    let s = c .before .before .before .before .before .before .before in
+    b .1 ∙ sym (ap toldBy (b .0 ∙ excluded-refused (listed s) (fit (c .before)) (λ z. c .if4 .taken (number (b .1) ∙ z))))
+
+-- and the excluded vertices rise
+rise : (c : tie.Else4) → let s = c .before .before .before .before .before .before .before in (excludedAnswer (s .args .vertices) 0 0 (listed s .excluded)) .number ≡ 0
+rise c = sym (number (both (c .before .before) .1)) ∙ c .if4 .left
+
+sub-if5 : tie.Need-sub-if5
+sub-if5 c = omega arith
+
+long : (s : tie.Start) → length (listed s .excluded) ≡ s .args .excluded
+long s = let a = s .args in omega (arith, length-lines-numbers five 1 (a .excluded) (behindLines five 2 (a .edges) (txt s)))
 
 number-alone-requires : tie.Need-number-alone-requires
 number-alone-requires c κs = search needs
 
-returns-3 : tie.Need-returns-3
-returns-3 c =
-    let s = c .before .before .before .before .before .before .before in
-    c .number-alone .ensures ∙ sym (ap toldBy (few-kept (drawn s) (fit (c .before .before .before .before)) (sym (number (risen (c .before .before .before))) ∙ c .before .before .if2 .left) (omega (arith, long s, c .before .if3 .taken, s .pre .few))))
+returns-5 : tie.Need-returns-5
+returns-5 c =
+    let o = c .before .before in
+    let s = o .before .before .before .before .before .before .before in
+    c .number-alone .ensures ∙ sym (ap toldBy (both (o .before .before) .0 ∙ few-kept (listed s) (fit (o .before)) (rise o) (omega (arith, long s, c .before .if5 .taken, s .pre .2))))
 
 number-alone-requires-2 : tie.Need-number-alone-requires-2
 number-alone-requires-2 c κs = search needs
 
-returns-4 : tie.Need-returns-4
-returns-4 c =
-    let s = c .before .before .before .before .before .before .before in
-    c .number-alone2 .ensures ∙ sym (ap toldBy (two-kept (drawn s) (fit (c .before .before .before .before)) (sym (number (risen (c .before .before .before))) ∙ c .before .before .if2 .left) (omega (arith, long s, c .before .if3 .left, s .pre .few))))
+returns-6 : tie.Need-returns-6
+returns-6 c =
+    let o = c .before .before in
+    let s = o .before .before .before .before .before .before .before in
+    c .number-alone2 .ensures ∙ sym (ap toldBy (both (o .before .before) .0 ∙ two-kept (listed s) (fit (o .before)) (rise o) (omega (arith, long s, c .before .if5 .left, s .pre .2))))
 
 pub judge-lines-spec : {M : Type 1} → statement M
 judge-lines-spec =
@@ -102,8 +148,10 @@ judge-lines-spec =
     add-judge-excluded
     judge-excluded-requires
     returns-2
-    sub-if3
-    number-alone-requires
     returns-3
+    returns-4
+    sub-if5
+    number-alone-requires
+    returns-5
     number-alone-requires-2
-    returns-4)
+    returns-6)
