@@ -24,6 +24,7 @@ mod measure_writer;
 mod plan;
 mod plans;
 mod random;
+mod reader;
 mod second;
 mod shapes;
 mod slugs;

@@ -1,11 +1,11 @@
-//! How much processor time the exported functions take on texts, beside the same on numbers.
+//! How much processor time the exported functions take on texts, beside the same on numbers; and how much of it is reading, beside a second reader.
 
 use crate::clock::{median, time};
 use crate::grow::{Family, grow};
-use crate::plan::Case;
+use crate::plan::{Case, Plan};
 use crate::random::Random;
-use crate::table::{head, number, row};
-use crate::{archive, texts};
+use crate::table::{head, number, row, whole};
+use crate::{archive, reader, texts};
 use std::hint::black_box;
 use std::time::Duration;
 
@@ -14,7 +14,7 @@ const TABS: usize = 4000;
 const SAMPLES: usize = 101;
 const TIME: Duration = Duration::from_millis(2);
 
-/// Prints a table: median times of the same call on numbers and on texts.
+/// Prints two tables: median times of the same call on numbers and on texts, and of reading.
 pub fn run() -> Result<(), String> {
     let case = grow(&mut Random::new(1), Family::Short, PIECES, TABS);
     let mut parted = case.clone();
@@ -35,6 +35,89 @@ pub fn run() -> Result<(), String> {
     check("check of a weak verdict, no tab named", &weak);
     write("writer, already parted", &parted);
     unread(&case);
+    println!();
+    reading()
+}
+
+/// How many texts of a kind are read in turn.
+const TEXTS: usize = 16;
+
+/// Prints a table: median times of reading alone, by the proved reader and by the second one.
+fn reading() -> Result<(), String> {
+    head(&[
+        "reading, texts of a kind in turn",
+        "bytes",
+        "proved, µs",
+        "second, µs",
+        "proved against second",
+    ]);
+    let cases: Vec<Case> = (1..=TEXTS as u64)
+        .map(|seed| grow(&mut Random::new(seed), Family::Short, PIECES, TABS))
+        .collect();
+    let plans: Vec<_> = cases.iter().map(|c| texts::write_plan(&c.plan)).collect();
+    let verdicts: Vec<_> = cases.iter().map(|c| texts::write(0, &c.list, 3)).collect();
+    let slugs: Vec<_> = cases.iter().map(with_slugs).collect();
+    let damaged: Vec<_> = plans.iter().map(|text| last_damaged(text)).collect();
+    plan_texts("plan text, 4,000 tabs", &plans, 8)?;
+    plan_texts("the same, 500 slugs", &slugs, 8)?;
+    plan_texts("the first, refused at its last byte", &damaged, 7)?;
+    verdict_texts("verdict text, 4,000 rows", &verdicts)
+}
+
+/// The plan's text with every other piece as a slug.
+fn with_slugs(case: &Case) -> Vec<u8> {
+    let mut plan = case.plan.clone();
+    plan.excluded = (0..plan.vertices).step_by(2).collect();
+    texts::write_plan(&plan)
+}
+
+fn last_damaged(text: &[u8]) -> Vec<u8> {
+    let (_, front) = text.split_last().expect("a text has a last byte");
+    [front, b" "].concat()
+}
+
+/// The proved reader is timed by the check of the text and an empty verdict text, which is refused before anything is checked.
+fn plan_texts(name: &str, plans: &[Vec<u8>], number: u16) -> Result<(), String> {
+    let mut table = vec![0; reader::TABLE];
+    let proved = |text: &[u8]| archive::check_texts(text, b"").number == number;
+    let second = |text: &[u8]| match reader::read_plan(text, &mut table) {
+        Ok(_) => number == 8,
+        Err(answer) => answer.number == number,
+    };
+    print_reading(name, plans, proved, second)
+}
+
+/// That of a verdict text by its check about a plan of two pieces, which is rejected by 9 before the first row.
+fn verdict_texts(name: &str, verdicts: &[Vec<u8>]) -> Result<(), String> {
+    let mut list = vec![0; reader::LIST];
+    let plan = texts::write_plan(&Plan::whole(2, vec![]));
+    let proved = |text: &[u8]| archive::check_texts(&plan, text).number == 9;
+    let second = |text: &[u8]| reader::read_verdict(text, &mut list).is_ok();
+    print_reading(name, verdicts, proved, second)
+}
+
+/// Both tell whether the answer is the one that is meant.
+fn print_reading(
+    name: &str,
+    all: &[Vec<u8>],
+    mut proved: impl FnMut(&[u8]) -> bool,
+    mut second: impl FnMut(&[u8]) -> bool,
+) -> Result<(), String> {
+    if !all.iter().all(|text| proved(text) && second(text)) {
+        return Err(format!("{name}: another answer than the one that is meant"));
+    }
+    let [mut one, mut other] = [0, 0];
+    let turn = |place: &mut usize| {
+        *place = (*place + 1) % all.len();
+        &all[*place]
+    };
+    let times = pair(
+        || _ = black_box(proved(black_box(turn(&mut one)))),
+        || _ = black_box(second(black_box(turn(&mut other)))),
+    )
+    .map(|ms| 1000.0 * ms);
+    let cells = [times[0], times[1], times[0] / times[1]].map(number);
+    row(&[name, &whole(all[0].len()), &cells[0], &cells[1], &cells[2]]);
     Ok(())
 }
 

@@ -51,10 +51,14 @@ pub fn admit(plan: &Plan) -> Outcome {
     require(ends.len().is_multiple_of(2), 1, 0)?;
     admit_counts(vertices, ends.len() / 2)?;
     for (edge, pair) in ends.chunks_exact(2).enumerate() {
-        require(pair[0] < vertices && pair[1] < vertices, 4, edge)?;
-        require(pair[0] != pair[1], 5, edge)?;
+        admit_tab(vertices, [pair[0], pair[1]], edge)?;
     }
-    admit_slugs(vertices, &plan.excluded)
+    let mut before = None;
+    for (position, &slug) in plan.excluded.iter().enumerate() {
+        admit_slug(vertices, before, slug, position)?;
+        before = Some(slug);
+    }
+    admit_kept(vertices, plan.excluded.len())
 }
 
 /// 2 and 3.
@@ -63,13 +67,20 @@ pub fn admit_counts(vertices: u16, edges: usize) -> Outcome {
     require(edges <= MAX_EDGES, 3, 0)
 }
 
-/// 18, and then 19: slugs are vertices, ascending, and two vertices or more are kept.
-fn admit_slugs(vertices: u16, slugs: &[u16]) -> Outcome {
-    for (position, &slug) in slugs.iter().enumerate() {
-        let above = position == 0 || slugs[position - 1] < slug;
-        require(slug < vertices && above, 18, position)?;
-    }
-    require(slugs.len() + 2 <= vertices as usize, 19, 0)
+/// 4, then 5.
+pub fn admit_tab(vertices: u16, ends: [u16; 2], tab: usize) -> Outcome {
+    require(ends[0] < vertices && ends[1] < vertices, 4, tab)?;
+    require(ends[0] != ends[1], 5, tab)
+}
+
+/// 18: a slug is a vertex, and above the one before.
+pub fn admit_slug(vertices: u16, before: Option<u16>, slug: u16, position: usize) -> Outcome {
+    require(slug < vertices && before < Some(slug), 18, position)
+}
+
+/// 19: two vertices or more are kept.
+pub fn admit_kept(vertices: u16, slugs: usize) -> Outcome {
+    require(slugs + 2 <= vertices as usize, 19, 0)
 }
 
 /// The vertices that are kept and the edges between them, of a plan that is admitted.

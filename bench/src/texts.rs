@@ -1,10 +1,9 @@
-//! A second reading of plan and verdict texts, written from document 01 and note 2 of document 02 alone, and random texts to read.
+//! The second check of a plan text and a verdict text, and random texts to read.
 
 use crate::plan::{Case, Plan};
 use crate::random::Random;
+use crate::reader;
 use crate::second::{self, Answer};
-
-const WIDTH: usize = 5;
 
 /// The answer to a plan text and a verdict text.
 pub fn check(plan: &[u8], verdict: &[u8]) -> Answer {
@@ -17,90 +16,24 @@ fn judge(plan: &[u8], verdict: &[u8]) -> Result<Answer, Answer> {
     Ok(second::check(&plan, kind, &list))
 }
 
-fn refused(number: u16) -> Answer {
-    Answer { number, place: 0 }
-}
-
-/// The number in a column: blanks, then digits without zeros in front.
-fn column(bytes: &[u8]) -> Option<u16> {
-    let blanks = bytes.iter().take_while(|&&b| b == b' ').count();
-    let digits = &bytes[blanks..];
-    let plain =
-        digits.iter().all(u8::is_ascii_digit) && (digits.len() == 1 || !digits.starts_with(b"0"));
-    let number = std::str::from_utf8(digits).ok()?;
-    if plain { number.parse().ok() } else { None }
-}
-
-/// The numbers of so many lines, with nothing behind the last.
-fn lines(text: &[u8], count: usize, columns: usize) -> Option<Vec<u16>> {
-    let width = WIDTH * columns;
-    if text.len() != count * (width + 1) {
-        return None;
-    }
-    let mut numbers = Vec::new();
-    for line in text.chunks_exact(width + 1) {
-        for bytes in line[..width].chunks_exact(WIDTH) {
-            numbers.push(column(bytes)?);
-        }
-        if line[width] != b'\n' {
-            return None;
-        }
-    }
-    Some(numbers)
-}
-
-/// The two numbers of the first line, and the text behind it.
-fn header(text: &[u8]) -> Option<(u16, u16, &[u8])> {
-    let (first, rest) = text.split_at_checked(2 * WIDTH + 1)?;
-    let numbers = lines(first, 1, 2)?;
-    Some((numbers[0], numbers[1], rest))
-}
-
-/// The pieces, the tabs and the slugs of a plan's first line, and the text behind it: two columns where there is no slug, else three.
-fn plan_header(text: &[u8]) -> Option<(u16, u16, u16, &[u8])> {
-    if let Some((vertices, edges, rest)) = header(text) {
-        return Some((vertices, edges, 0, rest));
-    }
-    let (first, rest) = text.split_at_checked(3 * WIDTH + 1)?;
-    let numbers = lines(first, 1, 3)?;
-    let (vertices, slugs) = (numbers[0], numbers[2]);
-    let fits = 0 < slugs && slugs <= vertices;
-    fits.then_some((vertices, numbers[1], slugs, rest))
-}
-
-/// The numbers of the lines of tabs and of those of slugs.
-fn plan_lines(text: &[u8], edges: u16, slugs: u16) -> Option<[Vec<u16>; 2]> {
-    let (tabs, behind) = text.split_at_checked(edges as usize * (2 * WIDTH + 1))?;
-    Some([
-        lines(tabs, edges as usize, 2)?,
-        lines(behind, slugs as usize, 1)?,
-    ])
-}
-
 /// The plan of a text, if it is in the form and admitted.
 pub fn read_plan(text: &[u8]) -> Result<Plan, Answer> {
-    let (vertices, edges, slugs, rest) = plan_header(text).ok_or(refused(7))?;
-    second::admit_counts(vertices, edges as usize)?;
-    let [ends, excluded] = plan_lines(rest, edges, slugs).ok_or(refused(7))?;
-    let plan = Plan {
-        vertices,
+    let mut ends = vec![0; reader::TABLE];
+    let counts = reader::read_plan(text, &mut ends)?;
+    let mut excluded = ends.split_off(2 * counts.tabs);
+    excluded.truncate(counts.slugs);
+    Ok(Plan {
+        vertices: counts.vertices,
         ends,
         excluded,
-    };
-    second::admit(&plan)?;
-    Ok(plan)
+    })
 }
 
 fn read_verdict(text: &[u8]) -> Result<(u16, Vec<u16>), Answer> {
-    let (kind, count, rest) = header(text).ok_or(refused(8))?;
-    let (rows, columns) = match (kind, count) {
-        (0, 0..=4000) => (count, 3),
-        (1, 0..=2) => (count, 1),
-        (2, 1..=7 | 18 | 19) => (0, 1),
-        _ => return Err(refused(8)),
-    };
-    let list = lines(rest, rows as usize, columns).ok_or(refused(8))?;
-    Ok((kind, if kind == 2 { vec![count] } else { list }))
+    let mut list = vec![0; reader::LIST];
+    let (kind, length) = reader::read_verdict(text, &mut list)?;
+    list.truncate(length);
+    Ok((kind, list))
 }
 
 /// The texts of a case, some of them damaged.

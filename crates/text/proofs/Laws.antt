@@ -117,6 +117,14 @@ numbers-part ws zero text = refl
 numbers-part ws (suc k) text =
     rw (size-suc ws k, take-less (length ws) (lineSize ws k) text, drop-take (length ws) (lineSize ws k) text, numbers-part ws k (drop (length ws) text))
 
+-- so it is the same of two texts with the same front
+module _ (ws : List ℕ) (k : ℕ) (one other : List ℕ) (p : take (lineSize ws k) one ≡ take (lineSize ws k) other) where
+  pub line-front : (most : ℕ) → lineFits ws most k one ≡ lineFits ws most k other
+  line-front most = sym (line-part ws most k one) ∙ ap (lineFits ws most k) p ∙ line-part ws most k other
+
+  pub numbers-front : numbers ws k one ≡ numbers ws k other
+  numbers-front = sym (numbers-part ws k one) ∙ ap (numbers ws k) p ∙ numbers-part ws k other
+
 -- lists filled from a place on
 pub sets-append : (l : List ℕ) (i : ℕ) (xs ys : List ℕ) → sets l i (xs ++ ys) ≡ sets (sets l i xs) (i + length xs) ys
 sets-append l i [] ys = let p : i + 0 ≡ i = omega arith in rw p

@@ -16,7 +16,7 @@ use Rattle.connectivity.proofs.Admission.{cond-both}
 use Rattle.text.specs.Column.{lineSize, lineFits, numbers, linesFit}
 use Rattle.text.specs.Plan.{PlanReading, headerFirst, headerSecond, behindHeader, headerThird, headerFits, planLinesFit, spelled, planNeeded, listedAnswer, readAnswer}
 use Rattle.text.specs.Verdict.{VerdictReading, perLine, linesOf, needed, isRefusal, countFits, listRead, readVerdict}
-use Rattle.text.proofs.Laws.{and-true, line-copied, numbers-copied, fit-true}
+use Rattle.text.proofs.Laws.{and-true, line-front, numbers-front, fit-true}
 use Rattle.text.proofs.Reading.{planSize, too-much, read-refused}
 use Rattle.text.proofs.Writing.{per-line-most}
 use Rattle.verify_texts.specs.Texts.{planIn, verdictIn, judgeTexts}
@@ -90,10 +90,10 @@ module _ (ws : List ℕ) (most : ℕ) (limits : Limits) (text : List ℕ) (k : �
   -- the first line of both
   module _ (c : ℕ) (h : lineSize ws c ≤ k) where
     same-line : lineFits ws most c front ≡ lineFits ws most c text
-    same-line = line-copied ws c front text (take-take (lineSize ws c) k text h) most
+    same-line = line-front ws c front text (take-take (lineSize ws c) k text h) most
 
     same-numbers : numbers ws c front ≡ numbers ws c text
-    same-numbers = numbers-copied ws c front text (take-take (lineSize ws c) k text h)
+    same-numbers = numbers-front ws c front text (take-take (lineSize ws c) k text h)
 
   module _ (h : lineSize ws 3 ≤ k) where
     same-third : headerThird ws most front ≡ headerThird ws most text
