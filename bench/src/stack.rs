@@ -44,7 +44,7 @@ pub struct Use {
     pub inputs: usize,
 }
 
-/// Prints a table: the deepest use of each function. More than its header asks for is an error.
+/// Prints a table: the deepest use of each function; then what a plan text takes while it is read. More than a header asks for is an error.
 pub fn run() -> Result<(), String> {
     head(&["function", "stack, bytes", "its header asks for", "inputs"]);
     let mut done = Ok(());
@@ -61,7 +61,19 @@ pub fn run() -> Result<(), String> {
             done = Err(format!("{name} takes more stack than its header asks for"));
         }
     }
+    let bytes = whole(reading()?);
+    println!("\n`hearthtansy_check_texts`, a plan text refused at its last byte: {bytes}");
     done
+}
+
+/// What the check of a plan text that is refused at its last byte takes: its tables, and reading.
+fn reading() -> Result<usize, String> {
+    let mut stack = Stack::new();
+    let case = grow(&mut Random::new(1), Family::Short, PIECES, TABS);
+    let [mut plan, verdict] = texts_of(&case);
+    *plan.last_mut().expect("a text has a last byte") = b' ';
+    stack.check_texts(&plan, &verdict)?;
+    Ok(stack.uses[Exported::CheckTexts as usize].bytes)
 }
 
 /// The bytes of stack that a function's header asks for.

@@ -21,14 +21,6 @@ and-true true false p = (refl, p)
 and-true false true p = (p, refl)
 and-true false false p = (p, p)
 
-pub and-right : (a : Bool) → (a && true) ≡ a
-and-right true = refl
-and-right false = refl
-
-and-assoc : (a b c : Bool) → ((a && b) && c) ≡ (a && (b && c))
-and-assoc true b c = refl
-and-assoc false b c = refl
-
 pub same-true : (a b : List ℕ) → same a b ≡ true → a ≡ b
 unfolding same
 same-true [] [] p = refl
@@ -45,7 +37,7 @@ unfolding same
 same-refl [] = refl
 same-refl (a ∷ l) = rw (eq-eqb a a refl) (same-refl l)
 
-pub drop-take : (j n : ℕ) (l : List ℕ) → drop j (take (j + n) l) ≡ take n (drop j l)
+drop-take : (j n : ℕ) (l : List ℕ) → drop j (take (j + n) l) ≡ take n (drop j l)
 drop-take zero n l = let p : 0 + n ≡ n = omega arith in rw p
 drop-take (suc j) n [] = rw (take-nil {A = ℕ} (suc j + n), take-nil {A = ℕ} n)
 drop-take (suc j) n (x ∷ l) = let p : suc j + n ≡ suc (j + n) = omega arith in rw p (drop-take j n l)
@@ -218,15 +210,6 @@ module _ (ws : List ℕ) (columns left at : ℕ) (text : List ℕ) (h : 0 < left
           ≡ (lineFits ws most columns (drop at text) && linesBegin ws most columns (left - 1) (drop (at + lineSize ws columns) text))
       go m p = rw (p, next)
 
-  pub lines-fit-next : (most : ℕ) → linesFit ws most columns left (drop at text)
-      ≡ (lineFits ws most columns (drop at text) && linesFit ws most columns (left - 1) (drop (at + lineSize ws columns) text))
-  unfolding linesFit
-  lines-fit-next most =
-      let size = lineSize ws columns in
-      let far : at + left * size ≡ at + size + (left - 1) * size = omega (arith, ap (λ (m : ℕ). m * size) some, suc-mul (left - 1) size) in
-      rw (lines-next most, drop-drop (left * size) at text, far, drop-drop ((left - 1) * size) (at + size) text)
-      (and-assoc (lineFits ws most columns (drop at text)) (linesBegin ws most columns (left - 1) (drop (at + size) text)) (same (drop (at + size + (left - 1) * size) text) []))
-
   pub lines-numbers-next : linesNumbers ws columns left (drop at text)
       ≡ numbers ws columns (drop at text) ++ linesNumbers ws columns (left - 1) (drop (at + lineSize ws columns) text)
   unfolding linesNumbers
@@ -341,7 +324,7 @@ nothing-behind text k h = elim (ℕ-discrete (length text) k) [
 ]
 
 module _ (ws : List ℕ) (most k m : ℕ) (text : List ℕ) where
-  pub fit-none : linesBegin ws most k m text ≡ false → linesFit ws most k m text ≡ false
+  fit-none : linesBegin ws most k m text ≡ false → linesFit ws most k m text ≡ false
   unfolding linesFit
   fit-none p = rw p
 
@@ -354,3 +337,18 @@ module _ (ws : List ℕ) (most k m : ℕ) (text : List ℕ) where
   fit-true p =
       let q = and-true (linesBegin ws most k m text) (same (behindLines ws k m text) []) p in
       (q .0, eqb-true (length text) (m * lineSize ws k) (sym (fit-some (q .0)) ∙ p))
+
+  -- a text of another length has other lines; of this length, nothing follows them
+  pub fit-other : (length text ≡ m * lineSize ws k → ⊥) → linesFit ws most k m text ≡ false
+  fit-other h = go (linesFit ws most k m text) refl
+    where
+      go : (t : Bool) → linesFit ws most k m text ≡ t → linesFit ws most k m text ≡ false
+      go true p = absurd (h (fit-true p .1))
+      go false p = p
+
+  pub fit-begin : length text ≡ m * lineSize ws k → linesFit ws most k m text ≡ linesBegin ws most k m text
+  fit-begin h = go (linesBegin ws most k m text) refl
+    where
+      go : (t : Bool) → linesBegin ws most k m text ≡ t → linesFit ws most k m text ≡ linesBegin ws most k m text
+      go true p = fit-some p ∙ eq-eqb (length text) (m * lineSize ws k) h ∙ sym p
+      go false p = fit-none p ∙ sym p

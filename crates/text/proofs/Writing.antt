@@ -146,6 +146,14 @@ per-line-most kind = go (eqb kind 0)
     go true = omega arith
     go false = omega arith
 
+pub lines-of-most : (kind count : ℕ) → linesOf kind count ≤ count
+unfolding linesOf
+lines-of-most kind count = go (eqb kind 2)
+  where
+    go : (t : Bool) → cond t 0 count ≤ count
+    go true = omega arith
+    go false = omega arith
+
 refusal-most : (number : ℕ) → isRefusal number ≡ true → number ≤ 19
 unfolding isRefusal
 refusal-most number = go (leb 1 number) (leb number 7) refl (leb 18 number) (leb number 19) refl

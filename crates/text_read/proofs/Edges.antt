@@ -3,11 +3,11 @@
 use mathlib.Core.Path.{_≡_, refl, ap, _∙_}
 use mathlib.Core.Bool.{Bool, true, false, cond, _&&_}
 use mathlib.Core.List.{List, [], _∷_, _++_}
-use Prim.Native.Nat.{ℕ, suc, _+_, _-_, _≤_, _<_}
+use Prim.Native.Nat.{ℕ, suc, _+_, _*_, _-_, _≤_, _<_}
 use native.Mathlib.Omega.{arith}
 use native.Mathlib.Numerals.{add-one}
 use lib.Dec.{eqb, ltb, leb}
-use lib.ListN.{length, drop, getD}
+use lib.ListN.{length, drop, getD, length-drop}
 use borrow.Author.Tests.{lt-ltb}
 use Rattle.connectivity.specs.Plan.{Plan, plan}
 use Rattle.connectivity.specs.Admission.{Answer, answer, passed, andThen, keptVertices, edgeNumber, endsAnswer, excludedAnswer, keptAnswer}
@@ -15,7 +15,7 @@ use Rattle.connectivity.proofs.Admission.{passed-then, failed-then, excluded-to
 use Rattle.connectivity.proofs.Kept.{kept-count}
 use Rattle.text.specs.Column.{lineSize, lineFits, numbers, linesBegin, behindLines, linesFit, linesNumbers}
 use Rattle.text.specs.Plan.{listedAnswer}
-use Rattle.text.proofs.Laws.{lines-next, lines-fit-next, lines-numbers-next}
+use Rattle.text.proofs.Laws.{and-true, lines-next, lines-numbers-next, begin-long, fit-true, fit-begin}
 use Rattle.text_read.specs.Header.{ifFits, edgeLinesAnswer, excludedLinesAnswer, linesAnswer}
 
 -- the number of the edge on the line that begins at a place
@@ -78,13 +78,13 @@ module _ (ws : List ℕ) (most n k low next left : ℕ) (text : List ℕ) (h : 0
 
   pub excluded-none : lineFits ws most 1 (drop next text) ≡ false → excludedLinesAnswer ws most n k low left (drop next text) ≡ answer 7 0
   unfolding excludedLinesAnswer
-  excluded-none f = rw (lines-fit-next ws 1 left next text h most, f)
+  excluded-none f = rw (lines-next ws 1 left next text h most, f)
 
   module _ (f : lineFits ws most 1 (drop next text) ≡ true) where
     entire : excludedLinesAnswer ws most n k low left (drop next text)
-        ≡ ifFits (linesFit ws most 1 (left - 1) after) (excludedAnswer n k low (numbers ws 1 (drop next text) ++ others))
+        ≡ ifFits (linesBegin ws most 1 (left - 1) after) (excludedAnswer n k low (numbers ws 1 (drop next text) ++ others))
     unfolding excludedLinesAnswer
-    entire = rw (lines-fit-next ws 1 left next text h most, f, lines-numbers-next ws 1 left next text h)
+    entire = rw (lines-next ws 1 left next text h most, f, lines-numbers-next ws 1 left next text h)
 
     pub excluded-next : (leb low (excludedOn ws (drop next text)) && ltb (excludedOn ws (drop next text)) n) ≡ true
         → excludedLinesAnswer ws most n k low left (drop next text) ≡ excludedLinesAnswer ws most n (k + 1) (excludedOn ws (drop next text) + 1) (left - 1) after
@@ -92,11 +92,11 @@ module _ (ws : List ℕ) (most n k low next left : ℕ) (text : List ℕ) (h : 0
     excluded-next p = entire ∙ rw (one-line others, p, add-one k, add-one (excludedOn ws (drop next text)))
 
     pub excluded-stop : (leb low (excludedOn ws (drop next text)) && ltb (excludedOn ws (drop next text)) n) ≡ false
-        → excludedLinesAnswer ws most n k low left (drop next text) ≡ ifFits (linesFit ws most 1 (left - 1) after) (answer 18 k)
+        → excludedLinesAnswer ws most n k low left (drop next text) ≡ ifFits (linesBegin ws most 1 (left - 1) after) (answer 18 k)
     excluded-stop p = entire ∙ rw (one-line others, p)
 
-pub excluded-over : (ws : List ℕ) (most n k low left : ℕ) (t : List ℕ) → left ≡ 0 → excludedLinesAnswer ws most n k low left t ≡ ifFits (linesFit ws most 1 0 t) passed
-unfolding excludedLinesAnswer linesNumbers excludedAnswer
+pub excluded-over : (ws : List ℕ) (most n k low left : ℕ) (t : List ℕ) → left ≡ 0 → excludedLinesAnswer ws most n k low left t ≡ passed
+unfolding excludedLinesAnswer linesBegin linesNumbers excludedAnswer
 excluded-over ws most n k low left t p = rw p
 
 -- neither answer is 7 where the lines are in the form
@@ -160,24 +160,37 @@ module _ (ws : List ℕ) (most n m k : ℕ) (text : List ℕ) where
       go true p y = (p, rw p)
       go false p y = absurd (y refl)
 
-  module _ (begun : linesBegin ws most 2 m text ≡ true) where
+  -- a text of another length is not in the form
+  pub other-length : (length text ≡ m * lineSize ws 2 + k * lineSize ws 1 → ⊥) → linesAnswer ws most n m k text ≡ answer 7 0
+  other-length h = go (linesBegin ws most 2 m text && linesFit ws most 1 k behind-edges) refl
+    where
+      go : (t : Bool) → (linesBegin ws most 2 m text && linesFit ws most 1 k behind-edges) ≡ t → linesAnswer ws most n m k text ≡ answer 7 0
+      go false p = rw p
+      go true p =
+          let q = and-true (linesBegin ws most 2 m text) (linesFit ws most 1 k behind-edges) p in
+          absurd (h (omega (arith, begin-long ws most 2 m text (q .0), fit-true ws most 1 k behind-edges (q .1) .1, length-drop (m * lineSize ws 2) text)))
+
+  module _ (begun : linesBegin ws most 2 m text ≡ true) (whole-text : length text ≡ m * lineSize ws 2 + k * lineSize ws 1) where
+    nothing-more : linesFit ws most 1 k behind-edges ≡ linesBegin ws most 1 k behind-edges
+    nothing-more = fit-begin ws most 1 k behind-edges (omega (arith, length-drop (m * lineSize ws 2) text))
+
     pub excluded-unread : second .number ≡ 7 → linesAnswer ws most n m k text ≡ second
     unfolding excludedLinesAnswer
-    excluded-unread z = go (linesFit ws most 1 k behind-edges) refl z
+    excluded-unread z = go (linesBegin ws most 1 k behind-edges) refl z
       where
-        go : (t : Bool) → linesFit ws most 1 k behind-edges ≡ t → (ifFits t (excludedAnswer n 0 0 (linesNumbers ws 1 k behind-edges))) .number ≡ 7
-            → linesAnswer ws most n m k text ≡ ifFits (linesFit ws most 1 k behind-edges) (excludedAnswer n 0 0 (linesNumbers ws 1 k behind-edges))
+        go : (t : Bool) → linesBegin ws most 1 k behind-edges ≡ t → (ifFits t (excludedAnswer n 0 0 (linesNumbers ws 1 k behind-edges))) .number ≡ 7
+            → linesAnswer ws most n m k text ≡ ifFits (linesBegin ws most 1 k behind-edges) (excludedAnswer n 0 0 (linesNumbers ws 1 k behind-edges))
         go true p y = absurd (excluded-eighteen n 0 0 (linesNumbers ws 1 k behind-edges) y)
-        go false p y = rw (begun, p)
+        go false p y = rw (begun, nothing-more, p)
 
     pub excluded-read : (second .number ≡ 7 → ⊥) → (linesAnswer ws most n m k text ≡ listedAnswer drawn) × (second ≡ excludedAnswer n 0 0 (drawn .excluded))
     unfolding excludedLinesAnswer
-    excluded-read z = go (linesFit ws most 1 k behind-edges) refl z
+    excluded-read z = go (linesBegin ws most 1 k behind-edges) refl z
       where
-        go : (t : Bool) → linesFit ws most 1 k behind-edges ≡ t → ((ifFits t (excludedAnswer n 0 0 (linesNumbers ws 1 k behind-edges))) .number ≡ 7 → ⊥)
+        go : (t : Bool) → linesBegin ws most 1 k behind-edges ≡ t → ((ifFits t (excludedAnswer n 0 0 (linesNumbers ws 1 k behind-edges))) .number ≡ 7 → ⊥)
             → (linesAnswer ws most n m k text ≡ listedAnswer drawn)
-            × (ifFits (linesFit ws most 1 k behind-edges) (excludedAnswer n 0 0 (linesNumbers ws 1 k behind-edges)) ≡ excludedAnswer n 0 0 (linesNumbers ws 1 k behind-edges))
-        go true p y = (rw (begun, p), rw p)
+            × (ifFits (linesBegin ws most 1 k behind-edges) (excludedAnswer n 0 0 (linesNumbers ws 1 k behind-edges)) ≡ excludedAnswer n 0 0 (linesNumbers ws 1 k behind-edges))
+        go true p y = (rw (begun, nothing-more, p), rw p)
         go false p y = absurd (y refl)
 
 -- 4 and 5, then 18, then 19

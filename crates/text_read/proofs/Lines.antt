@@ -2,17 +2,20 @@
 use mathlib.Core.Path.{_≡_, refl, sym, ap, _∙_}
 use mathlib.Core.Bool.{Bool, true, false, _&&_}
 use mathlib.Core.List.{List}
-use Prim.Native.Nat.{ℕ, zero, suc, _+_, _*_, _<_}
+use Prim.Native.Nat.{ℕ, zero, suc, _+_, _*_, _≤_, _<_}
 use native.Mathlib.Omega.{arith}
 use native.Mathlib.Nat.{suc-mul}
 use lib.ListN.{length, take, drop, getD, length-drop}
 use lib.Seq.{drop-drop, drop-cons, getD-drop}
-use borrow.Author.Tests.{eq-eqb, ne-eqb}
+use borrow.Author.Tests.{le-leb, lt-leb, eq-eqb, ne-eqb}
 use Rattle.text.specs.Column.{lineSize, same, columnFits, lineFits, numbers}
-use Rattle.text.proofs.Laws.{and-right, line-part, numbers-part}
-use Rattle.text_read.specs.declared.column.Column.{Column}
+use Rattle.text.proofs.Laws.{line-part, numbers-part}
 use Rattle.text_read.specs.declared.line.Line.{Line}
 use Rattle.text_read.specs.Line.{ColumnRead, LineRead}
+
+-- a line in the form with these numbers
+abbrev Numbers : Line → ℕ → ℕ → ℕ → Type 0
+Numbers r a b c = (r .fits ≡ true) × (r .first ≡ a) × (r .second ≡ b) × (r .third ≡ c)
 
 -- all columns are in the form
 columnsFit : List ℕ → ℕ → ℕ → List ℕ → Bool
@@ -52,43 +55,56 @@ module _ (ws : List ℕ) (most : ℕ) where
     pub out : {k : ℕ} {r : Line} → lineFits ws most k l ≡ false → r .fits ≡ false → LineRead ws most k l r
     out f e = record { fits = e ∙ sym f; first = λ y. absurd (different (sym y ∙ e)); second = λ y. absurd (different (sym y ∙ e)); third = λ y. absurd (different (sym y ∙ e)) }
 
-    module _ (a : Column) (reads : ColumnRead ws most (col 0) a) where
-      pub first-out : (k : ℕ) → a .fits ≡ false → lineFits ws most (suc k) l ≡ false
+    -- a number above the largest, and any other
+    unread : (at a : ℕ) → ColumnRead ws most (col at) a → most < a → columnFits ws most (col at) ≡ false
+    unread at a reads h = sym (reads .fits) ∙ lt-leb a most h
+
+    good : (at a : ℕ) → ColumnRead ws most (col at) a → a ≤ most → columnFits ws most (col at) ≡ true
+    good at a reads h = sym (reads .fits) ∙ le-leb a most h
+
+    module _ (a : ℕ) (reads : ColumnRead ws most (col 0) a) where
+      pub first-out : (k : ℕ) → most < a → lineFits ws most (suc k) l ≡ false
       unfolding lineFits
-      first-out k e = let z = sym (reads .fits) ∙ e in rw z
+      first-out k h = rw (unread 0 a reads h)
 
-      pub line-one : length ws < length l → getD l (length ws) 0 ≡ 10 → LineRead ws most 1 l (record { fits = a .fits; first = a .number; second = 0; third = 0 })
-      unfolding numbers columnsFit
-      line-one h p =
-          let z : 1 * length ws ≡ length ws = omega arith in
-          let f = fed 1 l (omega arith) (ap (λ (i : ℕ). getD l i 0) z ∙ p) in
-          record { fits = reads .fits ∙ sym (f ∙ and-right (columnFits ws most (col 0))); first = reads .number; second = λ _. refl; third = λ _. refl }
-
-      module _ (e : a .fits ≡ true) (b : Column) (next : ColumnRead ws most (col (length ws)) b) where
-        pub second-out : (k : ℕ) → b .fits ≡ false → lineFits ws most (suc (suc k)) l ≡ false
-        unfolding lineFits
-        second-out k n = let y = sym (reads .fits) ∙ e in let z = sym (next .fits) ∙ n in rw (y, z)
-
-        pub line-two : 2 * length ws < length l → getD l (2 * length ws) 0 ≡ 10 → LineRead ws most 2 l (record { fits = b .fits; first = a .number; second = b .number; third = 0 })
+      module _ (e : a ≤ most) where
+        pub line-one : length ws < length l → getD l (length ws) 0 ≡ 10 → {r : Line} → Numbers r a 0 0 → LineRead ws most 1 l r
         unfolding numbers columnsFit
-        line-two h p =
-            let y = sym (reads .fits) ∙ e in
-            let f = fed 2 l h p in
-            record { fits = next .fits ∙ sym (f ∙ rw y (and-right (columnFits ws most (col (length ws))))); first = λ _. reads .number e; second = next .number; third = λ _. refl }
+        line-one h p is =
+            let z : 1 * length ws ≡ length ws = omega arith in
+            let f = fed 1 l (omega arith) (ap (λ (i : ℕ). getD l i 0) z ∙ p) in
+            record { fits = is .0 ∙ sym (f ∙ rw (good 0 a reads e)); first = λ _. is .1 ∙ reads .is e; second = λ _. is .2; third = λ _. is .3 }
 
-        pub line-three : b .fits ≡ true → (c : Column) → ColumnRead ws most (col (length ws + length ws)) c → 3 * length ws < length l → getD l (3 * length ws) 0 ≡ 10
-            → LineRead ws most 3 l (record { fits = c .fits; first = a .number; second = b .number; third = c .number })
-        unfolding numbers columnsFit
-        line-three n c last h p =
-            let y = sym (reads .fits) ∙ e in
-            let z = sym (next .fits) ∙ n in
-            let f = fed 3 l h p in
-            record {
-              fits = last .fits ∙ sym (f ∙ rw (y, z, third-place) (and-right (columnFits ws most (col (length ws + length ws)))));
-              first = λ _. reads .number e;
-              second = λ _. next .number n;
-              third = λ g. last .number g ∙ rw (sym third-place);
-            }
+        module _ (b : ℕ) (next : ColumnRead ws most (col (length ws)) b) where
+          pub second-out : (k : ℕ) → most < b → lineFits ws most (suc (suc k)) l ≡ false
+          unfolding lineFits
+          second-out k h = rw (good 0 a reads e, unread (length ws) b next h)
+
+          module _ (n : b ≤ most) where
+            pub line-two : 2 * length ws < length l → getD l (2 * length ws) 0 ≡ 10 → {r : Line} → Numbers r a b 0 → LineRead ws most 2 l r
+            unfolding numbers columnsFit
+            line-two h p is =
+                record {
+                  fits = is .0 ∙ sym (fed 2 l h p ∙ rw (good 0 a reads e, good (length ws) b next n));
+                  first = λ _. is .1 ∙ reads .is e;
+                  second = λ _. is .2 ∙ next .is n;
+                  third = λ _. is .3;
+                }
+
+            module _ (c : ℕ) (last : ColumnRead ws most (col (length ws + length ws)) c) where
+              pub third-out : most < c → lineFits ws most 3 l ≡ false
+              unfolding lineFits
+              third-out h = rw (good 0 a reads e, good (length ws) b next n, third-place, unread (length ws + length ws) c last h)
+
+              pub line-three : c ≤ most → 3 * length ws < length l → getD l (3 * length ws) 0 ≡ 10 → {r : Line} → Numbers r a b c → LineRead ws most 3 l r
+              unfolding numbers columnsFit
+              line-three g h p is =
+                  record {
+                    fits = is .0 ∙ sym (fed 3 l h p ∙ rw (good 0 a reads e, good (length ws) b next n, third-place, good (length ws + length ws) c last g));
+                    first = λ _. is .1 ∙ reads .is e;
+                    second = λ _. is .2 ∙ next .is n;
+                    third = λ _. is .3 ∙ last .is g ∙ rw (sym third-place);
+                  }
 
 -- a line may be read of its own part of a text
 pub part-read : (ws : List ℕ) (most k : ℕ) (text : List ℕ) {r : Line} → LineRead ws most k (take (lineSize ws k) text) r → LineRead ws most k text r

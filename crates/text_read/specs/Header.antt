@@ -47,9 +47,9 @@ ifFits fits a = cond fits a (answer 7 0)
 unfoldable pub edgeLinesAnswer : List ℕ → ℕ → ℕ → ℕ → ℕ → List ℕ → Answer
 edgeLinesAnswer ws most n e m text = ifFits (linesBegin ws most 2 m text) (endsAnswer n e (linesNumbers ws 2 m text))
 
--- the answer to a text of lines of excluded vertices, from position k on: 7, else the first one with 18
+-- the answer to the lines of the excluded vertices at the front of a text, from position k on: 7, else the first one with 18
 unfoldable pub excludedLinesAnswer : List ℕ → ℕ → ℕ → ℕ → ℕ → ℕ → List ℕ → Answer
-excludedLinesAnswer ws most n k low m text = ifFits (linesFit ws most 1 m text) (excludedAnswer n k low (linesNumbers ws 1 m text))
+excludedLinesAnswer ws most n k low m text = ifFits (linesBegin ws most 1 m text) (excludedAnswer n k low (linesNumbers ws 1 m text))
 
 -- the answer to both, one behind the other: 7, else 4 and 5, 18, 19
 abbrev pub linesAnswer : List ℕ → ℕ → ℕ → ℕ → ℕ → List ℕ → Answer

@@ -2,11 +2,10 @@
 use mathlib.Core.Path.{_≡_}
 use mathlib.Core.Bool.{true, cond, _&&_}
 use mathlib.Core.List.{List, [], _∷_}
-use Prim.Native.Nat.{ℕ, _+_}
-use lib.Dec.{eqb, ltb}
+use Prim.Native.Nat.{ℕ, _+_, _≤_}
+use lib.Dec.{eqb, ltb, leb}
 use lib.ListN.{getD}
 use Rattle.text.specs.Column.{digit, value, columnFits, lineFits, numbers}
-use Rattle.text_read.specs.declared.column.Column.{Column}
 use Rattle.text_read.specs.declared.line.Line.{Line}
 
 -- the byte of the digit 0 at a worth: a blank in front of the number x, else a 0; the last digit is always written
@@ -23,10 +22,10 @@ misfits [] x bytes = 0
 misfits (p ∷ ws) x [] = 0
 misfits (p ∷ ws) x (b ∷ bytes) = misfit p x b + misfits ws x bytes
 
--- a column that was read of these bytes
-pub record ColumnRead (ws : List ℕ) (most : ℕ) (bytes : List ℕ) (c : Column) : Type 0 where
-  pub fits : c .fits ≡ columnFits ws most bytes
-  pub number : c .fits ≡ true → c .number ≡ value ws bytes
+-- what is read of the bytes of a column: their number, or one above the largest where they are not in the form
+pub record ColumnRead (ws : List ℕ) (most : ℕ) (bytes : List ℕ) (number : ℕ) : Type 0 where
+  pub fits : leb number most ≡ columnFits ws most bytes
+  pub is : number ≤ most → number ≡ value ws bytes
 
 -- a line of so many columns that was read at the front of a text; the numbers of columns that it does not have are 0
 pub record LineRead (ws : List ℕ) (most columns : ℕ) (text : List ℕ) (l : Line) : Type 0 where

@@ -8,13 +8,7 @@ ghost use Rattle.text.specs.Column.{five, largest, digit, value};
 ghost use Rattle.text_read.specs.Line.{zeroAt, misfit, misfits, ColumnRead};
 
 // The largest value in the form.
-const LARGEST: u32 = 65535;
-
-// A column as it was read: whether it is in the form, and then its number.
-pub(crate) struct Column {
-    pub fits: bool,
-    pub number: u16,
-}
+pub(crate) const LARGEST: u32 = 65535;
 
 // The digit that a byte stands for; any other byte counts 0.
 fn digit_of(b: u8) -> u32
@@ -43,22 +37,19 @@ pub(crate) fn number(line: &[u8], at: usize) -> u32
     sum
 }
 
-// Reads the column that begins at `at`.
-pub(crate) fn read_column(line: &[u8], at: usize) -> Column
+// Reads the column that begins at `at`: its number, or one above the largest where it is not in the form.
+pub(crate) fn read_column(line: &[u8], at: usize) -> u32
     requires { ⌜ at + length five ≤ length (now line) ⌝ }
     ensures { λ r. ⌜ ColumnRead five largest (take (length five) (drop at (now (line .entry)))) r ⌝ }
 {
     let x = number(line, at);
     if LARGEST < x {
-        return Column {
-            fits: false,
-            number: 0,
-        };
+        return x;
     }
-    Column {
-        fits: misfits(line, at, x) == 0,
-        number: x as u16,
+    if misfits(line, at, x) != 0 {
+        return LARGEST + 1;
     }
+    x
 }
 
 // How many bytes of the column that begins at `at` are not those of its number x. It is a sum, with no way out, so that all bytes are looked at

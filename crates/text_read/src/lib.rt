@@ -50,7 +50,7 @@ fn refused_plan(number: u16) -> Admission
 pub fn read_verdict(text: &[u8], list: &mut [u16]) -> VerdictRead
     ensures { λ r. ⌜ ReadsVerdict five largest limits (now (text .entry)) (now (list .entry)) (now (list .exit)) r ⌝ }
 {
-    let header = line::read_line(text, 0, 2);
+    let header = line::first_line(text, 2);
     let fits = header.fits;
     if !fits {
         return refused_verdict(8);

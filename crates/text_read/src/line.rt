@@ -1,11 +1,12 @@
 // Lines of numbers in columns, taken by the reader: judged with their numbers in one look, and stored in another.
+use crate::column::LARGEST;
 use crate::column::number;
 use crate::column::read_column;
 use crate::reader::take_line;
 use text::WIDTH;
 ghost use mathlib.Core.Path.{_≡_};
 ghost use mathlib.Core.Bool.{true, false};
-ghost use Prim.Native.Nat.{_+_, _*_, _≤_};
+ghost use Prim.Native.Nat.{_+_, _*_, _≤_, _<_};
 ghost use lib.ListN.{length, drop};
 ghost use lib.Seq.{sets};
 ghost use Rattle.text.specs.Column.{five, largest, lineSize, lineFits, numbers, linesBegin, linesFit, linesNumbers};
@@ -19,16 +20,23 @@ pub(crate) struct Line {
     pub third: u16,
 }
 
-// Reads the line of `columns` numbers that begins at `at`.
-pub(crate) fn read_line(text: &[u8], at: usize, columns: usize) -> Line
-    requires { ⌜ (at ≤ length (now text)) × (1 ≤ columns) × (columns ≤ 3) ⌝ }
-    ensures { λ r. ⌜ LineRead five largest columns (drop at (now (text .entry))) r ⌝ }
+// Reads the first line of a text, of `columns` numbers.
+pub(crate) fn first_line(text: &[u8], columns: usize) -> Line
+    requires { ⌜ (1 ≤ columns) × (columns ≤ 3) ⌝ }
+    ensures { λ r. ⌜ LineRead five largest columns (now (text .entry)) r ⌝ }
 {
-    let size = columns * WIDTH + 1;
-    if text.len() - at < size {
+    if text.len() < columns * WIDTH + 1 {
         return not_in_form();
     }
-    read_columns(take_line(text, at, size), columns)
+    read_line(text, 0, columns)
+}
+
+// Reads the line of `columns` numbers that begins at `at`.
+pub(crate) fn read_line(text: &[u8], at: usize, columns: usize) -> Line
+    requires { ⌜ (at + lineSize five columns ≤ length (now text)) × (1 ≤ columns) × (columns ≤ 3) ⌝ }
+    ensures { λ r. ⌜ LineRead five largest columns (drop at (now (text .entry))) r ⌝ }
+{
+    read_columns(take_line(text, at, columns * WIDTH + 1), columns)
 }
 
 fn not_in_form() -> Line
@@ -42,6 +50,18 @@ fn not_in_form() -> Line
     }
 }
 
+fn in_form(first: u32, second: u32, third: u32) -> Line
+    requires { ⌜ (first ≤ largest) × (second ≤ largest) × (third ≤ largest) ⌝ }
+    ensures { λ r. ⌜ (r .fits ≡ true) × (r .first ≡ first) × (r .second ≡ second) × (r .third ≡ third) ⌝ }
+{
+    Line {
+        fits: true,
+        first: first as u16,
+        second: second as u16,
+        third: third as u16,
+    }
+}
+
 // Reads the columns of a line: each byte is looked at once.
 fn read_columns(line: &[u8], columns: usize) -> Line
     requires { ⌜ (1 ≤ columns) × (columns ≤ 3) × (length (now line) ≡ lineSize five columns) ⌝ }
@@ -51,43 +71,29 @@ fn read_columns(line: &[u8], columns: usize) -> Line
         return not_in_form();
     }
     let first = read_column(line, 0);
-    if columns < 2 {
-        return Line {
-            fits: first.fits,
-            first: first.number,
-            second: 0,
-            third: 0,
-        };
-    }
-    let one = first.fits;
-    if !one {
+    if LARGEST < first {
         return not_in_form();
+    }
+    if columns < 2 {
+        return in_form(first, 0, 0);
     }
     let second = read_column(line, WIDTH);
-    if columns < 3 {
-        return Line {
-            fits: second.fits,
-            first: first.number,
-            second: second.number,
-            third: 0,
-        };
-    }
-    let two = second.fits;
-    if !two {
+    if LARGEST < second {
         return not_in_form();
     }
-    let third = read_column(line, 2 * WIDTH);
-    Line {
-        fits: third.fits,
-        first: first.number,
-        second: second.number,
-        third: third.number,
+    if columns < 3 {
+        return in_form(first, second, 0);
     }
+    let third = read_column(line, 2 * WIDTH);
+    if LARGEST < third {
+        return not_in_form();
+    }
+    in_form(first, second, third)
 }
 
-// From `at` on the text begins with `count` lines of `columns` numbers each, in the form.
+// From `at` on the text begins with `count` lines of `columns` numbers each, in the form. It is long enough for them.
 pub(crate) fn lines_begin(text: &[u8], at: usize, columns: usize, count: usize) -> bool
-    requires { ⌜ (at ≤ length (now text)) × (1 ≤ columns) × (columns ≤ 3) ⌝ }
+    requires { ⌜ (at + count * lineSize five columns ≤ length (now text)) × (1 ≤ columns) × (columns ≤ 3) ⌝ }
     ensures { λ r. ⌜ r ≡ linesBegin five largest columns count (drop at (now (text .entry))) ⌝ }
 {
     let size = columns * WIDTH + 1;
@@ -105,15 +111,15 @@ pub(crate) fn lines_begin(text: &[u8], at: usize, columns: usize, count: usize) 
     true
 }
 
-// The same, and nothing follows the last.
+// From `at` on the text is `count` lines of `columns` numbers each, in the form, and nothing follows.
 pub(crate) fn lines_fit(text: &[u8], at: usize, columns: usize, count: usize) -> bool
-    requires { ⌜ (at ≤ length (now text)) × (1 ≤ columns) × (columns ≤ 3) ⌝ }
+    requires { ⌜ (at ≤ length (now text)) × (1 ≤ columns) × (columns ≤ 3) × (count < 65536) ⌝ }
     ensures { λ r. ⌜ r ≡ linesFit five largest columns count (drop at (now (text .entry))) ⌝ }
 {
-    if lines_begin(text, at, columns, count) {
-        return text.len() - at == count * (columns * WIDTH + 1);
+    if text.len() - at != count * (columns * WIDTH + 1) {
+        return false;
     }
-    false
+    lines_begin(text, at, columns, count)
 }
 
 // Stores the numbers of the line that begins at `at` from `to` on.

@@ -15,7 +15,7 @@ ghost use lib.ListN.{length, take, drop};
 ghost use Rattle.connectivity.specs.Plan.{plan, limits};
 ghost use Rattle.connectivity.specs.Admission.{answer};
 ghost use Rattle.graph.specs.Admission.{toldBy, handed, constructed};
-ghost use Rattle.text.specs.Column.{five, largest};
+ghost use Rattle.text.specs.Column.{five, largest, lineSize};
 ghost use Rattle.text.specs.Plan.{filled, readAnswer};
 ghost use Rattle.text_read.specs.Header.{HeaderRead, Headed, endsAt, excludedAt, Fitting, ifFits, edgeLinesAnswer, excludedLinesAnswer, linesAnswer};
 
@@ -32,7 +32,7 @@ pub(crate) struct Header {
 pub(crate) fn read_header(text: &[u8]) -> Header
     ensures { λ r. ⌜ HeaderRead five largest (now (text .entry)) r ⌝ }
 {
-    let two = line::read_line(text, 0, 2);
+    let two = line::first_line(text, 2);
     let short = two.fits;
     if short {
         return Header {
@@ -43,7 +43,7 @@ pub(crate) fn read_header(text: &[u8]) -> Header
             next: HEADER,
         };
     }
-    let three = line::read_line(text, 0, 3);
+    let three = line::first_line(text, 3);
     let long = three.fits;
     Header {
         fits: third_fits(long, three.first, three.third),
@@ -100,11 +100,15 @@ fn number_alone(number: u16) -> Answer
 }
 
 // 7 unless the text from `at` on is a line of two for each edge and a line of one for each excluded vertex, in the form, and nothing follows; then
-// the first edge with 4 or 5, the first excluded vertex with 18, and 19; else 0.
+// the first edge with 4 or 5, the first excluded vertex with 18, and 19; else 0. The length tells whether something is missing or follows, before
+// any line is looked at.
 fn judge_lines(text: &[u8], at: usize, vertices: u16, edges: usize, excluded: usize) -> Answer
     requires { ⌜ (at ≤ length (now text)) × (edges ≤ limits .edges) × (excluded ≤ vertices) ⌝ }
     ensures { λ r. ⌜ r ≡ toldBy (linesAnswer five largest vertices edges excluded (drop at (now (text .entry)))) ⌝ }
 {
+    if text.len() - at != edges * HEADER + excluded * SHORTEST {
+        return number_alone(7);
+    }
     let fit = judge_edges(text, at, vertices, edges);
     let first = fit.number;
     if first == 7 {
@@ -129,7 +133,7 @@ fn judge_lines(text: &[u8], at: usize, vertices: u16, edges: usize, excluded: us
 
 // 7 unless the lines of the edges from `at` on are in the form; then the first edge with 4 or 5. Of the lines behind it just the form counts.
 fn judge_edges(text: &[u8], at: usize, vertices: u16, edges: usize) -> Answer
-    requires { ⌜ (edges ≤ limits .edges) × (at ≤ length (now text)) ⌝ }
+    requires { ⌜ (edges ≤ limits .edges) × (at + edges * lineSize five 2 ≤ length (now text)) ⌝ }
     ensures { λ r. ⌜ r ≡ toldBy (edgeLinesAnswer five largest vertices 0 edges (drop at (now (text .entry)))) ⌝ }
 {
     let mut next = at;
@@ -164,10 +168,10 @@ fn if_fits(fits: bool, number: u16, place: usize) -> Answer
     number_alone(7)
 }
 
-// 7 unless the lines of the excluded vertices from `at` on are in the form and nothing follows; then the first one that is not below `vertices` or
-// not above the one before, with 18.
+// 7 unless the lines of the excluded vertices from `at` on are in the form; then the first one that is not below `vertices` or not above the one
+// before, with 18. Of the lines behind it just the form counts.
 fn judge_excluded(text: &[u8], at: usize, vertices: u16, excluded: usize) -> Answer
-    requires { ⌜ (excluded ≤ vertices) × (at ≤ length (now text)) ⌝ }
+    requires { ⌜ (excluded ≤ vertices) × (at + excluded * lineSize five 1 ≤ length (now text)) ⌝ }
     ensures { λ r. ⌜ r ≡ toldBy (excludedLinesAnswer five largest vertices 0 0 excluded (drop at (now (text .entry)))) ⌝ }
 {
     let mut next = at;
@@ -182,12 +186,12 @@ fn judge_excluded(text: &[u8], at: usize, vertices: u16, excluded: usize) -> Ans
         next += SHORTEST;
         let v = line.first;
         if !between(low, v, vertices) {
-            return if_fits(line::lines_fit(text, next, 1, excluded - k - 1), 18, k);
+            return if_fits(line::lines_begin(text, next, 1, excluded - k - 1), 18, k);
         }
         low = v + 1;
         k += 1;
     }
-    if_fits(line::lines_fit(text, next, 1, 0), 0, 0)
+    number_alone(0)
 }
 
 // v is not below `low` and below `high`.

@@ -17,7 +17,7 @@ use Rattle.text.specs.Verdict.{VerdictReading, perLine, linesOf, countFits}
 use Rattle.text.proofs.Laws.{line-long, fit-true}
 use Rattle.text.proofs.Reading.{noVerdict, length-lines-numbers, sets-filled, bad-header, bad-count, no-room, bad-lines, verdict-fits, refusal-read, lines-read}
 use Rattle.text.proofs.RoundTrip.{per-line-some}
-use Rattle.text.proofs.Writing.{per-line-most}
+use Rattle.text.proofs.Writing.{per-line-most, lines-of-most}
 use Rattle.text_read.proofs.Result.{reads-verdict}
 use Rattle.text_read.proofs.read_verdict.Statement.{statement}
 use Rattle.text_read.proofs.read_verdict.Tie as tie
@@ -29,25 +29,25 @@ abbrev lent : tie.Else1 → List ℕ
 lent c = c .before .before .before .before .args .list .now
 
 form : (c : tie.Else1) → lineFits five largest 2 (txt c) ≡ true
-form c = sym (c .before .read-line .ensures .fits) ∙ not-false _ (c .if1 .left)
+form c = sym (c .before .first-line .ensures .fits) ∙ not-false _ (c .if1 .left)
 
-first : (c : tie.Else1) → c .before .read-line .result .first ≡ headerFirst five (txt c)
-first c = c .before .read-line .ensures .first (not-false _ (c .if1 .left))
+first : (c : tie.Else1) → c .before .first-line .result .first ≡ headerFirst five (txt c)
+first c = c .before .first-line .ensures .first (not-false _ (c .if1 .left))
 
-second : (c : tie.Else1) → c .before .read-line .result .second ≡ headerSecond five (txt c)
-second c = c .before .read-line .ensures .second (not-false _ (c .if1 .left))
+second : (c : tie.Else1) → c .before .first-line .result .second ≡ headerSecond five (txt c)
+second c = c .before .first-line .ensures .second (not-false _ (c .if1 .left))
 
-counted : (c : tie.Else2) → let e = c .before .before .before .before .read-line in countFits limits (e .result .first) (e .result .second) ≡ true
+counted : (c : tie.Else2) → let e = c .before .before .before .before .first-line in countFits limits (e .result .first) (e .result .second) ≡ true
 counted c = sym (c .before .count-fits .ensures) ∙ not-false _ (c .if2 .left)
 
 judged : (c : tie.After-lines-fit)
     → let d = c .before .before .before .before .before .before .before in
-    let e = d .before .before .read-line in
+    let e = d .before .before .first-line in
     c .lines-fit .result ≡ linesFit five largest (perLine (e .result .first)) (linesOf (e .result .first) (e .result .second)) (behindHeader five (txt (d .before)))
 judged c = c .lines-fit .ensures ∙ rw (c .before .before .per-line .ensures, c .before .lines-of .ensures)
 
-read-line-requires : tie.Need-read-line-requires
-read-line-requires c κs = search needs
+first-line-requires : tie.Need-first-line-requires
+first-line-requires c κs = search needs
 
 refused-verdict-requires : tie.Need-refused-verdict-requires
 refused-verdict-requires c κs = search needs
@@ -57,7 +57,7 @@ returns c =
     let s = c .before .before in
     let a = s .before .before .before .args in
     reads-verdict (noVerdict 8)
-    (bad-header five largest limits (a .text .now) (length (a .list .now)) (sym (s .read-line .ensures .fits) ∙ not-true _ (c .before .if1 .taken))) (ap handed (c .refused-verdict .ensures)) refl
+    (bad-header five largest limits (a .text .now) (length (a .list .now)) (sym (s .first-line .ensures .fits) ∙ not-true _ (c .before .if1 .taken))) (ap handed (c .refused-verdict .ensures)) refl
 
 cast-count : tie.Need-cast-count
 cast-count c = search needs
@@ -71,7 +71,7 @@ refused-verdict-requires-2 c κs = search needs
 returns-2 : tie.Need-returns-2
 returns-2 c =
     let d = c .before .before .before in
-    let e = d .before .before .read-line in
+    let e = d .before .before .first-line in
     let s = d .before in
     reads-verdict (noVerdict 8)
     (bad-count five largest limits (txt s) (length (lent s)) (e .result .first) (e .result .second) (first s) (second s) (form s) (sym (c .before .before .count-fits .ensures) ∙ not-true _ (c .before .if2 .taken))) (ap handed (c .refused-verdict2 .ensures)) refl
@@ -85,7 +85,7 @@ refused-verdict-requires-3 c κs = search needs
 returns-3 : tie.Need-returns-3
 returns-3 c =
     let d = c .before .before .before .before .before in
-    let e = d .before .before .read-line in
+    let e = d .before .before .first-line in
     let s = d .before in
     reads-verdict (noVerdict 6)
     (no-room five largest limits (txt s) (length (lent s)) (e .result .first) (e .result .second) (first s) (second s) (form s) (counted (c .before .before .before)) (omega (arith, c .before .before .numbers-needed .ensures, c .before .if3 .taken))) (ap handed (c .refused-verdict3 .ensures)) refl
@@ -100,9 +100,9 @@ lines-fit-requires : tie.Need-lines-fit-requires
 lines-fit-requires c κs =
     let v = c .before .before in
     let d = v .before .before .before .before in
-    let e = d .before .before .read-line in
+    let e = d .before .before .first-line in
     let s = d .before in
-    omega (arith, line-long five largest 2 (txt s) (form s), c .before .per-line .ensures, per-line-some (e .result .first), per-line-most (e .result .first))
+    omega (arith, line-long five largest 2 (txt s) (form s), c .before .per-line .ensures, per-line-some (e .result .first), per-line-most (e .result .first), c .lines-of .ensures, lines-of-most (e .result .first) (e .result .second))
 
 refused-verdict-requires-4 : tie.Need-refused-verdict-requires-4
 refused-verdict-requires-4 c κs = search needs
@@ -111,7 +111,7 @@ returns-4 : tie.Need-returns-4
 returns-4 c =
     let v = c .before .before .before .before .before in
     let d = v .before .before .before .before in
-    let e = d .before .before .read-line in
+    let e = d .before .before .first-line in
     let s = d .before in
     reads-verdict (noVerdict 8)
     (bad-lines five largest limits (txt s) (length (lent s)) (e .result .first) (e .result .second) (first s) (second s) (form s) (counted (v .before .before)) (omega (arith, v .before .numbers-needed .ensures, v .if3 .left)) (sym (judged (c .before .before)) ∙ not-true _ (c .before .if4 .taken))) (ap handed (c .refused-verdict4 .ensures)) refl
@@ -120,7 +120,7 @@ slice-write-list : tie.Need-slice-write-list
 slice-write-list c =
     let v = c .before .before .before .before .before in
     let d = v .before .before .before .before in
-    let e = d .before .before .read-line in
+    let e = d .before .before .first-line in
     let s = d .before in
     omega (arith, refusal-read five (e .result .first) (e .result .second) (behindHeader five (txt s)) (c .if5 .taken) .1, v .before .numbers-needed .ensures, v .if3 .left)
 
@@ -131,7 +131,7 @@ returns-5 : tie.Need-returns-5
 returns-5 c =
     let v = c .before .before .before .before .before in
     let d = v .before .before .before .before in
-    let e = d .before .before .read-line in
+    let e = d .before .before .first-line in
     let s = d .before in
     let x = refusal-read five (e .result .first) (e .result .second) (behindHeader five (txt s)) (c .if5 .taken) in
     reads-verdict (VerdictReading.read (e .result .first) (e .result .second ∷ []))
@@ -143,7 +143,7 @@ store-lines-requires : tie.Need-store-lines-requires
 store-lines-requires c κs =
     let v = c .before .before .before .before .before .before in
     let d = v .before .before .before .before in
-    let e = d .before .before .read-line in
+    let e = d .before .before .first-line in
     let s = d .before in
     let x = lines-read five (e .result .first) (e .result .second) (behindHeader five (txt s)) (c .before .if5 .left) in
     let k = c .before .before .before .before .before .per-line .ensures in (
@@ -160,7 +160,7 @@ returns-6 : tie.Need-returns-6
 returns-6 c =
     let v = c .before .before .before .before .before .before .before .before .before in
     let d = v .before .before .before .before in
-    let e = d .before .before .read-line in
+    let e = d .before .before .first-line in
     let s = d .before in
     let o = c .before .before .before .before in
     let x = lines-read five (e .result .first) (e .result .second) (behindHeader five (txt s)) (o .if5 .left) in
@@ -178,7 +178,7 @@ pub read-verdict-spec : {M : Type 1} → statement M
 read-verdict-spec =
     tie.close
     (tie.spec
-    read-line-requires
+    first-line-requires
     refused-verdict-requires
     returns
     cast-count

@@ -1,22 +1,21 @@
 -- `judge_edges` meets its contract. The loop's invariant: the answer is the one from edge e on.
 use mathlib.Core.Path.{_≡_, sym, ap, _∙_}
 use mathlib.Core.Bool.{true}
-use Prim.Native.Nat.{_+_, _-_, _≤_}
+use Prim.Native.Nat.{_+_, _*_, _-_, _≤_}
 use native.Mathlib.Omega.{arith}
-use lib.ListN.{length, drop, length-drop}
+use lib.ListN.{length, drop}
 use borrow.Author.Needs.{needs}
 use borrow.Author.Tests.{not-true, not-false}
 use Rattle.connectivity.specs.Plan.{limits}
 use Rattle.graph.specs.Admission.{toldBy}
 use Rattle.text.specs.Column.{five, largest, lineSize, lineFits}
-use Rattle.text.proofs.Laws.{line-long}
 use Rattle.text_read.specs.Header.{edgeLinesAnswer}
 use Rattle.text_read.proofs.Edges.{edgeAt, edge-none, edge-next, edge-stop, edges-over}
 use Rattle.text_read.proofs.plan.judge_edges.Statement.{statement}
 use Rattle.text_read.proofs.plan.judge_edges.Tie as tie
 
 abbrev Inv-loop : tie.InvT-loop
-Inv-loop text at vertices edges next₀ e₀ next e = (e ≤ edges) × (edges ≤ limits .edges) × (next ≤ length text) × (edgeLinesAnswer five largest vertices 0 edges (drop at text) ≡ edgeLinesAnswer five largest vertices e (edges - e) (drop next text))
+Inv-loop text at vertices edges next₀ e₀ next e = (e ≤ edges) × (edges ≤ limits .edges) × (next + (edges - e) * lineSize five 2 ≤ length text) × (edgeLinesAnswer five largest vertices 0 edges (drop at text) ≡ edgeLinesAnswer five largest vertices e (edges - e) (drop next text))
 
 abbrev μ-loop : tie.MeasureT-loop
 μ-loop text at vertices edges next₀ e₀ next e = edges - e
@@ -37,18 +36,12 @@ returns c =
     let f = sym (c .before .before .read-line .ensures .fits) ∙ not-true _ (c .before .if1 .taken) in
     c .number-alone .ensures ∙ sym (ap toldBy (l .loop .inv .3 ∙ edge-none five largest (a .vertices) (l .loop .e) (l .loop .next) (a .edges - l .loop .e) (a .text .now) (omega arith) f))
 
--- the line is in the form, so it is there
+-- the line is in the form
 fits : (c : tie.Else1 Inv-loop μ-loop) → let l = c .before .before .before in lineFits five largest 2 (drop (l .loop .next) (l .before .before .args .text .now)) ≡ true
 fits c = sym (c .before .read-line .ensures .fits) ∙ not-false _ (c .if1 .left)
 
-room : (c : tie.Else1 Inv-loop μ-loop) → let l = c .before .before .before in l .loop .next + lineSize five 2 ≤ length (l .before .before .args .text .now)
-room c =
-    let l = c .before .before .before in
-    let t = l .before .before .args .text .now in
-    omega (arith, line-long five largest 2 (drop (l .loop .next) t) (fits c), length-drop (l .loop .next) t)
-
 add-next : tie.Need-add-next Inv-loop μ-loop
-add-next c = omega (arith, room c)
+add-next c = omega arith
 
 judge-edge-requires : tie.Need-judge-edge-requires Inv-loop μ-loop
 judge-edge-requires c κs = search needs
@@ -70,7 +63,7 @@ sub-lines-begin-2 : tie.Need-sub-lines-begin-2 Inv-loop μ-loop
 sub-lines-begin-2 c = omega arith
 
 lines-begin-requires : tie.Need-lines-begin-requires Inv-loop μ-loop
-lines-begin-requires c κs = omega (arith, room (c .before .before))
+lines-begin-requires c κs = omega arith
 
 if-fits-requires : tie.Need-if-fits-requires Inv-loop μ-loop
 if-fits-requires c κs = omega arith
@@ -97,7 +90,7 @@ loop-again c =
     let p : a .edges - (l .loop .e + 1) ≡ a .edges - l .loop .e - 1 = omega arith in (
       omega arith,
       omega arith,
-      room (j .before),
+      omega arith,
       rw p (l .loop .inv .3 ∙ edge-next five largest (a .vertices) (l .loop .e) (l .loop .next) (a .edges - l .loop .e) (a .text .now) (omega arith) (fits (j .before)) (sym (judged j) ∙ c .if2 .left)),
     )
 
