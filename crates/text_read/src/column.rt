@@ -52,8 +52,8 @@ pub(crate) fn read_column(line: &[u8], at: usize) -> u32
     x
 }
 
-// How many bytes of the column that begins at `at` are not those of its number x. It is a sum, with no way out, so that all bytes are looked at
-// at once.
+// How many bytes of the column that begins at `at` are not those of its number x. A sum, as the number is, and with no way out: both are compiled
+// to a few steps over all five bytes, which are loaded once.
 fn misfits(line: &[u8], at: usize, x: u32) -> u32
     requires { ⌜ at + length five ≤ length (now line) ⌝ }
     ensures { λ r. ⌜ r ≡ misfits five x (take (length five) (drop at (now (line .entry)))) ⌝ }

@@ -62,7 +62,7 @@ fn in_form(first: u32, second: u32, third: u32) -> Line
     }
 }
 
-// Reads the columns of a line: each byte is looked at once.
+// Reads the columns of a line, behind which a line feed stands.
 fn read_columns(line: &[u8], columns: usize) -> Line
     requires { ⌜ (1 ≤ columns) × (columns ≤ 3) × (length (now line) ≡ lineSize five columns) ⌝ }
     ensures { λ r. ⌜ LineRead five largest columns (now (line .entry)) r ⌝ }
