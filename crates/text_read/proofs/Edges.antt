@@ -128,6 +128,15 @@ excluded-eighteen n k low (v ∷ rest) z = go (leb low v && ltb v n) (excludedAn
     go true x h y = h y
     go false x h y = omega arith
 
+-- so 7 tells that they are not
+out-of-form : (t : Bool) (a : Answer) → (a .number ≡ 7 → ⊥) → (ifFits t a) .number ≡ 7 → t ≡ false
+out-of-form true a other z = absurd (other z)
+out-of-form false a other z = refl
+
+in-form : (t : Bool) (a : Answer) → ((ifFits t a) .number ≡ 7 → ⊥) → t ≡ true
+in-form true a z = refl
+in-form false a z = absurd (z refl)
+
 -- the lines of both
 module _ (ws : List ℕ) (most n m k : ℕ) (text : List ℕ) where
   abbrev behind-edges : List ℕ
@@ -144,21 +153,14 @@ module _ (ws : List ℕ) (most n m k : ℕ) (text : List ℕ) where
 
   pub edges-unread : first .number ≡ 7 → linesAnswer ws most n m k text ≡ first
   unfolding edgeLinesAnswer
-  edges-unread z = go (linesBegin ws most 2 m text) refl z
-    where
-      go : (t : Bool) → linesBegin ws most 2 m text ≡ t → (ifFits t (endsAnswer n 0 (linesNumbers ws 2 m text))) .number ≡ 7
-          → linesAnswer ws most n m k text ≡ ifFits (linesBegin ws most 2 m text) (endsAnswer n 0 (linesNumbers ws 2 m text))
-      go true p y = absurd (omega (arith, ends-five n 0 (linesNumbers ws 2 m text)))
-      go false p y = rw p
+  edges-unread z =
+      let ends = endsAnswer n 0 (linesNumbers ws 2 m text) in
+      let p = out-of-form (linesBegin ws most 2 m text) ends (λ y. omega (arith, ends-five n 0 (linesNumbers ws 2 m text))) z in
+      rw p
 
   pub edges-read : (first .number ≡ 7 → ⊥) → (linesBegin ws most 2 m text ≡ true) × (first ≡ endsAnswer n 0 (drawn .ends))
   unfolding edgeLinesAnswer
-  edges-read z = go (linesBegin ws most 2 m text) refl z
-    where
-      go : (t : Bool) → linesBegin ws most 2 m text ≡ t → ((ifFits t (endsAnswer n 0 (linesNumbers ws 2 m text))) .number ≡ 7 → ⊥)
-          → (linesBegin ws most 2 m text ≡ true) × (ifFits (linesBegin ws most 2 m text) (endsAnswer n 0 (linesNumbers ws 2 m text)) ≡ endsAnswer n 0 (linesNumbers ws 2 m text))
-      go true p y = (p, rw p)
-      go false p y = absurd (y refl)
+  edges-read z = let p = in-form (linesBegin ws most 2 m text) (endsAnswer n 0 (linesNumbers ws 2 m text)) z in (p, rw p)
 
   -- a text of another length is not in the form
   pub other-length : (length text ≡ m * lineSize ws 2 + k * lineSize ws 1 → ⊥) → linesAnswer ws most n m k text ≡ answer 7 0
@@ -176,22 +178,16 @@ module _ (ws : List ℕ) (most n m k : ℕ) (text : List ℕ) where
 
     pub excluded-unread : second .number ≡ 7 → linesAnswer ws most n m k text ≡ second
     unfolding excludedLinesAnswer
-    excluded-unread z = go (linesBegin ws most 1 k behind-edges) refl z
-      where
-        go : (t : Bool) → linesBegin ws most 1 k behind-edges ≡ t → (ifFits t (excludedAnswer n 0 0 (linesNumbers ws 1 k behind-edges))) .number ≡ 7
-            → linesAnswer ws most n m k text ≡ ifFits (linesBegin ws most 1 k behind-edges) (excludedAnswer n 0 0 (linesNumbers ws 1 k behind-edges))
-        go true p y = absurd (excluded-eighteen n 0 0 (linesNumbers ws 1 k behind-edges) y)
-        go false p y = rw (begun, nothing-more, p)
+    excluded-unread z =
+        let numbers = linesNumbers ws 1 k behind-edges in
+        let p = out-of-form (linesBegin ws most 1 k behind-edges) (excludedAnswer n 0 0 numbers) (excluded-eighteen n 0 0 numbers) z in
+        rw (begun, nothing-more, p)
 
     pub excluded-read : (second .number ≡ 7 → ⊥) → (linesAnswer ws most n m k text ≡ listedAnswer drawn) × (second ≡ excludedAnswer n 0 0 (drawn .excluded))
     unfolding excludedLinesAnswer
-    excluded-read z = go (linesBegin ws most 1 k behind-edges) refl z
-      where
-        go : (t : Bool) → linesBegin ws most 1 k behind-edges ≡ t → ((ifFits t (excludedAnswer n 0 0 (linesNumbers ws 1 k behind-edges))) .number ≡ 7 → ⊥)
-            → (linesAnswer ws most n m k text ≡ listedAnswer drawn)
-            × (ifFits (linesBegin ws most 1 k behind-edges) (excludedAnswer n 0 0 (linesNumbers ws 1 k behind-edges)) ≡ excludedAnswer n 0 0 (linesNumbers ws 1 k behind-edges))
-        go true p y = (rw (begun, nothing-more, p), rw p)
-        go false p y = absurd (y refl)
+    excluded-read z =
+        let p = in-form (linesBegin ws most 1 k behind-edges) (excludedAnswer n 0 0 (linesNumbers ws 1 k behind-edges)) z in
+        (rw (begun, nothing-more, p), rw p)
 
 -- 4 and 5, then 18, then 19
 module _ (p : Plan) where
