@@ -48,11 +48,14 @@ static uint32_t check(const struct plan *plan, uint16_t kind, const uint16_t *li
     return hearthtansy_check(plan->pieces, plan->ends, plan->length, plan->slugs, plan->count, kind, list, length);
 }
 
-/* The verdict on a plan, lent `space` numbers; then the check of it. */
+/* The verdict on a plan, lent `space` numbers; then the check of it. Which pieces would fall is fallen.c's. */
 static void decide_slugs(const struct plan *plan, size_t space)
 {
     uint16_t rows[MOST] = {0};
-    uint64_t verdict = hearthtansy_verdict(plan->pieces, plan->ends, plan->length, plan->slugs, plan->count, rows, space);
+    uint64_t fallen[HEARTHTANSY_FALLEN_WORDS];
+    uint16_t fallen_count;
+    uint64_t verdict = hearthtansy_verdict(plan->pieces, plan->ends, plan->length, plan->slugs, plan->count, rows, space,
+                                           fallen, &fallen_count);
     uint16_t kind = hearthtansy_kind(verdict);
     uint16_t cut[] = {hearthtansy_first(verdict), hearthtansy_second(verdict)};
 

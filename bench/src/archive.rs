@@ -1,5 +1,6 @@
-//! The proved check, the proved writer and the proved finder of groups, from their static libraries.
+//! The proved check, the proved writer with the pieces that would fall, and the proved finder of groups, from their static libraries.
 
+use crate::fallen::Fallen;
 use crate::plan::Plan;
 use crate::second::Answer;
 use crate::writer::Verdict;
@@ -31,6 +32,8 @@ unsafe extern "C" {
         excluded_length: usize,
         rows: *mut u16,
         rows_length: usize,
+        fallen: *mut u64,
+        fallen_count: *mut u16,
     ) -> u64;
 
     fn hearthtansy_verdict_text(
@@ -39,6 +42,13 @@ unsafe extern "C" {
         text: *mut u8,
         text_length: usize,
     ) -> u64;
+
+    fn hearthtansy_fallen_text(
+        plan: *const u8,
+        plan_length: usize,
+        text: *mut u8,
+        text_length: usize,
+    ) -> usize;
 
     fn hearthtansy_groups(
         vertices: u16,
@@ -65,11 +75,12 @@ pub enum Exported {
     CheckTexts,
     Verdict,
     VerdictText,
+    FallenText,
     Groups,
     GroupsText,
 }
 
-pub const EXPORTED: [(*const (), &str); 6] = [
+pub const EXPORTED: [(*const (), &str); 7] = [
     (hearthtansy_check as *const (), "hearthtansy_check"),
     (
         hearthtansy_check_texts as *const (),
@@ -79,6 +90,10 @@ pub const EXPORTED: [(*const (), &str); 6] = [
     (
         hearthtansy_verdict_text as *const (),
         "hearthtansy_verdict_text",
+    ),
+    (
+        hearthtansy_fallen_text as *const (),
+        "hearthtansy_fallen_text",
     ),
     (hearthtansy_groups as *const (), "hearthtansy_groups"),
     (
@@ -120,8 +135,8 @@ pub fn check_texts(plan: &[u8], verdict: &[u8]) -> Answer {
     answer(told)
 }
 
-pub fn verdict(plan: &Plan, rows: &mut [u16]) -> Verdict {
-    // SAFETY: all lists are lent for the call, with their own lengths; only the rows are written.
+pub fn verdict(plan: &Plan, rows: &mut [u16], fallen: &mut Fallen) -> Verdict {
+    // SAFETY: all lists are lent for the call, with their own lengths; only the rows, the words and the count are written.
     let told = unsafe {
         hearthtansy_verdict(
             plan.vertices,
@@ -131,6 +146,8 @@ pub fn verdict(plan: &Plan, rows: &mut [u16]) -> Verdict {
             plan.excluded.len(),
             rows.as_mut_ptr(),
             rows.len(),
+            fallen.words.as_mut_ptr(),
+            &mut fallen.count,
         )
     };
     [48, 32, 16, 0].map(|bits| (told >> bits) as u16)
@@ -143,6 +160,12 @@ pub fn verdict_text(plan: &[u8], text: &mut [u8]) -> usize {
         hearthtansy_verdict_text(plan.as_ptr(), plan.len(), text.as_mut_ptr(), text.len())
     };
     written as usize
+}
+
+/// How many bytes of the text are written.
+pub fn fallen_text(plan: &[u8], text: &mut [u8]) -> usize {
+    // SAFETY: both texts are lent for the call, with their own lengths; only the second is written.
+    unsafe { hearthtansy_fallen_text(plan.as_ptr(), plan.len(), text.as_mut_ptr(), text.len()) }
 }
 
 pub fn groups(plan: &Plan, table: &mut [u16]) -> Answer {

@@ -1,4 +1,5 @@
-//! The verdict about a plan and its groups by trying every set of two tabs or fewer: slow, and with no code in common with anything else.
+//! The verdict about a plan and its groups by trying every set of two tabs or fewer, and the pieces that would fall by going over the tabs until
+//! no more is reached: slow, and with no code in common with anything else.
 
 /// A plan as it is lent.
 #[derive(Clone, Copy)]
@@ -8,16 +9,40 @@ pub struct Drawing<'a> {
     pub slugs: &'a [u16],
 }
 
-/// Kind, a, b and c as the writers tell them, where so many numbers are lent for the record.
-pub fn verdict(drawing: Drawing, room: usize) -> [u16; 4] {
+/// Kind, a, b and c as the writers tell them, where so many numbers are lent for the record. None if sets of more tabs than `most` would have to
+/// be tried.
+pub fn verdict(drawing: Drawing, room: usize, most: usize) -> Option<[u16; 4]> {
     if let Some([number, place]) = refusal(drawing) {
-        return [2, number, place, 0];
+        return Some([2, number, place, 0]);
     }
     let sheet = Sheet::new(drawing);
-    if room < sheet.tabs.len() * 3 {
-        return [2, 6, 0, 0];
+    let tabs = sheet.tabs.len();
+    if room < tabs * 3 {
+        return Some([2, 6, 0, 0]);
     }
-    sheet.lowest()
+    if sheet.parted(tabs, tabs) {
+        return Some([1, 0, 0, 0]);
+    }
+    (tabs <= most).then(|| sheet.lowest())
+}
+
+/// The kept pieces, ascending, that the lowest one does not reach over the kept tabs that are not named.
+pub fn fallen(drawing: Drawing, named: &[u16]) -> Vec<u16> {
+    let sheet = Sheet::new(drawing);
+    let mut reached = vec![false; sheet.stays.len()];
+    let lowest = sheet.stays.iter().position(|&stays| stays);
+    reached[lowest.expect("some piece is kept")] = true;
+    let mut more = true;
+    while more {
+        more = false;
+        for (tab, [a, b]) in &sheet.tabs {
+            if reached[*a] != reached[*b] && !named.contains(tab) {
+                (reached[*a], reached[*b], more) = (true, true, true);
+            }
+        }
+    }
+    let fallen = (0..reached.len()).filter(|&v| sheet.stays[v] && !reached[v]);
+    fallen.map(|v| v as u16).collect()
 }
 
 /// The lowest piece of each piece's group, or the number and the place that the plan is refused by, where so many numbers are lent.
@@ -116,11 +141,9 @@ impl Sheet {
         (0..all).map(|v| lowest(v) as u16).collect()
     }
 
+    /// The lowest set of one tab or two that parts a sheet that is one body.
     fn lowest(&self) -> [u16; 4] {
         let tabs = self.tabs.len();
-        if self.parted(tabs, tabs) {
-            return [1, 0, 0, 0];
-        }
         for a in 0..tabs {
             if self.parted(a, a) {
                 return [1, 1, self.tabs[a].0, 0];

@@ -3,6 +3,7 @@
 //! Valgrind runs this program itself, which makes some calls on one plan: once with one call and once with eleven. A tenth of the difference
 //! is what one call takes, since all else is the same.
 
+use crate::fallen::Fallen;
 use crate::firm_shapes::firm;
 use crate::measure::weak_verdict;
 use crate::plan::Plan;
@@ -177,9 +178,10 @@ pub fn call(words: [&str; 5], count: u64) -> Result<(), String> {
 
 fn write(write: writer::Write, plan: &Plan, count: u64) {
     let mut rows = vec![0; 3 * plan.tabs()];
+    let mut fallen = Fallen::default();
     for _ in 0..count {
         let plan = black_box(plan);
-        black_box(write(plan, &mut rows));
+        black_box(write(plan, &mut rows, &mut fallen));
     }
 }
 

@@ -2,6 +2,7 @@
 
 use crate::compare::ANSWERS;
 use crate::compare_writer::{drawing, require, writes};
+use crate::fallen::Fallen;
 use crate::groups::Find;
 use crate::plan::Plan;
 use crate::plans::{random_larger, random_plan, space};
@@ -104,7 +105,7 @@ impl Seen {
         };
         self.groups[kind] += 1;
         let mut rows = vec![0; plan.record()];
-        let verdict = archive::verdict(plan, &mut rows);
+        let verdict = archive::verdict(plan, &mut rows, &mut Fallen::default());
         require((verdict[0] == 0) == (count == 1), || {
             format!("{count} groups and the verdict {verdict:?}, for {plan:?}")
         })

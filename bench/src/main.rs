@@ -1,4 +1,4 @@
-//! The proved check, the proved writer and the proved finder of groups beside second ones: `measure`, `measure-writer`, `measure-groups` and
+//! The proved check, the proved writer with the pieces that would fall, and the proved finder of groups beside second ones: `measure`, `measure-writer`, `measure-groups` and
 //! `measure-texts` have them timed, `stack` has their stack measured, `figures` all of these; `callgrind` has instructions of the check and the
 //! writer counted, of the calls that `call` makes; `compare`, `compare-writer` and `compare-groups` have the answers of both compared.
 
@@ -10,6 +10,7 @@ mod compare;
 mod compare_groups;
 mod compare_writer;
 mod damage;
+mod fallen;
 mod firm_shapes;
 mod group_shapes;
 mod groups;

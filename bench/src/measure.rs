@@ -2,6 +2,7 @@
 
 use crate::clock::{median, time};
 use crate::compare::same;
+use crate::fallen::Fallen;
 use crate::firm_shapes::firm;
 use crate::grow::{Family, grow};
 use crate::measure_shapes::table;
@@ -101,7 +102,7 @@ fn answers(case: &Case, number: u16) -> Result<(), String> {
 /// The weak verdict about a plan: its lowest cut.
 pub fn weak_verdict(plan: Plan) -> Case {
     let mut rows = vec![0; plan.record()];
-    let [kind, count, first, last] = writer::verdict(&plan, &mut rows);
+    let [kind, count, first, last] = writer::verdict(&plan, &mut rows, &mut Fallen::default());
     let list = [first, last][..count as usize].to_vec();
     Case { plan, kind, list }
 }

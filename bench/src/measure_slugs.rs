@@ -2,6 +2,7 @@
 
 use crate::clock::{median, time};
 use crate::compare::same;
+use crate::fallen::Fallen;
 use crate::grow::{Family, grow};
 use crate::plan::{Case, Plan};
 use crate::random::Random;
@@ -46,8 +47,8 @@ const TIMED: [Timed; 4] = [
     Timed {
         name: "writer, firm",
         calls: [
-            |case, rows| _ = black_box(archive::verdict(&case.plan, rows)),
-            |case, rows| _ = black_box(writer::verdict(&case.plan, rows)),
+            |case, rows| _ = black_box(kind(archive::verdict, &case.plan, rows)),
+            |case, rows| _ = black_box(kind(writer::verdict, &case.plan, rows)),
         ],
     },
     Timed {
@@ -90,15 +91,16 @@ pub fn run() -> Result<(), String> {
 /// Both checks pass the record, and both writers call the plan firm.
 fn passes(case: &Case) -> Result<(), String> {
     let answer = same(case)?;
-    let told = [archive::verdict, writer::verdict].map(|write| kind(write, &case.plan));
+    let mut rows = vec![0; case.plan.record()];
+    let told = [archive::verdict, writer::verdict].map(|write| kind(write, &case.plan, &mut rows));
     if answer.number == 0 && told == [0, 0] {
         return Ok(());
     }
     Err(format!("{answer:?} and the kinds {told:?} for {case:?}"))
 }
 
-fn kind(write: writer::Write, plan: &Plan) -> u16 {
-    write(plan, &mut vec![0; plan.record()])[0]
+fn kind(write: writer::Write, plan: &Plan, rows: &mut [u16]) -> u16 {
+    write(plan, rows, &mut Fallen::default())[0]
 }
 
 /// The median nanoseconds of one call on the plans without slugs and on those with, sampled in turn.

@@ -1,6 +1,7 @@
 //! How much processor time the exported functions take on texts, beside the same on numbers; and how much of it is reading, beside a second reader.
 
 use crate::clock::{median, time};
+use crate::fallen::Fallen;
 use crate::grow::{Family, grow};
 use crate::plan::{Case, Plan};
 use crate::random::Random;
@@ -33,7 +34,12 @@ pub fn run() -> Result<(), String> {
     };
     check("check of a record", &case);
     check("check of a weak verdict, no tab named", &weak);
-    write("writer, already parted", &parted);
+    write("writer, already parted", &parted, archive::verdict_text);
+    write(
+        "pieces that would fall, already parted",
+        &parted,
+        archive::fallen_text,
+    );
     unread(&case);
     println!();
     reading()
@@ -150,16 +156,18 @@ fn check(name: &str, case: &Case) {
     print(name, pair(on_numbers, on_texts));
 }
 
-fn write(name: &str, case: &Case) {
+/// The verdict on numbers, which has the pieces that would fall, too, and one of its texts.
+fn write(name: &str, case: &Case, write_text: fn(&[u8], &mut [u8]) -> usize) {
     let plan = texts::write_plan(&case.plan);
     let mut rows = vec![0; 3 * TABS];
+    let mut fallen = Fallen::default();
     let mut text = vec![0; 16 * TABS + 11];
     let on_numbers = || {
         let case = black_box(case);
-        black_box(archive::verdict(&case.plan, &mut rows));
+        black_box(archive::verdict(&case.plan, &mut rows, &mut fallen));
     };
     let on_texts = || {
-        black_box(archive::verdict_text(black_box(&plan), &mut text));
+        black_box(write_text(black_box(&plan), &mut text));
     };
     print(name, pair(on_numbers, on_texts));
 }

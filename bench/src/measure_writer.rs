@@ -1,7 +1,8 @@
 //! How much processor time both writers take, and how that grows.
 
 use crate::clock::{median, time};
-use crate::compare_writer::obeys;
+use crate::compare_writer::{Expected, obeys};
+use crate::fallen::Fallen;
 use crate::firm_shapes::firm;
 use crate::measure_shapes::table;
 use crate::plan::Plan;
@@ -38,12 +39,13 @@ fn medians(plans: &[Plan]) -> [f64; 2] {
     let mut times = [Vec::new(), Vec::new()];
     let most = plans.iter().map(Plan::tabs).max();
     let mut rows = vec![0; 3 * most.unwrap_or(0)];
+    let mut fallen = Fallen::default();
     for _ in 0..SAMPLES {
         for (write, times) in WRITERS.iter().zip(&mut times) {
             let all = time(TIME, || {
                 for plan in black_box(plans) {
                     let rows = &mut rows[..3 * plan.tabs()];
-                    black_box(write(plan, rows));
+                    black_box(write(plan, rows, &mut fallen));
                 }
             });
             times.push(all / plans.len() as f64);
@@ -52,18 +54,20 @@ fn medians(plans: &[Plan]) -> [f64; 2] {
     times.map(|times| median(&times))
 }
 
-/// Both writers give the same verdict, of this kind, and it passes both checks.
+/// Both writers give the same verdict, of this kind, with the pieces that would fall, and it passes both checks.
 fn agree(plan: &Plan, kind: u16) -> Result<(), String> {
     let rows = vec![0; plan.record()];
-    let expected = writer::verdict(plan, &mut rows.clone());
+    let fallen = Fallen::default();
+    let verdict = writer::verdict(plan, &mut rows.clone(), &mut fallen.clone());
     let wrong = |why| format!("{why}, for {plan:?}");
-    if expected[0] != kind {
-        return Err(wrong(format!("{expected:?}")));
+    if verdict[0] != kind {
+        return Err(wrong(format!("{verdict:?}")));
     }
     let plan = plan.clone();
-    let trial = Trial { plan, rows };
+    let trial = Trial { plan, rows, fallen };
+    let expected = Expected::new(&trial, verdict);
     for write in WRITERS {
-        obeys(&trial, write, expected).map_err(wrong)?;
+        obeys(&trial, write, &expected).map_err(wrong)?;
     }
     Ok(())
 }

@@ -1,25 +1,74 @@
-//! Random plans for the writers and the finders of groups: small ones of many shapes, some larger ones, refused ones, and space for what is
-//! written.
+//! Random plans for the writers and the finders of groups: small ones of many shapes, some larger ones, some with far numbers, refused ones, and
+//! space for what is written.
 
 use crate::damage::record;
+use crate::fallen::{Fallen, WORDS};
 use crate::plan::Plan;
 use crate::random::Random;
-use crate::slugs;
+use crate::{second, slugs};
 
-/// A plan and the space lent for its record, filled with any numbers.
+/// A plan, and the space lent for its record and for the marks of what would fall, filled with any numbers.
 #[derive(Clone, Debug)]
 pub struct Trial {
     pub plan: Plan,
     pub rows: Vec<u16>,
+    pub fallen: Fallen,
 }
 
 type Tabs = Vec<[u16; 2]>;
 
 /// A random plan with space that may be too short or longer than needed.
 pub fn random_trial(random: &mut Random) -> Trial {
-    let plan = random_plan(random);
+    let plan = random_numbered(random);
     let rows = space(random, plan.record());
-    Trial { plan, rows }
+    let fallen = Fallen {
+        words: [0; WORDS].map(|_| random.next()),
+        count: random.next() as u16,
+    };
+    Trial { plan, rows, fallen }
+}
+
+/// A random plan, most of them small. Of 256 one is larger, of up to 960 pieces, one is a long path or ring, and 16 have their few pieces spread among
+/// up to 1,000: then marks lie in several words.
+fn random_numbered(random: &mut Random) -> Plan {
+    match random.below(256) {
+        0 => {
+            let most = 60 + random.below(900);
+            random_larger(random, most)
+        }
+        1 => random_long(random),
+        2..=17 => {
+            let mut plan = random_plan(random);
+            if second::admit(&plan).is_ok() {
+                slugs::spread(random, &mut plan);
+            }
+            plan
+        }
+        _ => random_plan(random),
+    }
+}
+
+/// A path of up to 1,000 pieces, or a ring closed by one tab, whose neighbours are joined by one to three tabs, about one pair of
+/// them by one fewer; numbered along it or at random, some with slugs.
+fn random_long(random: &mut Random) -> Plan {
+    let pieces = 2 + random.below(999) as u16;
+    let each = 1 + random.below(3);
+    let mut tabs = Tabs::new();
+    for v in 1..pieces {
+        let count = each - random.once_in(pieces as usize) as usize;
+        tabs.extend([[v - 1, v]].repeat(count));
+    }
+    if random.once_in(2) {
+        tabs.push([pieces - 1, 0]);
+    }
+    let mut plan = match random.once_in(2) {
+        true => mixed(random, &tabs),
+        false => Plan::whole(pieces, tabs.into_iter().flatten().collect()),
+    };
+    if random.once_in(4) {
+        slugs::choose(random, &mut plan);
+    }
+    plan
 }
 
 /// A random plan, most of 2 to 8 pieces that are kept; half of them have slugs.

@@ -1,4 +1,4 @@
-//! Random slugs: put beside the pieces of a plan, chosen among them, or listed wrongly.
+//! Random slugs: put beside the pieces of a plan, chosen among them, put between them, or listed wrongly.
 
 use crate::plan::{Case, Plan};
 use crate::random::Random;
@@ -105,6 +105,26 @@ pub fn choose(random: &mut Random, plan: &mut Plan) {
     plan.excluded.extend(order.iter().take(count));
     plan.excluded.sort();
     plan.excluded.dedup();
+}
+
+/// The pieces of a plan that is admitted get numbers far apart, half of the times the first and the last of words of marks as far as there are;
+/// all other numbers are slugs without tabs.
+pub fn spread(random: &mut Random, plan: &mut Plan) {
+    let old = plan.vertices as usize;
+    let all = [66, 130, 260, 1000][random.below(4)];
+    if all < old {
+        return;
+    }
+    let mut names = random.order(all);
+    if random.once_in(2) {
+        let border = |v: u16| (v + 1) % 64 < 2 || v as usize + 1 == all;
+        names.sort_by_key(|&v| !border(v));
+    }
+    let renamed = plan.ends.iter_mut().chain(&mut plan.excluded);
+    renamed.for_each(|v| *v = names[*v as usize]);
+    plan.excluded.extend(&names[old..]);
+    plan.excluded.sort();
+    plan.vertices = all as u16;
 }
 
 /// One of the faults that a list of slugs may have, or one slug more or fewer.

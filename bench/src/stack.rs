@@ -8,6 +8,7 @@
 
 use crate::archive::{self, Exported};
 use crate::damage::number;
+use crate::fallen::Fallen;
 use crate::group_shapes::grouped;
 use crate::grow::{Family, grow};
 use crate::plan::{Case, Plan};
@@ -151,18 +152,16 @@ impl Stack {
         Ok(told[0])
     }
 
-    /// Puts the words behind the sixth at the end of the block; there are at most two. What they leave of it is the stack below them.
+    /// Puts the words behind the sixth at the end of the block, two to each of its own. What they leave of it is the stack below them.
     fn arguments(&mut self, words: &[usize]) -> *mut u128 {
-        let behind = words.get(REGISTERS..).unwrap_or(&[]);
-        if let Some(last) = self.block.last_mut().filter(|_| !behind.is_empty()) {
-            *last = 0;
-            for (i, &word) in behind.iter().enumerate() {
-                *last |= (word as u128) << (64 * i);
-            }
+        let behind = words.get(REGISTERS..).unwrap_or(&[]).chunks(2);
+        let first = WORDS - behind.len();
+        for (place, pair) in self.block[first..].iter_mut().zip(behind) {
+            let [low, high] = [0, 1].map(|i| pair.get(i).map_or(0, |&word| word as u128));
+            *place = high << 64 | low;
         }
-        let range = self.block.as_mut_ptr_range();
-        let used = behind.len().div_ceil(2);
-        range.end.wrapping_sub(used)
+        // the end of the block, if nothing is put there
+        self.block.as_mut_ptr().wrapping_add(first)
     }
 
     /// How many bytes there are from the lowest one that has lost its paint to the end of the block.
@@ -227,8 +226,13 @@ impl Stack {
     }
 
     fn verdict(&mut self, plan: &Plan, rows: &mut [u16]) -> Result<u64, String> {
+        let mut fallen = Fallen::default();
         let mut words = plan_words(plan);
         words.extend([rows.as_mut_ptr() as usize, rows.len()]);
+        words.extend([
+            fallen.words.as_mut_ptr() as usize,
+            &raw mut fallen.count as usize,
+        ]);
         self.call(Exported::Verdict, &words)
     }
 
@@ -236,6 +240,12 @@ impl Stack {
         let [written, length] = [text.as_mut_ptr() as usize, text.len()];
         let words = [plan.as_ptr() as usize, plan.len(), written, length];
         Ok(self.call(Exported::VerdictText, &words)? as usize)
+    }
+
+    fn fallen_text(&mut self, plan: &[u8], text: &mut [u8]) -> Result<usize, String> {
+        let [written, length] = [text.as_mut_ptr() as usize, text.len()];
+        let words = [plan.as_ptr() as usize, plan.len(), written, length];
+        Ok(self.call(Exported::FallenText, &words)? as usize)
     }
 
     fn groups(&mut self, plan: &Plan, table: &mut [u16]) -> Result<(), String> {
@@ -292,13 +302,17 @@ impl Stack {
         let length = self.verdict_text(&text, &mut written)?;
         self.check_texts(&text, &written[..length])?;
         self.verdict_text(&text, &mut written[..length - 1])?;
+        let length = self.fallen_text(&text, &mut written)?;
+        self.fallen_text(&text, &mut written[..length - 1])?;
         for _ in 0..DAMAGED {
             let damaged = damaged(random, plan);
             self.verdict(&damaged, &mut rows)?;
             let mut text = texts::write_plan(&damaged);
             self.verdict_text(&text, &mut written)?;
+            self.fallen_text(&text, &mut written)?;
             texts::damage(random, &mut text);
             self.verdict_text(&text, &mut written)?;
+            self.fallen_text(&text, &mut written)?;
         }
         Ok(())
     }

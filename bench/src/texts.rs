@@ -140,6 +140,12 @@ pub fn write(first: u16, numbers: &[u16], columns: usize) -> Vec<u8> {
     text.into_bytes()
 }
 
+/// Lines of one number each, without a header.
+pub fn lines(numbers: &[u16]) -> Vec<u8> {
+    let lines = numbers.iter().map(|number| format!("{number:>5}\n"));
+    lines.collect::<String>().into_bytes()
+}
+
 /// A byte more, less or changed, or the end cut off.
 pub fn damage(random: &mut Random, text: &mut Vec<u8>) {
     const BYTES: &[u8] = b"  01239\n\r\t-+x\0\xff";

@@ -3,7 +3,7 @@
 -- `Cut` 01's weak list (two tabs at most, ascending, the plan's, that part the sheet), `LowestCut` the fewest and lowest; `judge` is what
 -- the contract of the check says that it answers, `Answered` the contract of the writer. A plan carries its slugs (02); its tabs are the kept
 -- ones, its pieces the kept ones: `graph p` has no others.
-use mathlib.Core.Path.{_≡_, refl, ap, _∙_}
+use mathlib.Core.Path.{_≡_, refl, sym, ap, _∙_}
 use mathlib.Core.Logic.{_⊎_, inl, inr, _↔_}
 use mathlib.Core.List.{List}
 use mathlib.Core.Option.{Option, none, some}
@@ -12,22 +12,27 @@ use native.Mathlib.Omega.{arith}
 use native.Mathlib.Decide.{ℕ-discrete}
 use lib.ListN.{length, take}
 use Rattle.connectivity.specs.Plan.{Plan, graph, Limits}
-use Rattle.connectivity.specs.Reach.{ThreeEdgeConnected}
-use Rattle.connectivity.specs.Cut.{Cut, LowestCut, lowestCut}
+use Rattle.connectivity.specs.Graph.{Vertex}
+use Rattle.connectivity.specs.Reach.{Reach, Without, ThreeEdgeConnected}
+use Rattle.connectivity.specs.Cut.{EdgeSet, Cut, LowestCut, lowestCut, cutOff}
+use Rattle.connectivity.specs.Fallen.{Marked, marked, fallen}
 use Rattle.connectivity.specs.Mader.{Builds}
 use Rattle.connectivity.specs.Admission.{keptEdges, Admitted, answer, passed, refusal, admission}
 use Rattle.connectivity.specs.Verdict.{verdictHanded}
 use Rattle.connectivity.specs.Judge.{judge}
-use Rattle.connectivity.proofs.Kept.{two-kept}
+use Rattle.connectivity.proofs.Kept.{two-kept, bound-is}
+use Rattle.connectivity.proofs.CutOff.{Lowest}
+use Rattle.connectivity.proofs.Fallen.{fallen-not, fallen-count, fallen-some}
 use Rattle.connectivity.proofs.LowestCut.{lowest-cut, three-edge-connected}
 use Rattle.connectivity.proofs.Judge as judged
-use Rattle.connectivity.proofs.Verdict.{verdict-refused, verdict-short, verdict-firm, verdict-weak}
+use Rattle.connectivity.proofs.Verdict.{verdict-refused, verdict-short, verdict-firm, verdict-weak, weak-served}
 use Rattle.connectivity.proofs.Complete.{firm-exists}
+use Rattle.removal.specs.Fallen.{fallenBy, none as unmarked}
 use Rattle.certify.specs.declared.Finding.{Finding}
 use Rattle.certify.specs.declared.Outcome.{Outcome}
 use Rattle.certify.specs.declared.Outcome.the-variants.{Refused, Weak, Firm}
 use Rattle.certify.specs.Answered.{Answered, handed, named}
-use Rattle.certify.proofs.Outcomes.{firm-told, never-refused, found-firm, found-weak}
+use Rattle.certify.proofs.Outcomes.{firm-told, never-refused, found-firm, weak-outcome, weak-falls, found-falls, found-none}
 
 -- Demand 1. Every input is served or given the one refusal that 01 fixes; a refused or weak answer leaves the lent record unchanged.
 -- (That every entry takes every input and ends is what a contract without `requires` says.)
@@ -77,7 +82,7 @@ module _ {most : Limits} {p : Plan} (a : Admitted most p) where
         (λ q. v .0 (found-firm a room c q), λ t. firm-told c (v .1 t))
 
     pub ours-weak : found .outcome ≡ Weak → LowestCut (graph p) (named (found .cut))
-    ours-weak q = verdict-weak a (length before) room (named (found .cut)) .0 (found-weak a room c q .1)
+    ours-weak q = verdict-weak a (length before) room (named (found .cut)) .0 (weak-outcome c q .1)
 
   -- Demand 3. Which verdicts pass, whatever kind and numbers anyone offers.
 
@@ -122,3 +127,38 @@ module _ {most : Limits} {p : Plan} (a : Admitted most p) where
 
     pub tabs-pass : found .outcome ≡ Weak → Passes 1 (named (found .cut))
     tabs-pass q = weak-list (named (found .cut)) .1 (ours-weak room c q .cut)
+
+-- 02, note 4. Which pieces would fall.
+
+module _ {most : Limits} {p : Plan} (a : Admitted most p) where
+  bounded : (graph p) .bound ≤ most .vertices
+  bounded = omega (arith, bound-is p, a .vertices)
+
+  -- the search marks exactly the kept pieces that the lowest kept piece, u, does not reach over the tabs left
+  pub marks-are : {u : ℕ} → Lowest (graph p) u → (cut : List ℕ) (v : ℕ) → Marked (fallen most (graph p) cut) v ↔ (Vertex (graph p) v × (Reach (graph p) (Without cut) u v → ⊥))
+  marks-are low cut v = fallen-not most (graph p) bounded cut low v
+
+  -- and how many are set is how many of them there are
+  pub marks-count : (cut : List ℕ) → marked (fallen most (graph p) cut) ≡ length (cutOff (graph p) cut)
+  marks-count cut = fallen-count most (graph p) bounded cut
+
+  -- a weak list of the plan's tabs, two at most and ascending, passes exactly where some mark is set
+  pub weak-marks : (list : List ℕ) → EdgeSet (graph p) list → length list ≤ 2 → (judge most p 1 list ≡ passed) ↔ ((v : ℕ) × Marked (fallen most (graph p) list) v)
+  weak-marks list set small =
+      let some = fallen-some most (graph p) bounded list in
+      (λ q. some .0 (weak-list a list .0 q .parts), λ m. weak-list a list .1 (record { set = set; small = small; parts = some .1 m }))
+
+-- our writer's answer, for every plan and whatever is lent
+module _ {most : Limits} {p : Plan} {before after : List ℕ} {found : Finding} (c : Answered most p before after found) where
+  -- a weak one carries the marks that are found without its named tabs, and how many are set: one at least
+  pub ours-fall : found .outcome ≡ Weak → found .fallen ≡ fallenBy most p (named (found .cut))
+  ours-fall q = found-falls c q
+
+  pub ours-some : found .outcome ≡ Weak → (found .fallen .count ≡ marked (found .fallen .words)) × (1 ≤ found .fallen .count)
+  ours-some q =
+      let v = weak-outcome c q .1 in
+      rw (ours-fall q) (sym (marks-count (weak-served most p (length before) v .0) (named (found .cut))), weak-falls most p (length before) (named (found .cut)) v)
+
+  -- a firm or refused one marks none
+  pub ours-none : (found .outcome ≡ Weak → ⊥) → found .fallen ≡ unmarked most
+  ours-none h = found-none c h

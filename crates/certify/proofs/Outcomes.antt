@@ -6,14 +6,22 @@ use Prim.Native.Nat.{ℕ, _*_, _≤_}
 use native.Mathlib.Omega.{arith}
 use lib.ListN.{length, getD, take}
 use Rattle.connectivity.specs.Plan.{Plan, graph, Limits}
-use Rattle.connectivity.specs.Cut.{lowestCut}
+use Rattle.connectivity.specs.Graph.{Graph}
+use Rattle.connectivity.specs.Cut.{lowestCut, cutOff}
 use Rattle.connectivity.specs.Admission.{Handed, served, refusal, keptEdges, Admitted}
 use Rattle.connectivity.specs.Verdict as meaning
-use Rattle.connectivity.proofs.Verdict.{reaches, verdict-weak}
+use Rattle.connectivity.specs.Fallen.{fallWith}
+use Rattle.connectivity.proofs.Lists.{not-empty}
+use Rattle.connectivity.proofs.Disconnects.{disconnects-is}
+use Rattle.connectivity.proofs.CutOff.{cut-off-some}
+use Rattle.connectivity.proofs.Fallen.{marks-none}
+use Rattle.connectivity.proofs.Verdict.{reaches, verdict-weak, weak-served}
 use Rattle.graph.specs.Admission.{answerOf}
 use Rattle.graph.specs.declared.Answer.{Answer}
 use Rattle.graph.proofs.Lent.{not-served}
 use Rattle.cuts.specs.declared.lowest.Lowest.{Lowest}
+use Rattle.removal.specs.declared.Fallen.{Fallen}
+use Rattle.removal.specs.Fallen.{fallenOf, fallenBy, none as unmarked}
 use Rattle.certify.specs.declared.Finding.{Finding}
 use Rattle.certify.specs.declared.Outcome.{Outcome}
 use Rattle.certify.specs.declared.Outcome.the-variants.{Refused, Weak, Firm}
@@ -24,7 +32,7 @@ use Rattle.certify.specs.Answered.{Answered, handedBy, named}
 size : Handed → ℕ
 size h = length (h .values)
 
-firm-only : (v : meaning.Verdict) → served (0 ∷ []) ≡ meaning.verdictHanded v → v ≡ meaning.firm
+pub firm-only : (v : meaning.Verdict) → served (0 ∷ []) ≡ meaning.verdictHanded v → v ≡ meaning.firm
 unfolding meaning.verdictHanded size
 firm-only (meaning.refused a) p = absurd (not-served (sym p))
 firm-only meaning.firm p = refl
@@ -37,6 +45,10 @@ unfolding size
 firm-back (Refused a) c p = absurd (not-served p)
 firm-back Weak c p = absurd (omega (arith, ap size p))
 firm-back Firm c p = refl
+
+-- where nothing falls, no mark is set
+pub blank-falls : (most : Limits) (list : List ℕ) → list ≡ [] → fallenOf most list ≡ unmarked most
+blank-falls most list q = rw q (ap (λ (w : List ℕ). record { words = w; count = 0 }) (marks-none most))
 
 -- A weak answer names at most two edges, and just those of the cut.
 
@@ -61,7 +73,28 @@ module _ (c : Lowest) where
   weak-only (meaning.weak (e ∷ (d ∷ []))) small p = let (few, q) = weak-named 2 e d (omega arith) p in (few, ap meaning.weak (sym q))
   weak-only (meaning.weak (e ∷ (d ∷ (b ∷ l)))) small p = absurd (omega (arith, small (e ∷ (d ∷ (b ∷ l))) refl))
 
--- A refusal is handed back of no verdict by a cut.
+-- a weak answer is one about an admitted plan, where there is enough space
+pub weak-told : (most : Limits) (p : Plan) (space : ℕ) (c : Lowest) → served (1 ∷ (c .count ∷ (c .first ∷ (c .second ∷ [])))) ≡ meaning.verdictHanded (meaning.verdict most p space)
+    → (c .count ≤ 2) × (meaning.verdict most p space ≡ meaning.weak (named c))
+weak-told most p space c = weak-only c (meaning.verdict most p space)
+    (λ cut v. let (a, room) = weak-served most p space v in verdict-weak a space room cut .0 v .cut .small)
+
+-- with a weak one some piece falls
+pub weak-falls : (most : Limits) (p : Plan) (space : ℕ) (cut : List ℕ) → meaning.verdict most p space ≡ meaning.weak cut → 1 ≤ length (cutOff (graph p) cut)
+weak-falls most p space cut v =
+    let (a, room) = weak-served most p space v in
+    let parts = verdict-weak a space room cut .0 v .cut .parts in
+    not-empty (cutOff (graph p) cut) (cut-off-some (graph p) cut .holds (disconnects-is (graph p) cut .1 parts))
+
+-- A refusal is handed back of no verdict by a cut; so nothing falls.
+
+pub refused-none : {x : Answer} (g : Graph) (v : meaning.Verdict) → refusal (answerOf x) ≡ meaning.verdictHanded v → fallWith g v ≡ []
+unfolding meaning.verdictHanded fallWith
+refused-none g (meaning.refused a) p = refl
+refused-none g meaning.firm p = absurd (not-served p)
+refused-none g (meaning.weak []) p = absurd (not-served p)
+refused-none g (meaning.weak (e ∷ [])) p = absurd (not-served p)
+refused-none g (meaning.weak (e ∷ (d ∷ l))) p = absurd (not-served p)
 
 unrefused : {x : Answer} (o : Option (List ℕ)) → refusal (answerOf x) ≡ meaning.verdictHanded (meaning.verdictOn o) → ⊥
 unfolding meaning.verdictOn meaning.verdictHanded
@@ -89,6 +122,24 @@ module _ {most : Limits} {p : Plan} {before after : List ℕ} {f : Finding} (a :
   pub found-firm : f .outcome ≡ Firm → found ≡ meaning.firm
   found-firm q = firm-only found (rw q at (c .answer))
 
-  pub found-weak : f .outcome ≡ Weak → (f .cut .count ≤ 2) × (found ≡ meaning.weak (named (f .cut)))
-  found-weak q = weak-only (f .cut) found
-      (λ cut v. verdict-weak a (length before) room cut .0 v .cut .small) (rw q at (c .answer))
+-- Space for a record is enough, and more changes nothing.
+pub same-verdict : {most : Limits} {p : Plan} (a : Admitted most p) (space : ℕ) → 3 * keptEdges p ≤ space → meaning.verdict most p space ≡ meaning.verdict most p (3 * keptEdges p)
+same-verdict {p = p} a space room = reaches a space room ∙ sym (reaches a (3 * keptEdges p) (omega arith))
+
+-- What falls with an answer, whatever is lent.
+module _ {most : Limits} {p : Plan} {before after : List ℕ} {f : Finding} (c : Answered most p before after f) where
+  pub weak-outcome : f .outcome ≡ Weak → (f .cut .count ≤ 2) × (meaning.verdict most p (length before) ≡ meaning.weak (named (f .cut)))
+  weak-outcome q = weak-told most p (length before) (f .cut) (rw q at (c .answer))
+
+  pub found-falls : f .outcome ≡ Weak → f .fallen ≡ fallenBy most p (named (f .cut))
+  unfolding fallWith
+  found-falls q = c .fallen ∙ ap (λ (v : meaning.Verdict). fallenOf most (fallWith (graph p) v)) (weak-outcome q .1)
+
+  pub found-none : (f .outcome ≡ Weak → ⊥) → f .fallen ≡ unmarked most
+  unfolding fallWith
+  found-none h = go (f .outcome) refl
+    where
+      go : (o : Outcome) → f .outcome ≡ o → f .fallen ≡ unmarked most
+      go (Refused x) q = c .fallen ∙ blank-falls most (fallWith (graph p) (meaning.verdict most p (length before))) (refused-none (graph p) (meaning.verdict most p (length before)) (rw q at (c .answer)))
+      go Firm q = c .fallen ∙ blank-falls most (fallWith (graph p) (meaning.verdict most p (length before))) (ap (fallWith (graph p)) (firm-only (meaning.verdict most p (length before)) (rw q at (c .answer))))
+      go Weak q = absurd (h q)

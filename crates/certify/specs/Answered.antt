@@ -3,12 +3,14 @@ use mathlib.Core.Path.{_≡_}
 use mathlib.Core.List.{List, [], _∷_}
 use Prim.Native.Nat.{ℕ}
 use lib.ListN.{length, take}
-use Rattle.connectivity.specs.Plan.{Plan, Limits}
+use Rattle.connectivity.specs.Plan.{Plan, graph, Limits}
 use Rattle.connectivity.specs.Admission.{Handed, served, refusal}
 use Rattle.connectivity.specs.Verdict.{verdict, verdictHanded}
+use Rattle.connectivity.specs.Fallen.{fallWith}
 use Rattle.graph.specs.Admission.{answerOf}
 use Rattle.cuts.specs.declared.lowest.Lowest.{Lowest}
 use Rattle.record.specs.Answered.{RecordKept}
+use Rattle.removal.specs.Fallen.{fallenOf}
 use Rattle.certify.specs.declared.Finding.{Finding}
 use Rattle.certify.specs.declared.Outcome.{Outcome}
 use Rattle.certify.specs.declared.Outcome.the-variants.{Refused, Weak, Firm}
@@ -30,8 +32,10 @@ unnamed = record { count = 0; first = 0; second = 0 }
 abbrev pub named : Lowest → List ℕ
 named cut = take (cut .count) (cut .first ∷ (cut .second ∷ []))
 
--- the whole answer: the verdict is handed back, a firm or refused one names no edge, and the lent record is as 01 has it
+-- the whole answer: the verdict is handed back, a firm or refused one names no edge, the lent record is as 01 has it, and 02: the pieces that
+-- fall with the verdict are marked
 pub record Answered (most : Limits) (p : Plan) (before after : List ℕ) (r : Finding) : Type 0 where
   pub answer : handed r ≡ verdictHanded (verdict most p (length before))
   pub blank : (r .outcome ≡ Weak → ⊥) → r .cut ≡ unnamed
   pub kept : RecordKept most p before after
+  pub fallen : r .fallen ≡ fallenOf most (fallWith (graph p) (verdict most p (length before)))

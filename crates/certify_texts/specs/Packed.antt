@@ -3,9 +3,11 @@ use mathlib.Core.Path.{_≡_}
 use mathlib.Core.List.{List, [], _∷_}
 use Prim.Native.Nat.{ℕ, _+_, _*_}
 use lib.ListN.{length, getD}
-use Rattle.connectivity.specs.Plan.{Plan, Limits}
+use Rattle.connectivity.specs.Plan.{Plan, graph, Limits}
+use Rattle.connectivity.specs.Graph.{Graph}
 use Rattle.connectivity.specs.Admission.{Answer, Handed}
-use Rattle.connectivity.specs.Verdict.{verdict, verdictHanded}
+use Rattle.connectivity.specs.Verdict.{Verdict, refused, weak, firm, verdict, verdictHanded}
+use Rattle.connectivity.specs.Fallen.{fallen, fallWith}
 use Rattle.text.specs.Verdict.{writeVerdict}
 use Rattle.text_write.specs.Entry.{bytesHanded, sizeOf, afterWriting}
 use Rattle.record.specs.Answered.{RecordKept}
@@ -27,6 +29,17 @@ packed h = packedBy (h .values) (h .reply)
 pub record Packed (most : Limits) (p : Plan) (before after : List ℕ) (r : ℕ) : Type 0 where
   pub answer : r ≡ packed (verdictHanded (verdict most p (length before)))
   pub kept : RecordKept most p before after
+
+-- 02: the lent words after a verdict: a weak one's marks; a firm one or a refusal leaves them
+unfoldable pub wordsAfter : Limits → Graph → Verdict → List ℕ → List ℕ
+wordsAfter most g (weak cut) before = fallen most g cut
+wordsAfter most g firm before = before
+wordsAfter most g (refused a) before = before
+
+-- 02: the words, and how many pieces fall with the verdict
+pub record Marks (most : Limits) (p : Plan) (space : ℕ) (before after : List ℕ) (marked : ℕ) : Type 0 where
+  pub words : after ≡ wordsAfter most (graph p) (verdict most p space) before
+  pub count : marked ≡ length (fallWith (graph p) (verdict most p space))
 
 -- the length of the verdict text that is written for a plan text; the lent bytes are as 01 has it
 pub record TextSize (ws : List ℕ) (most : ℕ) (limits : Limits) (plan before after : List ℕ) (r : ℕ) : Type 0 where

@@ -4,6 +4,7 @@ pub mod Through
 pub mod Search
 pub mod Disconnects
 pub mod CutOff
+pub mod Fallen
 pub mod Order
 pub mod LowestCut
 pub mod Admission

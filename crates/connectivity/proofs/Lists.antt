@@ -45,6 +45,10 @@ pub T-false : (b : Bool) → (T b → ⊥) → b ≡ false
 T-false true n = absurd (n tt)
 T-false false n = refl
 
+-- tests that hold of each other are the same
+pub same-tests : (a b : Bool) → (T a → T b) → (T b → T a) → a ≡ b
+same-tests a b f h = elim (T-dec a) [ yes t ↦ T-true a t ∙ sym (T-true b (f t)) | no n ↦ T-false a n ∙ sym (T-false b (λ t. n (h t))) ]
+
 pub true-T : {b : Bool} → b ≡ true → T b
 true-T p = subst T (sym p) tt
 

@@ -5,13 +5,14 @@ use mathlib.Core.List.{List}
 use mathlib.Core.Option.{Option, none, some}
 use Prim.Native.Nat.{ℕ, _*_, _≤_, _<_}
 use native.Mathlib.Omega.{arith}
+use native.Mathlib.Decide.{ℕ-discrete, decLt}
 use lib.ListN.{length}
 use borrow.Author.Tests.{le-ltb, lt-ltb, ne-eqb}
 use Rattle.connectivity.specs.Graph.{Graph, edges}
 use Rattle.connectivity.specs.Plan.{Plan, graph, Limits}
 use Rattle.connectivity.specs.Reach.{ThreeEdgeConnected}
 use Rattle.connectivity.specs.Cut.{LowestCut, lowestCut}
-use Rattle.connectivity.specs.Admission.{answer, Admitted, admission}
+use Rattle.connectivity.specs.Admission.{Answer, answer, Admitted, admission}
 use Rattle.connectivity.specs.Verdict.{refused, weak, firm, verdictOn, verdict}
 use Rattle.connectivity.proofs.LowestCut.{lowest-cut, lowest-found, three-edge-connected}
 use Rattle.connectivity.proofs.Admission.{admission-is, admission-number}
@@ -64,3 +65,15 @@ pub verdict-refused : (most : Limits) (p : Plan) (space : ℕ) → (Admitted mos
     → verdict most p space ≡ refused (admission most p)
 unfolding verdict
 verdict-refused most p space h = rw (ne-eqb ((admission most p) .number) 0 (λ z. h (admission-number most p .0 z)))
+
+refused-not-weak : {x : Answer} {cut : List ℕ} → refused x ≡ weak cut → ⊥
+refused-not-weak {x} {cut} p = let z : _≡_ {A = ℕ} 0 1 = cc in omega arith
+
+-- weak is said of an admitted plan alone, where there is enough space
+pub weak-served : (most : Limits) (p : Plan) (space : ℕ) {cut : List ℕ} → verdict most p space ≡ weak cut → Admitted most p × (3 * length (edges (graph p)) ≤ space)
+weak-served most p space q = elim (ℕ-discrete ((admission most p) .number) 0) [
+  | yes z ↦
+      let a = admission-number most p .0 z in
+      (a, elim (decLt space (3 * length (edges (graph p)))) [ yes l ↦ absurd (refused-not-weak (sym (verdict-short a space l) ∙ q)) | no n ↦ omega (arith, n) ])
+  | no n ↦ absurd (refused-not-weak (sym (verdict-refused most p space (λ a. n (admission-number most p .1 a))) ∙ q))
+]

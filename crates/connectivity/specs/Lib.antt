@@ -9,5 +9,6 @@ pub mod Link
 pub mod Mader
 pub mod Admission
 pub mod Verdict
+pub mod Fallen
 pub mod Judge
 pub mod Table

@@ -1,3 +1,3 @@
-pub mod Loops
-pub mod Splits
 pub mod Parted
+pub mod Packing
+pub mod Falling

@@ -1,14 +1,14 @@
--- What a search from the lowest vertex over the edges that are left says of a cut, and what is then answered.
-use mathlib.Core.Path.{_≡_, refl, sym, ap, _∙_}
-use mathlib.Core.Bool.{Bool, true, false, not}
+-- What a search from the lowest vertex over the edges that are left says of a cut.
+use mathlib.Core.Path.{_≡_, sym, ap, _∙_}
+use mathlib.Core.Bool.{true, not}
 use mathlib.Core.List.{List}
 use Prim.Native.Nat.{ℕ, _*_, _/_, _≤_, _<_}
 use native.Mathlib.Omega.{arith}
-use lib.Dec.{T, eqb, ltb}
+use lib.Dec.{T, eqb}
 use lib.ListN.{length, getD, replicate, length-replicate}
 use Rattle.connectivity.specs.Plan.{Plan, entire, graph, Limits}
 use Rattle.connectivity.specs.Graph.{isVertex, isEdge}
-use Rattle.connectivity.specs.Admission.{Answer, passed, keptVertices, Admitted, admission}
+use Rattle.connectivity.specs.Admission.{Admitted, admission}
 use Rattle.connectivity.proofs.Lists.{T-dec, T-true, T-false, decides-le, decides-and}
 use Rattle.connectivity.proofs.Search.{is-vertex, is-edge}
 use Rattle.connectivity.proofs.CutOff.{Lowest}
@@ -18,9 +18,8 @@ use Rattle.graph.specs.Admission.{toldBy, lent}
 use Rattle.graph.specs.Marks.{read}
 use Rattle.graph.specs.Excluded.{firstGap, Masked, MarkedAll}
 use Rattle.graph.specs.declared.Answer as code
-use Rattle.graph.proofs.Lent.{RefusedBy}
 use Rattle.graph.proofs.Tally.{zeros}
-use Rattle.graph.proofs.Handed.{lent-own, refused-not, refused-answer}
+use Rattle.graph.proofs.Handed.{lent-own}
 use Rattle.graph.proofs.Telling.{told-refused}
 use Rattle.graph.proofs.Barring.{lowest-is, masked-out, masked-in}
 use Rattle.incidence.specs.Tables.{Filled, Tabled}
@@ -33,10 +32,8 @@ use Rattle.depth.specs.Depth.{Crossing, Found, Cutting}
 use Rattle.depth.proofs.Counts.{Enough}
 use Rattle.depth.proofs.Outcomes.{not-refused, found-from}
 use Rattle.depth.proofs.Masking.{found-kept}
-use Rattle.depth.proofs.Left.{fresh-at, fewer, mark-is, mark-none}
-use Rattle.removal.specs.declared.Split.the-variants as split
-use Rattle.removal.specs.Cut.{handed, enough, isReached, Answered, Ready, Left, Searched, Copied}
-use Rattle.removal.proofs.Splits.{said, said-served, said-refused}
+use Rattle.depth.proofs.Left.{fresh-at, mark-is, mark-none}
+use Rattle.removal.specs.Fallen.{isReached, Ready, Searched}
 
 -- tables of zeros that are as long as the limits ask
 pub ready : (most : Limits) → Ready most (replicate (2 * most .edges) 0) (replicate (most .vertices) 0) (replicate (most .edges) 0)
@@ -124,31 +121,4 @@ module _ {most : Limits} {p : Plan} (d : Admitted most p) {incident₀ begins₀
     searched (Seen count) x =
         let fresh = fresh-at (p .vertices) root first₀ (vertex-size p (low .vertex)) clear in
         let f = found-kept p (c .masking) (found-from most whole incident begins dead root 0 first₀ order₀ cursor₀ first order cursor fresh x) in
-        record { admitted = d; fewer = fewer t f c clear (low .vertex); marks = marks f }
-
--- What `disconnects` then answers.
-
-module _ (most : Limits) (p : Plan) (cut : List ℕ) (reached₀ : List Bool) where
-  abbrev b : Answer
-  b = lent most p (enough p reached₀)
-
-  pub answers-refused : {a : code.Answer} → RefusedBy b a → Answered most p cut reached₀ reached₀ (split.Refused a)
-  answers-refused r = record {
-    answer = said-refused b p cut r;
-    marks = λ q. absurd (refused-not r (sym (refused-answer r) ∙ q));
-    behind = λ k h. refl;
-    unchanged = λ h. refl;
-  }
-
-  pub answers-said : {first : List ℕ} {count : ℕ} {reached : List Bool} {t : Bool} → b ≡ passed → Left most p cut first count → Copied (p .vertices) first reached₀ reached
-      → ltb count (keptVertices p) ≡ t → Answered most p cut reached₀ reached (said t)
-  answers-said {t = t} q l c e = record {
-    answer = said-served b p cut (ap (λ (x : Answer). x .number) q) (sym e ∙ l .fewer);
-    marks = λ z v h. c .marks v h ∙ l .marks v h;
-    behind = c .rest;
-    unchanged = λ h. absurd (not-refused t h);
-  }
-    where
-      not-refused : (t : Bool) → ((handed (said t)) .reply ≡ passed → ⊥) → ⊥
-      not-refused true h = h refl
-      not-refused false h = h refl
+        record { admitted = d; marks = marks f }

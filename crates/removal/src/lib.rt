@@ -1,33 +1,47 @@
-// Whether some edges disconnect a graph, by a search over its tables.
+// Which vertices fall when some edges of a graph are removed, by a search over its tables.
 use depth::Explored;
 use graph::Answer;
 use graph::Graph;
 ghost use mathlib.Core.Path.{_≡_};
-ghost use mathlib.Core.Bool.{true};
-ghost use mathlib.Core.List.{List};
-ghost use Prim.Native.Nat.{ℕ, _≤_};
-ghost use lib.ListN.{length};
+ghost use mathlib.Core.Bool.{true, cond};
+ghost use Prim.Native.Nat.{ℕ, _*_, _^_, _≤_, _<_};
+ghost use lib.ListN.{length, getD};
 ghost use Rattle.connectivity.specs.Plan.{plan, entire, limits};
+ghost use Rattle.connectivity.specs.Fallen.{perWord, marked, wordFrom, wordsFrom, wordsFor};
 ghost use Rattle.graph.specs.Admission.{toldBy, lent};
-ghost use Rattle.removal.specs.Cut.{handed, splitBy, Answered, Ready, Left, Searched, Copied};
+ghost use Rattle.removal.specs.Fallen.{none, removedBy, isUnseen, Packed, Ready, Searched};
 
-// What is said of a set of edges (01: a set of tabs): refused; the rest is connected (one body); or it is not (the set parts the sheet).
-pub enum Split {
-    Refused(Answer),
-    Connected,
-    Disconnected,
+// 02: the vertices that fall, sixty-four marks to a word, the lowest vertex in the lowest bit; and how many are marked.
+pub struct Fallen {
+    pub words: [u64; Fallen::WORDS],
+    pub count: u16,
 }
 
-// Removes the edges of `cut`; a number that is no edge's removes nothing. `reached` then tells of each number below `vertices` whether it
-// is a vertex that the lowest one reaches; an excluded one (02: a slug) is none.
-pub fn disconnects(
-    vertices: u16,
-    ends: &[u16],
-    excluded: &[u16],
-    cut: &[u16],
-    reached: &mut [bool],
-) -> Split
-    ensures { λ r. ⌜ Answered limits (plan vertices (now (ends .entry)) (now (excluded .entry))) (now (cut .entry)) (now (reached .entry)) (now (reached .exit)) r ⌝ }
+// What is said of a set of edges (01: a set of tabs): 0 and the vertices that fall with it, or a refusal and none.
+pub struct Removed {
+    pub answer: Answer,
+    pub fallen: Fallen,
+}
+
+impl Fallen {
+    // Sixty-four vertices to a word.
+    pub const WORDS: usize = (Graph::MAX_VERTICES + 63) / 64;
+
+    // No vertex falls.
+    pub fn none() -> Fallen
+        ensures { λ r. ⌜ r ≡ none limits ⌝ }
+    {
+        Fallen {
+            words: [0u64; Fallen::WORDS],
+            count: 0,
+        }
+    }
+}
+
+// Removes the edges of `cut`; a number that is no edge's removes nothing. Those vertices fall that the lowest one then does not reach; an
+// excluded one (02: a slug) is none.
+pub fn remove(vertices: u16, ends: &[u16], excluded: &[u16], cut: &[u16]) -> Removed
+    ensures { λ r. ⌜ r ≡ removedBy limits (plan vertices (now (ends .entry)) (now (excluded .entry))) (now (cut .entry)) ⌝ }
 {
     let mut incident = [0u16; 2 * Graph::MAX_EDGES];
     let mut begins = [0u16; Graph::MAX_VERTICES];
@@ -48,17 +62,18 @@ pub fn disconnects(
         &mut cursor,
     );
     match found {
-        Explored::Refused(answer) => Split::Refused(answer),
-        Explored::Seen(count) => tell(vertices, excluded, count, &first, reached),
+        Explored::Refused(answer) => Removed {
+            answer: answer,
+            fallen: Fallen::none(),
+        },
+        Explored::Seen(_) => Removed {
+            answer: Answer {
+                number: 0,
+                place: 0,
+            },
+            fallen: pack(vertices, excluded, &first),
+        },
     }
-}
-
-// The same, just whether: no space is lent, so no plan is refused by 6.
-pub fn split_by(vertices: u16, ends: &[u16], excluded: &[u16], cut: &[u16]) -> Split
-    ensures { λ r. ⌜ handed r ≡ splitBy limits (plan vertices (now (ends .entry)) (now (excluded .entry))) (now (cut .entry)) ⌝ }
-{
-    let mut reached = [false; Graph::MAX_VERTICES];
-    disconnects(vertices, ends, excluded, cut, &mut reached)
 }
 
 // Searches from the lowest vertex over the edges that are left. The lent tables have room for every plan, and no mark is set.
@@ -112,34 +127,75 @@ fn own(vertices: u16, ends: &[u16], excluded: &[u16], filled: Answer) -> Answer
     graph::refusal(vertices, ends, excluded, false)
 }
 
-// What a search that has seen `count` vertices says of a cut: refused by 6 where `reached` is too short.
-fn tell(vertices: u16, excluded: &[u16], count: u16, first: &[u16], reached: &mut [bool]) -> Split
-    requires { ⌜ (length (now excluded) ≤ vertices) × (vertices ≤ length (now first)) ⌝ }
-    ensures { λ r. ⌜ ((ends cut : List ℕ) → Left limits (plan vertices ends (now (excluded .entry))) cut (now (first .entry)) count → Answered limits (plan vertices ends (now (excluded .entry))) cut (now (reached .entry)) (now (reached .exit)) r) ⌝ }
+// Marks each vertex that was not seen, but for the excluded ones.
+fn pack(vertices: u16, excluded: &[u16], first: &[u16]) -> Fallen
+    requires { ⌜ (vertices ≤ limits .vertices) × (vertices ≤ length (now first)) ⌝ }
+    ensures { λ r. ⌜ Packed limits vertices (now (excluded .entry)) (now (first .entry)) r ⌝ }
 {
-    if reached.len() < vertices as usize {
-        return Split::Refused(Answer {
-            number: 6,
-            place: 0,
-        });
+    let mut barred = [0u8; Graph::MAX_VERTICES];
+    graph::excluded::mark(excluded, &mut barred);
+    let mut words = [0u64; Fallen::WORDS];
+    fill(vertices as usize, first, &barred, &mut words);
+    let count = total(&words);
+    Fallen {
+        words: words,
+        count: count,
     }
-    copy(vertices, first, reached);
-    let kept = vertices as usize - excluded.len();
-    if (count as usize) < kept {
-        return Split::Disconnected;
-    }
-    Split::Connected
 }
 
-// Says of each vertex whether it was seen.
-fn copy(vertices: u16, first: &[u16], reached: &mut [bool])
-    requires { ⌜ (vertices ≤ length (now first)) × (vertices ≤ length (now reached)) ⌝ }
-    ensures { λ _. ⌜ Copied vertices (now (first .entry)) (now (reached .entry)) (now (reached .exit)) ⌝ }
+// Fills the words, one after the other.
+fn fill(n: usize, first: &[u16], barred: &[u8], words: &mut [u64])
+    requires { ⌜ (n ≤ length (now first)) × (n ≤ length (now barred)) × (length (now words) ≤ wordsFor limits) ⌝ }
+    ensures { λ _. ⌜ now (words .exit) ≡ wordsFrom (isUnseen n (now (first .entry)) (now (barred .entry))) 0 (length (now (words .entry))) ⌝ }
 {
-    let n = vertices as usize;
-    let mut v = 0;
-    while v < n {
-        reached[v] = first[v] != 0;
-        v += 1;
+    let mut i = 0;
+    while i < words.len() {
+        words[i] = word(n, first, barred, 64 * i);
+        i += 1;
     }
+}
+
+// The marks of sixty-four vertices from `from` on, the highest first.
+fn word(n: usize, first: &[u16], barred: &[u8], from: usize) -> u64
+    requires { ⌜ (n ≤ length (now first)) × (n ≤ length (now barred)) × (from ≤ perWord * wordsFor limits) ⌝ }
+    ensures { λ r. ⌜ r ≡ wordFrom (isUnseen n (now (first .entry)) (now (barred .entry))) from perWord ⌝ }
+{
+    let mut word: u64 = 0;
+    let mut v = from + 64;
+    while from < v {
+        v -= 1;
+        word = 2 * word + mark(n, first, barred, v);
+    }
+    word
+}
+
+// 1 where v is below n and has no mark in either table, else 0.
+fn mark(n: usize, first: &[u16], barred: &[u8], v: usize) -> u64
+    requires { ⌜ (n ≤ length (now first)) × (n ≤ length (now barred)) ⌝ }
+    ensures { λ r. ⌜ r ≡ cond (isUnseen n (now (first .entry)) (now (barred .entry)) v) 1 0 ⌝ }
+{
+    if n <= v {
+        return 0;
+    }
+    if first[v] != 0 {
+        return 0;
+    }
+    if barred[v] != 0 {
+        return 0;
+    }
+    1 // v falls
+}
+
+// How many marks are set: the sum of each word's ones.
+fn total(words: &[u64]) -> u16
+    requires { ⌜ (length (now words) ≤ wordsFor limits) × ((i : ℕ) → getD (now words) i 0 < 2 ^ perWord) ⌝ }
+    ensures { λ r. ⌜ r ≡ marked (now (words .entry)) ⌝ }
+{
+    let mut count: u16 = 0;
+    let mut i = 0;
+    while i < words.len() {
+        count += u64::count_ones(words[i]) as u16;
+        i += 1;
+    }
+    count
 }

@@ -1,8 +1,7 @@
 -- What a plan keeps, as the check finds it: the marks of the edges before the first row, and at the end the vertices. Every one is a branch exactly
 -- if there are as many branches as vertices, since what is built ends at vertices alone.
-use mathlib.Core.Path.{_≡_, sym, _∙_}
+use mathlib.Core.Path.{_≡_, _∙_}
 use mathlib.Core.Logic.{_↔_}
-use mathlib.Core.Bool.{Bool}
 use mathlib.Core.List.{List}
 use Prim.Native.Nat.{ℕ, _<_}
 use native.Mathlib.Omega.{arith}
@@ -13,7 +12,7 @@ use Rattle.connectivity.specs.Graph.{Vertex, isVertex, isEdge, vertices, edges}
 use Rattle.connectivity.specs.Walk.{Leg, allEdges, degree, Branch}
 use Rattle.connectivity.specs.Mader.{Steps}
 use Rattle.connectivity.specs.Admission.{Admitted, keptVertices}
-use Rattle.connectivity.proofs.Lists.{T-dec, T-true, T-false}
+use Rattle.connectivity.proofs.Lists.{same-tests}
 use Rattle.connectivity.proofs.Search.{is-vertex}
 use Rattle.connectivity.proofs.Degree.{built-vertex}
 use Rattle.connectivity.proofs.Build.{steps-edges}
@@ -23,9 +22,6 @@ use Rattle.graph.specs.Excluded.{Masked, isOpen}
 use Rattle.graph.proofs.Rank.{rank-same, rank-full}
 use Rattle.graph.proofs.Barring.{kept-rank, open-is}
 use Rattle.verify_firm.specs.Marks.{isForked}
-
-same-tests : (a b : Bool) → (T a → T b) → (T b → T a) → a ≡ b
-same-tests a b f h = elim (T-dec a) [ yes t ↦ T-true a t ∙ sym (T-true b (f t)) | no n ↦ T-false a n ∙ sym (T-false b (λ t. n (h t))) ]
 
 module _ (p : Plan) where
   -- the marks are the degrees

@@ -2,7 +2,6 @@
 use graph::Admission;
 use graph::Answer;
 use graph::Graph;
-use removal::Split;
 ghost use mathlib.Core.Path.{_≡_};
 ghost use Prim.Native.Nat.{_/_, _≤_};
 ghost use lib.ListN.{length};
@@ -24,7 +23,7 @@ pub fn check_weak(vertices: u16, ends: &[u16], excluded: &[u16], list: &[u16]) -
     }
 }
 
-// The same of an admitted plan: 9 for more than two edges, 11 in turn, 17 if they do not disconnect.
+// The same of an admitted plan: 9 for more than two edges, 11 in turn, 17 if no vertex falls with them.
 fn weak_admitted(vertices: u16, ends: &[u16], excluded: &[u16], list: &[u16]) -> Answer
     requires { ⌜ Admitted limits (plan vertices (now ends) (now excluded)) ⌝ }
     ensures { λ r. ⌜ r ≡ toldBy (judgeWeak (graph (plan vertices (now (ends .entry)) (now (excluded .entry)))) (now (list .entry))) ⌝ }
@@ -37,12 +36,12 @@ fn weak_admitted(vertices: u16, ends: &[u16], excluded: &[u16], list: &[u16]) ->
     if number != 0 {
         return turn;
     }
-    let split = removal::split_by(vertices, ends, excluded, list);
-    match split {
-        Split::Refused(refusal) => refusal,
-        Split::Disconnected => answer(0, 0),
-        Split::Connected => answer(17, 0),
+    let removed = removal::remove(vertices, ends, excluded, list);
+    let fallen = removed.fallen;
+    if fallen.count == 0 {
+        return answer(17, 0);
     }
+    answer(0, 0)
 }
 
 fn answer(number: u16, place: u16) -> Answer

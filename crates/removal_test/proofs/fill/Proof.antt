@@ -18,6 +18,9 @@ loop-holds c = search needs
 cast-end : tie.Need-cast-end Inv-loop μ-loop
 cast-end c = search needs
 
+cast-end-2 : tie.Need-cast-end-2 Inv-loop μ-loop
+cast-end-2 c = search needs
+
 end-requires : tie.Need-end-requires Inv-loop μ-loop
 end-requires c κs = search needs
 
@@ -50,6 +53,7 @@ fill-spec =
     μ-loop
     loop-holds
     cast-end
+    cast-end-2
     end-requires
     mul-ends
     slice-write-ends
