@@ -384,7 +384,7 @@ pub(crate) fn placed(plan: Plan, sheet: &mut [u16; 48]) {
         put(sheet, i ^ 1, name(plan, digit(plan.heads, e)));
         e += 1;
     }
-    listed(fallen(plan), sheet);
+    listed(barred(plan), sheet);
     spoiled(plan, sheet);
 }
 
@@ -400,7 +400,7 @@ pub(crate) fn excluded(plan: Plan) -> usize
 }
 
 // The new numbers of the excluded vertices, as a set.
-fn fallen(plan: Plan) -> u32 {
+fn barred(plan: Plan) -> u32 {
     let mut set: u32 = 0;
     let mut v = plan.kept;
     while v < plan.named {
@@ -429,6 +429,23 @@ fn put(list: &mut [u16; 48], i: usize, x: u16) {
 
 pub(crate) fn get(list: &[u16; 48], i: usize) -> u16 {
     if i < 48 { list[i] } else { 0 }
+}
+
+// The numbers below an offset; then, all with it added, the excluded vertices and the ends.
+pub(crate) fn moved(sheet: &[u16; 48], offset: u16, list: &mut [u16]) {
+    let mut i: usize = 0;
+    while i < list.len() {
+        list[i] = further(sheet, offset, (i % 65536) as u16);
+        i += 1;
+    }
+}
+
+fn further(sheet: &[u16; 48], offset: u16, i: u16) -> u16 {
+    if i < offset {
+        return i;
+    }
+    let from = ((i - offset) as usize) + EXCLUDED;
+    std::num::wrapping_add_u16(get(sheet, from % 48), offset)
 }
 
 // The rows of the walks.

@@ -1,6 +1,6 @@
-// A second, simple implementation of the verdict and of the check, read from documents 01 and 02 alone: it tries every set of edges, and counts
-// everything anew at each step. It is meant for plans of at most 16 vertices and 16 edges: a set of them is a number with a bit for each. `kept`
-// is the set of vertices that are not excluded.
+// A second, simple implementation of the verdict, of what falls and of the check, read from documents 01 and 02 alone: it tries every set of
+// edges, and counts everything anew at each step. It is meant for plans of at most 16 vertices and 16 edges: a set of them is a number with a bit
+// for each. `kept` is the set of vertices that are not excluded.
 
 // No edge, no vertex.
 pub const NONE: u16 = 65535;
@@ -42,7 +42,7 @@ fn all(n: u16) -> u32 {
     }
 }
 
-fn count(set: u32) -> u16 {
+pub(crate) fn count(set: u32) -> u16 {
     (u32::count_ones(set) % 64) as u16
 }
 
@@ -176,10 +176,43 @@ fn crossed(both: u32, barred: u32, set: u32) -> u32 {
     }
 }
 
+// What the lowest vertex reaches in the graph without some edges.
+fn stays(kept: u32, ends: &[u16], gone: u32) -> u32 {
+    let first = kept & std::num::wrapping_sub_u32(0, kept);
+    reached(ends, !gone, !kept, first)
+}
+
 // Whether the graph without some edges is not connected: its lowest vertex does not reach all.
 fn parts(kept: u32, ends: &[u16], gone: u32) -> bool {
-    let first = kept & std::num::wrapping_sub_u32(0, kept);
-    reached(ends, !gone, !kept, first) != kept
+    stays(kept, ends, gone) != kept
+}
+
+// The vertices that fall with the edges of a weak verdict; with any other none.
+pub(crate) fn fallen(vertices: u16, ends: &[u16], excluded: &[u16], verdict: [u16; 6]) -> u32 {
+    let kept = kept(vertices, excluded);
+    if verdict[0] == WEAK {
+        kept & !stays(kept, ends, named(verdict[3], verdict[4], verdict[5]))
+    } else {
+        0
+    }
+}
+
+// The first so many of two edges, as a set.
+fn named(count: u16, a: u16, b: u16) -> u32 {
+    match count {
+        0 => 0,
+        1 => one(a),
+        _ => one(a) | one(b),
+    }
+}
+
+// Whether v is in a set that is moved by an offset.
+pub(crate) fn has(set: u32, offset: u16, v: u16) -> bool {
+    if v < offset {
+        false
+    } else {
+        set & one(v - offset) != 0
+    }
 }
 
 // The lowest edge, from e on, that parts the graph together with those that are gone, which alone don't, or NONE.

@@ -8,7 +8,8 @@ use Rattle.connectivity.specs.Cut.{near, spread, unreached, unreachedFro
 use Rattle.connectivity.specs.Walk.{hits, isBuilt, isBranch, far, start, stop}
 use Rattle.connectivity.specs.Link.{isBare, sameLink}
 use Rattle.connectivity.specs.Admission.{answer, passed, andThen, edgeNumber, endsAnswer, excludedAnswer, keptAnswer, admission}
-use Rattle.connectivity.specs.Verdict.{verdictOn, verdict}
+use Rattle.connectivity.specs.Verdict.{weak, verdictOn, verdict}
+use Rattle.connectivity.specs.Fallen.{wordFrom, wordsFrom, marksOf, fallWith}
 use Rattle.connectivity.specs.Judge.{rowsOf, stepFits, edgeFits, comesTo, fromFits, rowNumber, leadsBetween, allBetween, pathsFit, earFits, linksFit, stepNumber, closingNumber, isLast, judgeRows, ascending, judgeFirm, judgeWeak, judgeGraph, judge}
 use Rattle.connectivity.specs.Component.{joined, together, componentOf, components}
 use Rattle.connectivity.specs.Table.{table, checkedBy, computed, parallel}
@@ -29,3 +30,15 @@ at-limits = (refl, refl, refl, refl)
 pub slug-groups : components (graph (plan 4 (1 ∷ 3 ∷ 0 ∷ 1 ∷ 3 ∷ 1 ∷ 0 ∷ 3 ∷ 1 ∷ 3 ∷ 2 ∷ 1 ∷ []) (0 ∷ 2 ∷ []))) ≡ 0 ∷ 1 ∷ 2 ∷ 1 ∷ []
 unfolding range any all keep mem empty graph isVertex isEdge vertices edges near spread unreached joined together componentOf components
 slug-groups = refl
+
+-- 02: the marks of pieces on both sides of a word's border
+pub mark-borders : marksOf limits (0 ∷ 63 ∷ 64 ∷ 127 ∷ 128 ∷ 999 ∷ [])
+    ≡ 0x8000_0000_0000_0001 ∷ 0x8000_0000_0000_0001 ∷ 1 ∷ 0 ∷ 0 ∷ 0 ∷ 0 ∷ 0 ∷ 0 ∷ 0 ∷ 0 ∷ 0 ∷ 0 ∷ 0 ∷ 0 ∷ 0x80_0000_0000 ∷ []
+unfolding marksOf wordsFrom wordFrom mem
+mark-borders = refl
+
+-- 02: pieces 2 and 3 of P7 fall with its tabs 1 and 3; where piece 3 is a slug, piece 2 alone, with tab 1
+pub p7-falls : (fallWith (graph (plan 4 (0 ∷ 1 ∷ 0 ∷ 2 ∷ 2 ∷ 3 ∷ 3 ∷ 1 ∷ 0 ∷ 1 ∷ 2 ∷ 3 ∷ []) [])) (weak (1 ∷ 3 ∷ [])) ≡ 2 ∷ 3 ∷ [])
+    × (fallWith (graph (plan 4 (0 ∷ 1 ∷ 0 ∷ 2 ∷ 2 ∷ 3 ∷ 3 ∷ 1 ∷ 0 ∷ 1 ∷ 2 ∷ 3 ∷ []) (3 ∷ []))) (weak (1 ∷ [])) ≡ 2 ∷ [])
+unfolding range any keep mem empty graph isVertex isEdge vertices edges near spread unreached unreachedFrom cutOff fallWith
+p7-falls = (refl, refl)

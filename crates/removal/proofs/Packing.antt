@@ -1,8 +1,8 @@
 -- Marks packed into words: one vertex, one word, all of them, and how many are set.
-use mathlib.Core.Path.{_≡_, sym, ap, _∙_}
+use mathlib.Core.Path.{_≡_, refl, sym, ap, _∙_}
 use mathlib.Core.Bool.{Bool, true, false, cond, not, _&&_}
 use mathlib.Core.List.{List, _∷_}
-use Prim.Native.Nat.{ℕ, suc, _+_, _-_, _*_, _^_, _≤_, _<_}
+use Prim.Native.Nat.{ℕ, zero, suc, _+_, _-_, _*_, _^_, _≤_, _<_}
 use native.Mathlib.Omega.{arith}
 use borrow.Author.Tests.{lt-ltb, le-ltb, eq-eqb, ne-eqb}
 use lib.Count.{ones, ones-le}
@@ -37,9 +37,11 @@ module _ (n : ℕ) (first barred : List ℕ) (v : ℕ) where
 -- One word, from its highest vertex down.
 
 module _ (f : ℕ → Bool) where
-  pub word-none : (end : ℕ) → wordFrom f end (end - end) ≡ 0
+  -- where no test holds any more, nothing is set
+  pub word-none : (v k : ℕ) → ((u : ℕ) → v ≤ u → u < v + k → f u ≡ false) → wordFrom f v k ≡ 0
   unfolding wordFrom
-  word-none end = let p : end - end ≡ 0 = omega arith in rw p
+  word-none v zero h = refl
+  word-none v (suc k) h = rw (h v (omega arith) (omega arith), word-none (suc v) k (λ u l b. h u (omega arith) (omega arith)))
 
   pub word-next : (v end : ℕ) → 0 < v → v ≤ end → 2 * wordFrom f v (end - v) + cond (f (v - 1)) 1 0 ≡ wordFrom f (v - 1) (end - (v - 1))
   unfolding wordFrom

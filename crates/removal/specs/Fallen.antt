@@ -2,14 +2,14 @@
 use mathlib.Core.Path.{_≡_}
 use mathlib.Core.Bool.{Bool, cond, not, _&&_}
 use mathlib.Core.List.{List}
-use Prim.Native.Nat.{ℕ, _*_, _≤_, _<_}
+use Prim.Native.Nat.{ℕ, _+_, _*_, _≤_, _<_}
 use lib.Dec.{eqb, ltb}
 use lib.ListN.{length, getD, replicate}
 use Rattle.connectivity.specs.Lists.{mem}
 use Rattle.connectivity.specs.Plan.{Plan, graph, Limits}
 use Rattle.connectivity.specs.Graph.{isVertex}
 use Rattle.connectivity.specs.Cut.{cutOff}
-use Rattle.connectivity.specs.Fallen.{marked, wordsFrom, wordsFor, marksOf}
+use Rattle.connectivity.specs.Fallen.{perWord, marked, wordsFrom, wordsFor, marksOf}
 use Rattle.connectivity.specs.Admission.{Answer, Admitted, admission}
 use Rattle.removal.specs.declared.Fallen.{Fallen}
 use Rattle.removal.specs.declared.Removed.{Removed}
@@ -61,6 +61,13 @@ pub record Left (most : Limits) (p : Plan) (cut first : List ℕ) : Type 0 where
 abbrev pub Searched : Limits → Plan → List ℕ → List ℕ → Explored → Type 0
 Searched most p cut first (found.Refused a) = (Admitted most p → ⊥) × (a ≡ toldBy (admission most p))
 Searched most p cut first (found.Seen count) = Left most p cut first
+
+-- `top`: behind the last number of a word that is below n
+pub record Topmost (n from r : ℕ) : Type 0 where
+  pub low : from ≤ r
+  pub high : r ≤ from + perWord
+  pub inside : from < r → r ≤ n
+  pub rest : r < from + perWord → n ≤ r
 
 -- `mark`: v is below n and has no mark in either table
 unfoldable pub isUnseen : ℕ → List ℕ → List ℕ → ℕ → Bool

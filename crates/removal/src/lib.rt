@@ -9,7 +9,7 @@ ghost use lib.ListN.{length, getD};
 ghost use Rattle.connectivity.specs.Plan.{plan, entire, limits};
 ghost use Rattle.connectivity.specs.Fallen.{perWord, marked, wordFrom, wordsFrom, wordsFor};
 ghost use Rattle.graph.specs.Admission.{toldBy, lent};
-ghost use Rattle.removal.specs.Fallen.{none, removedBy, isUnseen, Packed, Ready, Searched};
+ghost use Rattle.removal.specs.Fallen.{none, removedBy, isUnseen, Topmost, Packed, Ready, Searched};
 
 // 02: the vertices that fall, sixty-four marks to a word, the lowest vertex in the lowest bit; and how many are marked.
 pub struct Fallen {
@@ -161,7 +161,7 @@ fn word(n: usize, first: &[u16], barred: &[u8], from: usize) -> u64
     ensures { λ r. ⌜ r ≡ wordFrom (isUnseen n (now (first .entry)) (now (barred .entry))) from perWord ⌝ }
 {
     let mut word: u64 = 0;
-    let mut v = from + 64;
+    let mut v = top(n, from);
     while from < v {
         v -= 1;
         word = 2 * word + mark(n, first, barred, v);
@@ -169,14 +169,25 @@ fn word(n: usize, first: &[u16], barred: &[u8], from: usize) -> u64
     word
 }
 
-// 1 where v is below n and has no mark in either table, else 0.
+// Behind the last of these that is a vertex, so that a small plan takes little.
+fn top(n: usize, from: usize) -> usize
+    requires { ⌜ from ≤ perWord * wordsFor limits ⌝ }
+    ensures { λ r. ⌜ Topmost n from r ⌝ }
+{
+    if n <= from {
+        return from;
+    }
+    if n - from < 64 {
+        return n;
+    }
+    from + 64
+}
+
+// 1 where v has no mark in either table, else 0.
 fn mark(n: usize, first: &[u16], barred: &[u8], v: usize) -> u64
-    requires { ⌜ (n ≤ length (now first)) × (n ≤ length (now barred)) ⌝ }
+    requires { ⌜ (n ≤ length (now first)) × (n ≤ length (now barred)) × (v < n) ⌝ }
     ensures { λ r. ⌜ r ≡ cond (isUnseen n (now (first .entry)) (now (barred .entry)) v) 1 0 ⌝ }
 {
-    if n <= v {
-        return 0;
-    }
     if first[v] != 0 {
         return 0;
     }

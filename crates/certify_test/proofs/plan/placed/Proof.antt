@@ -52,8 +52,8 @@ loop-less c = search needs
 loop-again : tie.Need-loop-again Inv-loop μ-loop
 loop-again c = search needs
 
-fallen-requires : tie.Need-fallen-requires Inv-loop μ-loop
-fallen-requires c κs = search needs
+barred-requires : tie.Need-barred-requires Inv-loop μ-loop
+barred-requires c κs = search needs
 
 listed-requires : tie.Need-listed-requires Inv-loop μ-loop
 listed-requires c κs = search needs
@@ -84,7 +84,7 @@ placed-spec =
     add-e
     loop-less
     loop-again
-    fallen-requires
+    barred-requires
     listed-requires
     spoiled-requires
     returns)

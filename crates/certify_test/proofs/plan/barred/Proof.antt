@@ -1,8 +1,8 @@
--- `fallen` is safe and ends.
+-- `barred` is safe and ends.
 use Prim.Native.Nat.{_-_, _≤_}
 use borrow.Author.Needs.{needs}
-use Rattle.certify_test.proofs.plan.fallen.Statement.{statement}
-use Rattle.certify_test.proofs.plan.fallen.Tie as tie
+use Rattle.certify_test.proofs.plan.barred.Statement.{statement}
+use Rattle.certify_test.proofs.plan.barred.Tie as tie
 
 abbrev Inv-loop : tie.InvT-loop
 Inv-loop plan set₀ v₀ set v = v ≤ 65535
@@ -34,8 +34,8 @@ loop-again c = search needs
 returns : tie.Need-returns Inv-loop μ-loop
 returns c = search needs
 
-pub fallen-spec : {M : Type 1} → statement M
-fallen-spec =
+pub barred-spec : {M : Type 1} → statement M
+barred-spec =
     tie.close
     (tie.spec
     Inv-loop
