@@ -1,7 +1,7 @@
 -- The writer's answer is the one about the record, as an outcome with the cut and what falls with it beside it.
 use mathlib.Core.Path.{_≡_, refl, sym, ap, _∙_}
 use mathlib.Core.List.{List}
-use Prim.Native.Nat.{ℕ, _≤_}
+use Prim.Native.Nat.{ℕ}
 use lib.ListN.{length}
 use Rattle.connectivity.specs.Plan.{Plan, graph, Limits}
 use Rattle.connectivity.specs.Verdict.{Verdict, verdict, verdictHanded}

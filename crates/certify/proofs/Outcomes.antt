@@ -20,7 +20,6 @@ use Rattle.graph.specs.Admission.{answerOf}
 use Rattle.graph.specs.declared.Answer.{Answer}
 use Rattle.graph.proofs.Lent.{not-served}
 use Rattle.cuts.specs.declared.lowest.Lowest.{Lowest}
-use Rattle.removal.specs.declared.Fallen.{Fallen}
 use Rattle.removal.specs.Fallen.{fallenOf, fallenBy, none as unmarked}
 use Rattle.certify.specs.declared.Finding.{Finding}
 use Rattle.certify.specs.declared.Outcome.{Outcome}

@@ -14,7 +14,7 @@ ghost use Rattle.text.specs.Column.{five, largest};
 ghost use Rattle.verify_texts.specs.Table.{Holds, planOf};
 ghost use Rattle.verify_texts.specs.Texts.{planIn};
 ghost use Rattle.fallen_texts.specs.Falls.{numbersOf, falls, WritesFallen};
-ghost use Rattle.fallen_texts.specs.Listing.{isMarked, Begins, markedBelow, oneMore};
+ghost use Rattle.fallen_texts.specs.Listing.{Begins, markedBelow, oneMore};
 
 pub mod export; // export.rt: the same for C
 

@@ -1,6 +1,6 @@
 -- The marks that are packed are those of the vertices that fall with the cut; so the whole answer.
-use mathlib.Core.Path.{_≡_, refl, sym, ap, ap₂, subst, _∙_}
-use mathlib.Core.Bool.{Bool, not, cond, _&&_}
+use mathlib.Core.Path.{_≡_, sym, ap, ap₂, subst, _∙_}
+use mathlib.Core.Bool.{Bool, not, _&&_}
 use mathlib.Core.List.{List, List·Memᴰ as In}
 use Prim.Native.Nat.{ℕ, _≤_, _<_}
 use native.Mathlib.Omega.{arith}
@@ -13,7 +13,7 @@ use Rattle.connectivity.specs.Graph.{isVertex}
 use Rattle.connectivity.specs.Cut.{cutOff, disconnects}
 use Rattle.connectivity.specs.Fallen.{fallen, marksOf, wordsFor}
 use Rattle.connectivity.specs.Admission.{Admitted, passed, admission}
-use Rattle.connectivity.proofs.Lists.{same-tests, T-dec, T-false, and-both, both-and, mem-in, in-mem, not-mem, eq-T}
+use Rattle.connectivity.proofs.Lists.{same-tests, T-dec, T-false, and-both, both-and, mem-in, not-mem, eq-T}
 use Rattle.connectivity.proofs.Search.{is-vertex}
 use Rattle.connectivity.proofs.Admission.{admission-is, admission-number}
 use Rattle.connectivity.proofs.Kept.{vertex-is, bound-is}
@@ -24,7 +24,7 @@ use Rattle.graph.specs.declared.Answer as code
 use Rattle.graph.proofs.Tally.{zeros}
 use Rattle.removal.specs.declared.Fallen.{Fallen}
 use Rattle.removal.specs.declared.Removed.{Removed}
-use Rattle.removal.specs.Fallen.{fallenBy, none, removedAfter, removedBy, isReached, Left, isUnseen, Packed}
+use Rattle.removal.specs.Fallen.{fallenBy, none, removedAfter, removedBy, Left, isUnseen, Packed}
 
 -- the marks of a list stand for it
 pub barred-is : (most : Limits) (n : ℕ) (excluded first barred : List ℕ) → n ≤ most .vertices → MarkedAll excluded (replicate (most .vertices) 0) barred

@@ -1,13 +1,12 @@
 -- Marks packed into words: one vertex, one word, all of them, and how many are set.
 use mathlib.Core.Path.{_≡_, refl, sym, ap, _∙_}
-use mathlib.Core.Bool.{Bool, true, false, cond, not, _&&_}
+use mathlib.Core.Bool.{Bool, true, false, cond}
 use mathlib.Core.List.{List, _∷_}
 use Prim.Native.Nat.{ℕ, zero, suc, _+_, _-_, _*_, _^_, _≤_, _<_}
 use native.Mathlib.Omega.{arith}
 use borrow.Author.Tests.{lt-ltb, le-ltb, eq-eqb, ne-eqb}
 use lib.Count.{ones, ones-le}
-use lib.Dec.{ltb, eqb}
-use lib.ListN.{length, getD, set, drop, length-set}
+use lib.ListN.{length, getD, set, drop}
 use lib.Pow.{pow-mono}
 use lib.Seq.{drop-cons, drop-length, ext-getD, getD-set-same, getD-set-other}
 use borrow.Author.Count.{below-more}

@@ -2,7 +2,6 @@
 use mathlib.Core.Path.{ap}
 use borrow.Author.Needs.{needs}
 use Rattle.removal.specs.declared.Fallen.{Fallen}
-use Rattle.certify.specs.declared.Finding.{Finding}
 use Rattle.certify.specs.Answered.{unnamed}
 use Rattle.certify.proofs.said.Statement.{statement}
 use Rattle.certify.proofs.said.Tie as tie

@@ -4,7 +4,6 @@ use native.Mathlib.Omega.{arith}
 use borrow.Author.Needs.{needs}
 use lib.ListN.{length-take}
 use Rattle.removal.specs.declared.Removed.{Removed}
-use Rattle.certify.specs.declared.Finding.{Finding}
 use Rattle.certify.specs.declared.Outcome.the-variants.{Weak}
 use Rattle.certify.proofs.weak.Statement.{statement}
 use Rattle.certify.proofs.weak.Tie as tie

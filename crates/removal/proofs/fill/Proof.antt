@@ -1,9 +1,7 @@
 -- `fill` meets its contract. The loop's invariant: the first i words are there.
-use mathlib.Core.Path.{_≡_, refl, ap, subst, _∙_}
-use mathlib.Core.List.{List}
+use mathlib.Core.Path.{_≡_, refl, _∙_}
 use Prim.Native.Nat.{ℕ, _+_, _-_, _*_, _≤_, _<_}
 use native.Mathlib.Omega.{arith}
-use borrow.Author.Needs.{needs}
 use lib.ListN.{length, getD, length-set}
 use Rattle.connectivity.specs.Plan.{limits}
 use Rattle.connectivity.specs.Fallen.{perWord, wordFrom, wordsFor}
