@@ -154,6 +154,11 @@ module _ {most : Limits} {p : Plan} {before after : List ℕ} {found : Finding} 
   pub ours-fall : found .outcome ≡ Weak → found .fallen ≡ fallenBy most p (named (found .cut))
   ours-fall q = found-falls c q
 
+  -- so a mark is set exactly for each kept piece that the lowest one, u, does not reach without the named tabs
+  pub ours-marks : found .outcome ≡ Weak → {u : ℕ} → Lowest (graph p) u → (v : ℕ)
+      → Marked (found .fallen .words) v ↔ (Vertex (graph p) v × (Reach (graph p) (Without (named (found .cut))) u v → ⊥))
+  ours-marks q low v = rw (ours-fall q) (marks-are (weak-served most p (length before) (weak-outcome c q .1) .0) low (named (found .cut)) v)
+
   pub ours-some : found .outcome ≡ Weak → (found .fallen .count ≡ marked (found .fallen .words)) × (1 ≤ found .fallen .count)
   ours-some q =
       let v = weak-outcome c q .1 in
