@@ -23,7 +23,7 @@ shr-if1 c = search needs
 returns : tie.Need-returns
 returns c =
     let a = c .before .before .args in
-    (λ front b. more-none front (a .list .now) (a .words .now) (a .at) (a .v) (c .if1 .taken) b, omega arith)
+    (λ front b. more-none front (a .list .now) (a .words .now) (a .at) (a .v) (omega (arith, c .if1 .taken)) b, omega arith)
 
 mul-list : tie.Need-mul-list
 mul-list c = search needs
@@ -41,7 +41,7 @@ returns-2 : tie.Need-returns-2
 returns-2 c =
     let start = c .before .before in
     let a = start .args in
-    (λ front b. more-one front (a .list .now) (a .words .now) (a .at) (a .v) (c .if1 .left) (start .pre .1) b, omega arith)
+    (λ front b. more-one front (a .list .now) (a .words .now) (a .at) (a .v) (λ z. omega (arith, z, c .if1 .left)) (start .pre .1) b, omega arith)
 
 pub put-spec : {M : Type 1} → statement M
 put-spec =
