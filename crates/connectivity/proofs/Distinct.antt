@@ -42,6 +42,7 @@ right_distinct (x ∷ l) (one n d) = right_distinct l d
 
 -- what stands in one part does not stand in the other
 pub apart_distinct : (l : List ℕ) {r : List ℕ} {x : ℕ} → Distinct (l ++ r) → In x l → In x r → ⊥
+apart_distinct [] _ i j = elim i [ ]
 apart_distinct (y ∷ l) (one n d) (first p) j = n (in_right l (Memᴰ.cast (sym p) j))
 apart_distinct (y ∷ l) (one n d) (later i) j = apart_distinct l d i j
 

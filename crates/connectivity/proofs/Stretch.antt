@@ -53,18 +53,22 @@ grown {g} {built} new w = record {
 
 -- one of several walks
 pub inner_of : (walks : List (List Leg)) {legs : List Leg} → In legs walks → (v : ℕ) → In v (inner legs) → In v (all_inner walks)
+inner_of [] m v i = elim m [ ]
 inner_of (k ∷ walks) (first p) v i = in_left (all_inner walks) (subst (λ (l : List Leg). In v (inner l)) p i)
 inner_of (k ∷ walks) (later m) v i = in_right (inner k) (inner_of walks m v i)
 
 inner_simple : (walks : List (List Leg)) {legs : List Leg} → In legs walks → Distinct (all_inner walks) → Distinct (inner legs)
+inner_simple [] m d = elim m [ ]
 inner_simple (k ∷ walks) (first p) d = subst (λ (l : List Leg). Distinct (inner l)) (sym p) (left_distinct (inner k) (all_inner walks) d)
 inner_simple (k ∷ walks) (later m) d = inner_simple walks m (right_distinct (inner k) d)
 
 pub edges_of_lem : (walks : List (List Leg)) {legs : List Leg} → In legs walks → (e : ℕ) → In e (edges_of legs) → In e (all_edges walks)
+edges_of_lem [] m e i = elim m [ ]
 edges_of_lem (k ∷ walks) (first p) e i = in_left (all_edges walks) (subst (λ (l : List Leg). In e (edges_of l)) p i)
 edges_of_lem (k ∷ walks) (later m) e i = in_right (edges_of k) (edges_of_lem walks m e i)
 
 edges_once : (walks : List (List Leg)) {legs : List Leg} → In legs walks → Distinct (all_edges walks) → Distinct (edges_of legs)
+edges_once [] m d = elim m [ ]
 edges_once (k ∷ walks) (first p) d = subst (λ (l : List Leg). Distinct (edges_of l)) (sym p) (left_distinct (edges_of k) (all_edges walks) d)
 edges_once (k ∷ walks) (later m) d = edges_once walks m (right_distinct (edges_of k) d)
 
@@ -146,11 +150,14 @@ place_same : {k e d v w : ℕ} {legs : List Leg} → Place legs k e v → Place 
 place_same now now = refl
 place_same (next p) (next q) = place_same p q
 
+place_only : {k m e d v w : ℕ} {legs : List Leg} → Distinct (froms legs) → Place legs k e v → Place legs m d w → v ≡ w → k ≡ m
+place_only s now now is = refl
+place_only s now (next q) is = absurd (head_distinct s (rw is (place_vertex q)))
+place_only s (next p) now is = absurd (head_distinct s (rw (sym is) (place_vertex p)))
+place_only s (next p) (next q) is = ap suc (place_only (tail_distinct s) p q is)
+
 place_once : {k m e d v : ℕ} {legs : List Leg} → Distinct (froms legs) → Place legs k e v → Place legs m d v → k ≡ m
-place_once s now now = refl
-place_once s now (next q) = absurd (head_distinct s (place_vertex q))
-place_once s (next p) now = absurd (head_distinct s (place_vertex p))
-place_once s (next p) (next q) = ap suc (place_once (tail_distinct s) p q)
+place_once s p q = place_only s p q refl
 
 module _ {g : Graph} where
   -- a leg leads to the vertex of the next one, or to the walk's last
@@ -162,6 +169,7 @@ module _ {g : Graph} where
       opens : {l : Leg} {u w : ℕ} {legs : List Leg} → Walk g u legs w → (d : ℕ) × Place (l ∷ legs) 1 d u
       opens (last d i) = (d, next now)
       opens (then d i q) = (d, next now)
+  leads (last e j) (next p) = elim p [ ]
   leads (then e j k) (next p) = let q = leads k p in (q.0, q.1, elim q.2 [ inl r ↦ inl r | inr r ↦ inr (r.0, next r.1) ])
 
   -- the leg before a place leads to it
@@ -189,9 +197,9 @@ Clear g built legs i j = (k e v : ℕ) → Within i j k → Place legs k e v →
 
 module _ {g : Graph} {built : List ℕ} {legs : List Leg} (w : WalkIn g built legs) where
   -- over a clear stretch bare edges lead from place to place
-  forward : {i c d x y : ℕ} (j : ℕ) → Place legs i c x → Place legs j d y → i ≤ j → Clear g built legs i j → Reach g (Bare g built) x y
-  forward {i} {d = d} {y = y} zero p q l h = rw (place_same p (subst (λ k. Place legs k d y) (omega (arith, l)) q)) here
-  forward {i} {d = d} {y = y} (suc j) p q l h = elim (ℕ_discrete i (suc j)) [
+  forward : {i c x : ℕ} (j : ℕ) {d y : ℕ} → Place legs i c x → Place legs j d y → i ≤ j → Clear g built legs i j → Reach g (Bare g built) x y
+  forward {i} zero {d} {y} p q l h = rw (place_same p (subst (λ k. Place legs k d y) (omega (arith, l)) q)) here
+  forward {i} (suc j) {d} {y} p q l h = elim (ℕ_discrete i (suc j)) [
     | yes e ↦ rw (place_same p (subst (λ k. Place legs k d y) (sym e) q)) here
     | no n ↦
         let (c, v, r, k) = before w.walk q in

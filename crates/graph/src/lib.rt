@@ -1,4 +1,6 @@
 // The graph that a plan lists: its limits, and the constructor that admits it or refuses it by 1 to 5, 18 and 19.
+#![tactic(auto)]
+
 ghost use Rattle.std.specs.Prelude.{◌≡◌, not, cond, ◌/◌, ◌≤◌, length};
 ghost use Rattle.connectivity.specs.Plan.{plan, limits};
 ghost use Rattle.connectivity.specs.Admission.{answer, edge_number, ends_answer, passed};

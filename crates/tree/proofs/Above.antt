@@ -330,4 +330,4 @@ module _ {g : Graph} {t : Pointers} {S : ℕ → Type 0} (tree : Tree g t) where
   -- an edge, then a climb
   pub climb_walk : {f s v w : ℕ} {legs : List Leg} → Joins g f s v → Climb g t S v legs w → Walk g s (leg f s ∷ legs) w
   climb_walk j (there h) = last _ j
-  climb_walk j (on {v = v} c n k) = then _ j (climb_walk (tree.joins v c) k)
+  climb_walk {f = f} {s = s} j (on {v = v} c n k) = then _ j (climb_walk {f = t.first v} {s = v} (tree.joins v c) k)

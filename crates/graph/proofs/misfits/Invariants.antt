@@ -1,0 +1,18 @@
+-- `misfits` meets its contract. The loop's invariant: where the sum is 0, the answer is the one from edge e on.
+use mathlib.Core.Path.{◌≡◌, refl, sym, ◌∙◌}
+use Prim.Native.Nat.{◌*◌, ◌/◌, ◌-◌, ◌≤◌}
+use native.Mathlib.Omega.{arith}
+use lib.ListN.{length, drop, length-drop}
+use borrow.Author.Rules.{rules}
+use Rattle.connectivity.specs.Plan.{limits}
+use Rattle.connectivity.specs.Admission.{ends_answer}
+use Rattle.graph.proofs.Laws.{number_most, ends_next, ends_over}
+use Rattle.graph.proofs.misfits.Given as goal
+
+abbrev pub invariant-loop-e : goal.invariant-loop-e
+invariant-loop-e l =
+    (l.e ≤ l.edges) × (l.edges ≡ length l.ends / 2) × (l.edges ≤ limits.edges) × (l.sum ≤ 5 * l.e)
+    × (l.sum ≡ 0 → ends_answer l.vertices 0 l.ends ≡ ends_answer l.vertices l.e (drop (2 * l.e) l.ends))
+
+abbrev pub decreases-loop-e : goal.decreases-loop-e
+decreases-loop-e l = l.edges - l.e
