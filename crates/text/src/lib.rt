@@ -1,4 +1,6 @@
 // The form of plan text and verdict text (01, "Columns"): what reading and writing share.
+#![tactic(auto)]
+
 ghost use Rattle.std.specs.Prelude.{◌≡◌, ◌+◌, ◌/◌, ◌%◌, ◌<◌};
 ghost use Rattle.connectivity.specs.Plan.{limits};
 ghost use Rattle.text.specs.Column.{five, byte_at, column};
