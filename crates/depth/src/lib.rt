@@ -1,4 +1,6 @@
 // A depth-first search over the tables of edges by vertex: it costs what it visits, and asks nothing of the tables.
+#![tactic(auto)]
+
 ghost use Rattle.std.specs.Prelude.{◌≡◌, not, ℕ, ◌+◌, ◌/◌, ◌<◌, ◌≤◌, length, set};
 ghost use Rattle.connectivity.specs.Plan.{entire, limits};
 ghost use Rattle.graph.specs.Tells.{Tells};
