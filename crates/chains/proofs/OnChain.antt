@@ -68,4 +68,4 @@ module _ {key next : ℕ → ℕ} {m : ℕ} (follows : (e : ℕ) → e < m → L
   -- and no others, ascending
   pub along_only : {e x d : ℕ} → Lowest key i e m x → Along next x d → (e ≤ d) × (d < m) × (key d ≡ i)
   along_only l here = name l
-  along_only l (on {e = x} a) = let n = name l in let r = along_only (after l) a in (omega (arith, n.0, r.0), r.1, r.2)
+  along_only {e = e} l (on {e = x} a) = let n = name l in let r = along_only {e = x + 1} (after l) a in (omega (arith, n.0, r.0), r.1, r.2)

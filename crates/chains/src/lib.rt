@@ -1,5 +1,7 @@
 // Chains of edges: all edges whose labels have the same key stand on one chain, ascending, so that edges with like labels are found
 // without a look at the others.
+#![tactic(auto)]
+
 ghost use Rattle.std.specs.Prelude.{◌≡◌, not, ◌<◌, ◌≤◌, length, replicate};
 ghost use Rattle.graph.specs.Tells.{Tells};
 ghost use Rattle.chains.specs.Chains.{key_of, Chained};

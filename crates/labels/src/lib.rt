@@ -1,5 +1,7 @@
 // Labels of edges that cancel around every vertex: the label of an edge whose loss alone parts what was joined is 0, and those of two that
 // do so only together are equal.
+#![tactic(auto)]
+
 ghost use Rattle.std.specs.Prelude.{not, ◌/◌, ◌≤◌, length};
 ghost use Rattle.connectivity.specs.Plan.{plan, limits};
 ghost use Rattle.connectivity.specs.Admission.{Admitted};

@@ -1,0 +1,13 @@
+-- `clear` meets its contract. The loop's invariant: the first k numbers are 0, and the others have stayed.
+use mathlib.Core.Path.{◌≡◌, subst}
+use Prim.Native.Nat.{ℕ, ◌-◌, ◌≤◌}
+use native.Mathlib.Omega.{arith}
+use Rattle.incidence.specs.Parts.{Cleared}
+use Rattle.incidence.proofs.Loops.{cleared_start, cleared_step}
+use Rattle.labels.proofs.clear.Given as goal
+
+abbrev pub invariant-loop-k : goal.invariant-loop-k
+invariant-loop-k l = (l.k ≤ l.count) × Cleared l.k l.initial.table l.table
+
+abbrev pub decreases-loop-k : goal.decreases-loop-k
+decreases-loop-k l = l.count - l.k

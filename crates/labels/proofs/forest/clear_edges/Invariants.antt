@@ -1,0 +1,13 @@
+-- `clear_edges` meets its contract. The loop's invariant: the first e marks are 0, and the others have stayed.
+use mathlib.Core.Path.{◌≡◌, subst}
+use Prim.Native.Nat.{ℕ, ◌-◌, ◌≤◌}
+use native.Mathlib.Omega.{arith}
+use Rattle.incidence.specs.Parts.{Cleared}
+use Rattle.incidence.proofs.Loops.{cleared_start, cleared_step}
+use Rattle.labels.proofs.forest.clear_edges.Given as goal
+
+abbrev pub invariant-loop-e : goal.invariant-loop-e
+invariant-loop-e l = (l.e ≤ l.edges) × Cleared l.e l.initial.dead l.dead
+
+abbrev pub decreases-loop-e : goal.decreases-loop-e
+decreases-loop-e l = l.edges - l.e

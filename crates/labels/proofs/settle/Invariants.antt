@@ -1,0 +1,14 @@
+-- `settle` meets its contract. The loop's invariant: the places from k on are settled.
+use mathlib.Core.Path.{◌≡◌, sym, subst}
+use Prim.Native.Nat.{ℕ, ◌+◌, ◌-◌}
+use native.Mathlib.Omega.{arith}
+use Rattle.connectivity.specs.Plan.{plan}
+use Rattle.labels.specs.Labels.{Settling}
+use Rattle.labels.proofs.Settling.{settling_start, settling_step}
+use Rattle.labels.proofs.settle.Given as goal
+
+abbrev pub invariant-loop-k : goal.invariant-loop-k
+invariant-loop-k l = Settling (plan l.vertices l.ends l.excluded) l.first l.order l.initial.labels l.initial.sums l.labels l.sums l.k
+
+abbrev pub decreases-loop-k : goal.decreases-loop-k
+decreases-loop-k l = l.k
