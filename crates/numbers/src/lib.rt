@@ -1,4 +1,6 @@
 // The vertices by their numbers in the order of a search, and what lies below each.
+#![tactic(auto)]
+
 ghost use Rattle.std.specs.Prelude.{◌≡◌, not, ◌/◌, ◌≤◌, length};
 ghost use Rattle.connectivity.specs.Plan.{entire, limits};
 ghost use Rattle.graph.specs.Tells.{Tells};

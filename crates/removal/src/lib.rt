@@ -1,4 +1,6 @@
 // Which vertices fall when some edges of a graph are removed, by a search over its tables.
+#![tactic(auto)]
+
 ghost use Rattle.std.specs.Prelude.{◌≡◌, true, cond, ℕ, ◌*◌, ◌^◌, ◌≤◌, ◌<◌, length, get_or};
 ghost use Rattle.connectivity.specs.Plan.{plan, entire, limits};
 ghost use Rattle.connectivity.specs.Fallen.{per_word, marked, word_from, words_from, words_for};
