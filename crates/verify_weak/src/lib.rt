@@ -1,4 +1,6 @@
 // The check of a weak verdict: at most two edges, ascending, that disconnect.
+#![tactic(auto)]
+
 ghost use Rattle.std.specs.Prelude.{◌≡◌, ◌/◌, ◌≤◌, length};
 ghost use Rattle.connectivity.specs.Plan.{plan, graph, limits};
 ghost use Rattle.connectivity.specs.Admission.{Admitted};
