@@ -120,7 +120,7 @@ module _ (p : Plan) (lent : List ℕ) where
               front = ap (take (3 * kept_edges p)) c.written ∙ take_at c.list (drop (length c.list) lent) (3 * kept_edges p) c.long
 
       -- an admitted plan is not refused
-      pub answers_cut : (l : Lightest) → handed l ≡ lowest_handed limits p → (tag_of lightest.the_type l ≡ 0) ⊎ (tag_of lightest.the_type l ≡ 2) → Answered limits p lent lent l
+      pub answers_cut : (l : Lightest) → handed l ≡ lowest_handed limits p → (l ≡ light.NoCut → ⊥) → Answered limits p lent lent l
       answers_cut (light.Refused x) s k = absurd (refused_cut (lowest_cut (graph p)) (found (light.Refused x) s))
       answers_cut (light.Cut c) s k = on_weak (light.Cut c) s c refl
-      answers_cut light.NoCut s k = absurd (elim k [ inl q ↦ omega (arith, q) | inr q ↦ omega (arith, q) ])
+      answers_cut light.NoCut s k = absurd (k refl)

@@ -1,4 +1,6 @@
 // The record of a plan that has no cut of at most two edges: three walks and then Mader-paths.
+#![tactic(auto)]
+
 ghost use Rattle.connectivity.specs.Plan.{plan, limits};
 ghost use Rattle.record.specs.Answered.{Answered};
 ghost use Rattle.record.specs.Standing.{Counted};

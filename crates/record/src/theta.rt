@@ -12,7 +12,7 @@ use crate::{link, walk};
 
 // Where two edges from the root `r` lead: over `f` to `w` and over `d` to `u`. `x` is the first vertex on the way up from `u` that is also on the
 // way up from `w`, and `e` leads from it to its parent `p`.
-#[derive(Drop)]
+#[derive(Clone, Copy)]
 struct Fork {
     x: u16,
     e: u16,
