@@ -5,6 +5,3 @@ use Rattle.verify_firm.proofs.state.opens.Goals as goal
 
 pub returns-then-not-fresh : goal.returns-then-not-fresh
 returns-then-not-fresh c p = true≢false (sym p.0 ∙ c.if-not-fresh.true)
-
-pub returns : goal.returns
-returns c = (c.if-not-fresh.false, c.if-mark-ne0.false, c.if-at-start.false)
