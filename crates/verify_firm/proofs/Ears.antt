@@ -12,7 +12,7 @@ use Rattle.connectivity.specs.Lists.{Distinct}
 use Rattle.connectivity.specs.Plan.{Limits}
 use Rattle.connectivity.specs.Graph.{Graph}
 use Rattle.connectivity.specs.Reach.{Reach}
-use Rattle.connectivity.specs.Walk.{Leg, Walk, inner, edges_of, all_edges, degree, Built, Branch, start}
+use Rattle.connectivity.specs.Walk.{Leg, Walk, inner, edges_of, all_edges, degree, Built, Branch}
 use Rattle.connectivity.specs.Mader.{Steps}
 use Rattle.connectivity.specs.Judge.{ear_fits, links_fit}
 use Rattle.connectivity.proofs.Lists.{Decides, decides_to}

@@ -8,7 +8,7 @@ use native.Mathlib.Omega.{arith}
 use lib.Dec.{T, leb→le, le→leb}
 use lib.ListN.{length, get_or}
 use Rattle.connectivity.specs.Plan.{Plan, graph, Limits}
-use Rattle.connectivity.specs.Graph.{Vertex, is_vertex, is_edge, vertices, edges}
+use Rattle.connectivity.specs.Graph.{Vertex, is_vertex, is_edge}
 use Rattle.connectivity.specs.Walk.{Leg, all_edges, degree, Branch}
 use Rattle.connectivity.specs.Mader.{Steps}
 use Rattle.connectivity.specs.Admission.{Admitted, kept_vertices}

@@ -59,6 +59,7 @@ module _ {list : List ℕ} {s : ℕ} where
 
   -- the leg at place k stands k rows after the first
   pub place_row : {n m k e v : ℕ} {legs : List Leg} → Lies list s n legs m → Place legs k e v → RowOf list s n m k e v
+  place_row {k = k} {e = e} {v = v} (no_row {n = n}) x5 = elim x5 [ ]
   place_row {n} (one p l) now = record { row = n; at = omega arith; below = omega (arith, lies_le l); step = p; edge = refl; from = refl }
   place_row (one p l) (next q) = let r = place_row l q in record { row = r.row; at = omega (arith, r.at); below = r.below; step = r.step; edge = r.edge; from = r.from }
 

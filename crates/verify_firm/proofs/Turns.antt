@@ -134,7 +134,7 @@ module _ (g : Graph) (done : List (List Leg)) (walk : List Leg) where
   taken_whole : (r : Row) (m : ℕ) → row_number g done walk r ≡ 0 → m ≡ step_number g done (walk ++ (leg_of r ∷ [])) → m ≡ taken_number g done walk true r
   taken_whole r m p q = rw (p, q)
 
-went_first : {left after : List ℕ} {run next : Run} {row v to built : ℕ} → WentOn left run row v to built after next → run.first ≤ row → next.first ≤ row
+went_first : {left : List ℕ} {run : Run} {row v to built : ℕ} {after : List ℕ} {next : Run} → WentOn left run row v to built after next → run.first ≤ row → next.first ≤ row
 went_first (begun p) h = omega arith
 went_first (on n fresh t) h = h
 

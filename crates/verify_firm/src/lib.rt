@@ -1,4 +1,6 @@
 // The check of a firm verdict: rows that build the plan step by step.
+#![tactic(auto)]
+
 ghost use Rattle.std.specs.Prelude.{◌≡◌};
 ghost use Rattle.connectivity.specs.Plan.{plan, graph, limits};
 ghost use Rattle.connectivity.specs.Judge.{judge};

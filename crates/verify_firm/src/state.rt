@@ -8,7 +8,7 @@ use graph::{Answer, Graph};
 
 // The step that runs: its first row, where it began, where it has come to. It is fresh while it has left no vertex twice and its inner
 // ones were in no step before.
-#[derive(Drop)]
+#[derive(Clone, Copy)]
 pub(crate) struct Run {
     pub first: u16,
     pub start: u16,

@@ -7,15 +7,13 @@ use mathlib.Core.List.{List, []}
 use Prim.Native.Nat.{ℕ}
 use native.Mathlib.Omega.{arith}
 use lib.ListN.{get_or, replicate, length-replicate}
-use borrow.Author.Rules.{rules}
 use Rattle.connectivity.specs.Lists.{Distinct, mem}
 use Rattle.connectivity.specs.Plan.{limits}
 use Rattle.connectivity.specs.Graph.{Graph, is_edge}
 use Rattle.graph.proofs.Tally.{zeros}
 use Rattle.verify_firm.specs.declared.state.Run.{Run}
 use Rattle.verify_firm.specs.Marks.{Lies, nothing, Holds}
-use Rattle.verify_firm.proofs.state.State.new.Statement.{statement}
-use Rattle.verify_firm.proofs.state.State.new.Tie as tie
+use Rattle.verify_firm.proofs.state.State.new.Goals as goal
 
 zero_mark : (v : ℕ) → get_or (replicate {A = ℕ} limits.vertices 0) v 0 ≡ 0
 zero_mark v = zeros limits.vertices v
@@ -48,12 +46,6 @@ unfolding mem
 none_used true e = refl
 none_used false e = refl
 
-begins-requires : tie.Need-begins-requires
-begins-requires c κs = search rules
-
-returns : tie.Need-returns
+pub returns : goal.returns
 returns c g list used long kept =
     record { used_length = long; marked = λ e h. kept e h ∙ none_used (is_edge g e) e; holds = empty g list c.begins.result c.begins.ensures }
-
-pub new_spec : {M : Type 1} → statement M
-new_spec = tie.close (tie.spec begins-requires returns)
