@@ -80,16 +80,16 @@ pub(crate) fn run(rt: &impl Print, line: &[u8]) -> io::Result<()> {
     read(line, 2, &mut table);
     let numbers: &[u16] = &table;
     match byte_at(line, end + 2) {
-        b'f' => lent::fill(rt, line, numbers),
-        b's' => lent::search(rt, line, numbers),
-        b'u' => lent::undo(rt, line, numbers),
-        b'b' => lent::balance(rt, line, numbers),
-        b'l' => lent::label(rt, line, numbers),
-        b'c' => lent::chain(rt, line, numbers),
-        b'k' => lent::cut(rt, line, numbers),
-        b'n' => lent::below(rt, line, numbers),
-        b'g' => lent::large(rt, line, numbers),
-        _ => Ok(()),
-    }?;
+        b'f' => lent::fill(rt, line, numbers)?,
+        b's' => lent::search(rt, line, numbers)?,
+        b'u' => lent::undo(rt, line, numbers)?,
+        b'b' => lent::balance(rt, line, numbers)?,
+        b'l' => lent::label(rt, line, numbers)?,
+        b'c' => lent::chain(rt, line, numbers)?,
+        b'k' => lent::cut(rt, line, numbers)?,
+        b'n' => lent::below(rt, line, numbers)?,
+        b'g' => lent::large(rt, line, numbers)?,
+        _ => {}
+    }
     show::byte(rt, b'\n')
 }
