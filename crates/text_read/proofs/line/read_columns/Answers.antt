@@ -11,7 +11,7 @@ use Rattle.text_read.proofs.line.read_columns.Goals as goal
 pub returns-then-line-columns-ne10 : goal.returns-then-line-columns-ne10
 returns-then-line-columns-ne10 c =
     let bytes : List ℕ = c.args.line.now in
-    out five largest bytes (unfed five largest c.args.columns bytes (omega arith) (λ z. omega (arith, c.if-line-columns-ne10.true))) c.not_in_form.ensures
+    out five largest bytes (unfed five largest c.args.columns bytes (omega arith) (λ z. omega arith)) c.not_in_form.ensures
 
 pub returns-then-first-gt-LARGEST : goal.returns-then-first-gt-LARGEST
 returns-then-first-gt-LARGEST c =
@@ -22,7 +22,7 @@ returns-then-first-gt-LARGEST c =
 pub returns-then-columns-lt2 : goal.returns-then-columns-lt2
 returns-then-columns-lt2 c =
     let bytes : List ℕ = c.args.line.now in
-    let feed : (k : ℕ) → c.args.columns ≡ k → get_or bytes (k * length five) 0 ≡ 10 = λ k p. ap (λ (n : ℕ). get_or bytes (n * length five) 0) (sym p) ∙ omega (arith, c.if-line-columns-ne10.false) in
+    let feed : (k : ℕ) → c.args.columns ≡ k → get_or bytes (k * length five) 0 ≡ 10 = λ k p. ap (λ (n : ℕ). get_or bytes (n * length five) 0) (sym p) ∙ omega arith in
     let p : c.args.columns ≡ 1 = omega arith in
     rw p (line_one five largest bytes c.read_column-first.result c.read_column-first.ensures (omega arith) (omega arith) (feed 1 p) c.in_form.ensures)
 
@@ -35,7 +35,7 @@ returns-then-second-gt-LARGEST c =
 pub returns-then-columns-lt3 : goal.returns-then-columns-lt3
 returns-then-columns-lt3 c =
     let bytes : List ℕ = c.args.line.now in
-    let feed : (k : ℕ) → c.args.columns ≡ k → get_or bytes (k * length five) 0 ≡ 10 = λ k p. ap (λ (n : ℕ). get_or bytes (n * length five) 0) (sym p) ∙ omega (arith, c.if-line-columns-ne10.false) in
+    let feed : (k : ℕ) → c.args.columns ≡ k → get_or bytes (k * length five) 0 ≡ 10 = λ k p. ap (λ (n : ℕ). get_or bytes (n * length five) 0) (sym p) ∙ omega arith in
     let p : c.args.columns ≡ 2 = omega arith in
     rw p (line_two five largest bytes c.read_column-first.result c.read_column-first.ensures (omega arith) c.read_column-second.result c.read_column-second.ensures (omega arith) (omega arith) (feed 2 p) c.in_form-then-columns-lt3.ensures)
 
@@ -48,6 +48,6 @@ returns-then-third-gt-LARGEST c =
 pub returns : goal.returns
 returns c =
     let bytes : List ℕ = c.args.line.now in
-    let feed : (k : ℕ) → c.args.columns ≡ k → get_or bytes (k * length five) 0 ≡ 10 = λ k p. ap (λ (n : ℕ). get_or bytes (n * length five) 0) (sym p) ∙ omega (arith, c.if-line-columns-ne10.false) in
+    let feed : (k : ℕ) → c.args.columns ≡ k → get_or bytes (k * length five) 0 ≡ 10 = λ k p. ap (λ (n : ℕ). get_or bytes (n * length five) 0) (sym p) ∙ omega arith in
     let p : c.args.columns ≡ 3 = omega arith in
     rw p (line_three five largest bytes c.read_column-first.result c.read_column-first.ensures (omega arith) c.read_column-second.result c.read_column-second.ensures (omega arith) c.read_column-third.result c.read_column-third.ensures (omega arith) (omega arith) (feed 3 p) c.in_form-2.ensures)
