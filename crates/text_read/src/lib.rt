@@ -1,4 +1,6 @@
 // Plan text and verdict text (01, "Columns") read. A refusal leaves what is lent unchanged.
+#![tactic(auto)]
+
 pub mod column; // column.rt: a number in its column
 mod line;
 mod plan;

@@ -12,7 +12,7 @@ use graph::{Admission, Answer, Graph};
 use text::{HEADER, LONGEST, SHORTEST};
 
 // The header of a plan text: whether it is in the form, its counts, and the place behind it.
-#[derive(Drop)]
+#[derive(Clone, Copy)]
 pub(crate) struct Header {
     pub fits: bool,
     pub vertices: u16,

@@ -1,4 +1,6 @@
 // Plan text and verdict text (01, "Columns") written, lines of a list, and an answer's line. A refusal leaves what is lent unchanged.
+#![tactic(auto)]
+
 mod line;
 
 ghost use Rattle.std.specs.Prelude.{◌≡◌, cond, eqb};
