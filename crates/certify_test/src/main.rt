@@ -1,12 +1,15 @@
 // Runs the writer and the check on random plans beside a second, simple implementation of both, and the writer also on each plan behind more
 // excluded vertices; prints what was answered, which words have marks of vertices that fall, fingerprints of all answers, and each difference.
+#![tactic(auto)]
+
 ghost use Rattle.std.specs.Prelude.{◌≤◌};
 
 use certify::{Finding, Outcome};
-use libc::STDOUT_FILENO;
 use plan::Plan;
 use random::{draw, later};
 use removal::Fallen;
+use std::io;
+use std::io::Write;
 
 mod random; // random.rt: random numbers
 mod plan; // plan.rt: random plans
@@ -68,7 +71,7 @@ const MARKS: u32 = 14;
 const MOVED: u32 = 15;
 
 // Writes one of the parts of a text, which '|' separates. Each '#' in it stands for the next of the numbers.
-fn say(part: u32, numbers: &[u32; 52], first: usize) {
+fn say(rt: &impl Print, part: u32, numbers: &[u32; 52], first: usize) -> io::Result<()> {
     let text: &[u8] =
         b"few pieces, many tabs|rings with doubled sides|bodies joined at one piece|parallel tabs|already parted|grown by ears|any|damaged|: firm #, weak with 0, 1, 2 tabs # # #, refused #; with slugs #; fingerprints of the verdicts #, of the records and answers #\n|answers of the check to records, changed records and random weak lists\n 0: #\n 1: #\n 2: #\n 3: #\n 4: #\n 5: #\n 6: #\n 7: #\n 8: #\n 9: #\n 10: #\n 11: #\n 12: #\n 13: #\n 14: #\n 15: #\n 16: #\n 17: #\n 18: #\n 19: #\nverdicts with pieces that fall, as drawn and behind more slugs: #\nsuch pieces: #\nverdicts with such pieces in each word: # # # # # # # # # # # # # # # #\ndifferences #\n|shape #, plan #: the verdict\n|shape #, plan #: rows that are no record are touched\n|shape #, plan #: the verdict does not pass\n|shape #, plan #: the answer of the check\n|shape #, plan #: the pieces that fall\n|shape #, plan #: the verdict behind more slugs\n";
     let mut seen: u32 = 0;
@@ -79,26 +82,27 @@ fn say(part: u32, numbers: &[u32; 52], first: usize) {
         if b == b'|' {
             seen = more(seen);
         } else if seen == part {
-            n = glyph(b, numbers, n);
+            n = glyph(rt, b, numbers, n)?;
         }
         i += 1;
     }
+    Ok(())
 }
 
 // Writes a byte, or a number; where the next number stands.
-fn glyph(b: u8, numbers: &[u32; 52], n: usize) -> usize {
+fn glyph(rt: &impl Print, b: u8, numbers: &[u32; 52], n: usize) -> io::Result<usize> {
     if b == b'#' {
         if n < 52 {
-            number(numbers[n]);
-            return n + 1;
+            number(rt, numbers[n])?;
+            return Ok(n + 1);
         }
     }
-    io::write_all(STDOUT_FILENO, &[b]);
-    n
+    io::writer(rt).write_all(&[b])?;
+    Ok(n)
 }
 
-fn number(x: u32) {
-    io::print_decimal(STDOUT_FILENO, x as u64);
+fn number(rt: &impl Print, x: u32) -> io::Result<()> {
+    rt.print(x)
 }
 
 fn more(x: u32) -> u32 {
@@ -112,13 +116,14 @@ fn counted(run: &mut [u32; 52], i: usize) {
 }
 
 // A difference, if there is one; the first ten are told.
-fn differs(run: &mut [u32; 52], what: u32) {
+fn differs(rt: &impl Print, run: &mut [u32; 52], what: u32) -> io::Result<()> {
     if what != NOTHING {
         if run[DIFFERENCES] < 10 {
-            say(what, run, SHAPE);
+            say(rt, what, run, SHAPE)?;
         }
         counted(run, DIFFERENCES);
     }
+    Ok(())
 }
 
 // The first n numbers, or all where there are fewer.
@@ -231,19 +236,21 @@ fn column(kind: u16, count: u16) -> usize {
 
 // The answers of both checks to a verdict.
 fn compared(
+    rt: &impl Print,
     run: &mut [u32; 52],
     vertices: u16,
     ends: &[u16],
     excluded: &[u16],
     kind: u16,
     list: &[u16],
-) {
+) -> io::Result<()> {
     let answer = verify::check(vertices, ends, excluded, kind, list);
     answered(run, answer.number, answer.place);
     let due = second::check(vertices, ends, excluded, kind, list);
     if second::told(answer.number, answer.place) != due {
-        differs(run, ANSWER);
+        differs(rt, run, ANSWER)?;
     }
+    Ok(())
 }
 
 // Counts an answer of the check.
@@ -255,27 +262,33 @@ fn answered(run: &mut [u32; 52], number: u16, place: u16) {
 }
 
 // One plan. The seed comes back as it is then, here and in what follows.
-fn one(run: &mut [u32; 52], shape: u8, seed: u32) -> u32 {
+fn one(rt: &impl Print, run: &mut [u32; 52], shape: u8, seed: u32) -> io::Result<u32> {
     let plan = plan::of_shape(seed, shape);
     let mut sheet = [0; 48];
     plan::placed(plan, &mut sheet);
-    tested(run, shape, plan, &sheet)
+    tested(rt, run, shape, plan, &sheet)
 }
 
 // Both verdicts on a plan, what the writer's claims, and changed verdicts for the check.
-fn tested(run: &mut [u32; 52], shape: u8, plan: Plan, sheet: &[u16; 48]) -> u32 {
+fn tested(
+    rt: &impl Print,
+    run: &mut [u32; 52],
+    shape: u8,
+    plan: Plan,
+    sheet: &[u16; 48],
+) -> io::Result<u32> {
     let mut now = plan;
-    now.seed = judged(run, plan, sheet);
+    now.seed = judged(rt, run, plan, sheet)?;
     if shape == plan::GROWN {
-        let s = grown(run, now, sheet);
+        let s = grown(rt, run, now, sheet)?;
         now.seed = s;
     }
-    let s = tried_weak(run, now, sheet);
+    let s = tried_weak(rt, run, now, sheet)?;
     now.seed = s;
-    tried_weak(run, now, sheet)
+    tried_weak(rt, run, now, sheet)
 }
 
-fn judged(run: &mut [u32; 52], plan: Plan, sheet: &[u16; 48]) -> u32 {
+fn judged(rt: &impl Print, run: &mut [u32; 52], plan: Plan, sheet: &[u16; 48]) -> io::Result<u32> {
     let mut rows = [UNTOUCHED; 48];
     let ends = front(sheet, plan.length);
     let finding = written(
@@ -287,24 +300,32 @@ fn judged(run: &mut [u32; 52], plan: Plan, sheet: &[u16; 48]) -> u32 {
     );
     let verdict = told(finding);
     noted(run, verdict, plan.kept < plan.named);
-    differs(run, fault(plan, sheet, verdict, &rows));
-    marked(run, plan, sheet, verdict, finding.fallen);
+    differs(rt, run, fault(plan, sheet, verdict, &rows))?;
+    marked(rt, run, plan, sheet, verdict, finding.fallen)?;
     if verdict[0] == second::FIRM {
-        firm(run, plan, sheet, &rows)
+        firm(rt, run, plan, sheet, &rows)
     } else {
-        plan.seed
+        Ok(plan.seed)
     }
 }
 
 // The vertices that fall, as the plan was drawn and, if it is not refused, behind more excluded ones.
-fn marked(run: &mut [u32; 52], plan: Plan, sheet: &[u16; 48], verdict: [u16; 6], fallen: Fallen) {
+fn marked(
+    rt: &impl Print,
+    run: &mut [u32; 52],
+    plan: Plan,
+    sheet: &[u16; 48],
+    verdict: [u16; 6],
+    fallen: Fallen,
+) -> io::Result<()> {
     let ends = front(sheet, plan.length);
     let due = second::fallen(plan.vertices, ends, excluded(plan, sheet), verdict);
-    weighed(run, fallen, due, 0);
+    weighed(rt, run, fallen, due, 0)?;
     if verdict[0] != second::REFUSED {
         let many = offset(plan.vertices, run[PLAN], draw(plan.seed, 5, 12));
-        moved(run, plan, sheet, verdict, due, many);
+        moved(rt, run, plan, sheet, verdict, due, many)?;
     }
+    Ok(())
 }
 
 // How many excluded vertices are put before a plan: so many that it lies about a border of 64, or that it ends with vertex 999.
@@ -316,13 +337,14 @@ fn offset(vertices: u16, turn: u32, x: u16) -> u16 {
 
 // The same plan behind these: the same verdict, and the marks as many places further.
 fn moved(
+    rt: &impl Print,
     run: &mut [u32; 52],
     plan: Plan,
     sheet: &[u16; 48],
     verdict: [u16; 6],
     due: u32,
     offset: u16,
-) {
+) -> io::Result<()> {
     let mut list = [0; 1048];
     plan::moved(sheet, offset, &mut list);
     let mut rows = [0; 48];
@@ -335,10 +357,10 @@ fn moved(
         &mut rows,
     );
     if !same(told(finding), verdict) {
-        differs(run, MOVED);
+        differs(rt, run, MOVED)?;
     }
     let fallen = finding.fallen;
-    weighed(run, fallen, due, offset);
+    weighed(rt, run, fallen, due, offset)
 }
 
 // Some numbers from a place on, or all where there are fewer.
@@ -354,17 +376,24 @@ fn part(list: &[u16; 1048], from: usize, count: usize) -> &[u16] {
 }
 
 // The marks of an answer and their number, beside the set that is due.
-fn weighed(run: &mut [u32; 52], fallen: Fallen, due: u32, offset: u16) {
+fn weighed(
+    rt: &impl Print,
+    run: &mut [u32; 52],
+    fallen: Fallen,
+    due: u32,
+    offset: u16,
+) -> io::Result<()> {
     let count = fallen.count;
     let words = fallen.words;
     if count != second::count(due) || misplaced(&words, due, offset) {
-        differs(run, MARKS);
+        differs(rt, run, MARKS)?;
     }
     if count != 0 {
         counted(run, FALLING);
     }
     run[FALLEN] = std::num::wrapping_add_u32(run[FALLEN], count as u32);
     spread(run, &words);
+    Ok(())
 }
 
 // Whether some vertex is marked that is not due, or the reverse.
@@ -400,16 +429,22 @@ fn spread(run: &mut [u32; 52], words: &[u64; Fallen::WORDS]) {
 }
 
 // A record of the writer.
-fn firm(run: &mut [u32; 52], plan: Plan, sheet: &[u16; 48], rows: &[u16; 48]) -> u32 {
+fn firm(
+    rt: &impl Print,
+    run: &mut [u32; 52],
+    plan: Plan,
+    sheet: &[u16; 48],
+    rows: &[u16; 48],
+) -> io::Result<u32> {
     run[RECORDS] = hashed_list(run[RECORDS], front(rows, 3 * (plan.kept_edges as usize)));
-    tried(run, plan, sheet, rows)
+    tried(rt, run, plan, sheet, rows)
 }
 
 // The record of the walks of which the plan was made.
-fn grown(run: &mut [u32; 52], plan: Plan, sheet: &[u16; 48]) -> u32 {
+fn grown(rt: &impl Print, run: &mut [u32; 52], plan: Plan, sheet: &[u16; 48]) -> io::Result<u32> {
     let mut rows = [0; 48];
     plan::walked(plan, &mut rows);
-    tried(run, plan, sheet, &rows)
+    tried(rt, run, plan, sheet, &rows)
 }
 
 // Whether the verdict is another, rows that are no record are touched, or the check does not pass it.
@@ -460,70 +495,84 @@ fn accepted(plan: Plan, sheet: &[u16; 48], kind: u16, list: &[u16]) -> bool {
 }
 
 // A record as it is, and some times with one change.
-fn tried(run: &mut [u32; 52], plan: Plan, sheet: &[u16; 48], rows: &[u16; 48]) -> u32 {
+fn tried(
+    rt: &impl Print,
+    run: &mut [u32; 52],
+    plan: Plan,
+    sheet: &[u16; 48],
+    rows: &[u16; 48],
+) -> io::Result<u32> {
     let mut now = plan;
     let mut how = change::NONE;
     let mut i: u16 = 0;
     while i <= CHANGES {
-        let seed = tried_changed(run, now, sheet, rows, how);
+        let seed = tried_changed(rt, run, now, sheet, rows, how)?;
         how = draw(seed, 1, change::NONE);
         now.seed = seed;
         i += 1;
     }
-    now.seed
+    Ok(now.seed)
 }
 
 fn tried_changed(
+    rt: &impl Print,
     run: &mut [u32; 52],
     plan: Plan,
     sheet: &[u16; 48],
     rows: &[u16; 48],
     how: u16,
-) -> u32 {
+) -> io::Result<u32> {
     let mut list = [0; 48];
     let edges = plan.kept_edges;
     change::changed(rows, sheet, edges, how, plan.seed, &mut list);
     let sizes = change::resized(plan.vertices, edges, plan.edges, how, later(plan.seed, 3));
     compared(
+        rt,
         run,
         sizes.vertices,
         front(sheet, plan.length),
         excluded(plan, sheet),
         sizes.kind,
         front(&list, sizes.length),
-    );
-    later(plan.seed, change::draws_of(how))
+    )?;
+    Ok(later(plan.seed, change::draws_of(how)))
 }
 
 // A weak list of up to three random numbers, of which the largest is no edge.
-fn tried_weak(run: &mut [u32; 52], plan: Plan, sheet: &[u16; 48]) -> u32 {
+fn tried_weak(
+    rt: &impl Print,
+    run: &mut [u32; 52],
+    plan: Plan,
+    sheet: &[u16; 48],
+) -> io::Result<u32> {
     let list = change::weak_list(plan.edges, plan.seed);
     let length = draw(plan.seed, 4, 4) as usize;
     compared(
+        rt,
         run,
         plan.vertices,
         front(sheet, plan.length),
         excluded(plan, sheet),
         second::WEAK,
         &list[0..length],
-    );
-    later(plan.seed, 4)
+    )?;
+    Ok(later(plan.seed, 4))
 }
 
 // All plans of one shape, and their line.
-fn shaped(run: &mut [u32; 52], shape: u8, seed: u32) -> u32 {
+fn shaped(rt: &impl Print, run: &mut [u32; 52], shape: u8, seed: u32) -> io::Result<u32> {
     cleared(run);
     run[SHAPE] = shape as u32;
     let mut s = seed;
     let mut i: u32 = 0;
     while i < PLANS {
         run[PLAN] = i;
-        s = one(run, shape, s);
+        s = one(rt, run, shape, s)?;
         i += 1;
     }
-    say(shape as u32, run, 0);
-    say(LINE, run, 0);
-    s
+    say(rt, shape as u32, run, 0)?;
+    say(rt, LINE, run, 0)?;
+    Ok(s)
 }
 
 fn cleared(run: &mut [u32; 52]) {
@@ -534,13 +583,13 @@ fn cleared(run: &mut [u32; 52]) {
     }
 }
 
-fn main() {
+fn main(rt: HostRuntime) -> io::Result<()> {
     let mut run = [0; 52];
     let mut seed: u32 = 20011;
     let mut shape: u8 = 0;
     while shape < plan::SHAPES {
-        seed = shaped(&mut run, shape, seed);
+        seed = shaped(&rt, &mut run, shape, seed)?;
         shape += 1;
     }
-    say(END, &run, ANSWERS);
+    say(&rt, END, &run, ANSWERS)
 }

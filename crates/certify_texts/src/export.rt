@@ -1,4 +1,4 @@
-// The writer for C: include/hearthtansy_writer.h declares these functions. A slice is a pointer and a length.
+// The writer as C takes it: `certify_texts_c` hands these functions to C.
 ghost use Rattle.std.specs.Prelude.{◌≡◌, cond, eqb, length};
 ghost use Rattle.connectivity.specs.Plan.{plan, limits};
 ghost use Rattle.text.specs.Column.{five, largest};
@@ -12,8 +12,7 @@ use removal::Fallen;
 use text_write::Written;
 
 // The verdict on a plan; a firm one's record stands at the front of `rows`, the pieces that fall with a weak one are marked in `fallen`.
-#[unsafe(no_mangle)]
-pub extern "C" fn hearthtansy_verdict(
+pub fn hearthtansy_verdict(
     vertices: u16,
     ends: &[u16],
     excluded: &[u16],
@@ -30,8 +29,7 @@ pub extern "C" fn hearthtansy_verdict(
 }
 
 // The verdict text of a plan text; how many bytes it has, or 0 where `text` is shorter.
-#[unsafe(no_mangle)]
-pub extern "C" fn hearthtansy_verdict_text(plan: &[u8], text: &mut [u8]) -> usize
+pub fn hearthtansy_verdict_text(plan: &[u8], text: &mut [u8]) -> usize
     ensures { TextSize five largest limits plan.now text.old text.new result }
 {
     count(crate::verdict_text(plan, text))

@@ -13,7 +13,7 @@ use cuts::lowest::Lowest;
 use graph::{Admission, Graph};
 use text_write::Written;
 
-pub mod export; // export.rt: the writer for C
+pub mod export; // export.rt: the writer as C takes it
 
 // Writes the verdict text of a plan text; kind 2 with the number of its refusal where it is refused. 6 where `bytes` is shorter than that.
 pub fn verdict_text(plan: &[u8], bytes: &mut [u8]) -> Written

@@ -1,4 +1,4 @@
-// The groups for C: include/hearthtansy_writer.h declares these functions. A slice is a pointer and a length.
+// The groups as C takes them: `components_texts_c` hands these functions to C.
 ghost use Rattle.std.specs.Prelude.{◌≡◌};
 ghost use Rattle.connectivity.specs.Plan.{plan, limits};
 ghost use Rattle.graph.specs.Admission.{answer_of};
@@ -11,21 +11,14 @@ use graph::Answer;
 use text_write::Written;
 
 // The groups of a plan, at the front of `table`.
-#[unsafe(no_mangle)]
-pub extern "C" fn hearthtansy_groups(
-    vertices: u16,
-    ends: &[u16],
-    excluded: &[u16],
-    table: &mut [u16],
-) -> u32
+pub fn hearthtansy_groups(vertices: u16, ends: &[u16], excluded: &[u16], table: &mut [u16]) -> u32
     ensures { Packed limits (plan vertices ends.now excluded.now) table.old table.new result }
 {
     pack(components::find(vertices, ends, excluded, table))
 }
 
 // The text of the groups of a plan text; how many bytes it has, or 0 where `text` is shorter.
-#[unsafe(no_mangle)]
-pub extern "C" fn hearthtansy_groups_text(plan: &[u8], text: &mut [u8]) -> usize
+pub fn hearthtansy_groups_text(plan: &[u8], text: &mut [u8]) -> usize
     ensures { TextSize five largest limits plan.now text.old text.new result }
 {
     count(crate::groups_text(plan, text))

@@ -14,7 +14,7 @@ ghost use Rattle.components_texts.specs.Pairs.{group_pairs, pair_unless, others,
 use graph::{Admission, Graph};
 use text_write::Written;
 
-pub mod export; // export.rt: the groups for C
+pub mod export; // export.rt: the groups as C takes them
 
 // Writes a line for each piece that a plan text keeps, piece and group; of a refused plan its number alone. 6 where `bytes` is shorter than that.
 pub fn groups_text(plan: &[u8], bytes: &mut [u8]) -> Written

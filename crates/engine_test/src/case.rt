@@ -2,6 +2,7 @@
 ghost use Rattle.std.specs.Prelude.{◌≤◌, length};
 
 use crate::{lent, show};
+use std::io;
 
 // The first place from `from` on that has this byte, or the end.
 pub(crate) fn find(text: &[u8], from: usize, byte: u8) -> usize
@@ -72,23 +73,23 @@ fn byte_at(line: &[u8], i: usize) -> u8 {
 }
 
 // Shows the name of a case and runs it: a letter behind the name tells what is called.
-pub(crate) fn run(line: &[u8]) {
+pub(crate) fn run(rt: &impl Print, line: &[u8]) -> io::Result<()> {
     let end = find(line, 0, b';');
-    show::say(&line[..end]);
+    show::say(rt, &line[..end])?;
     let mut table = [0; 17];
     read(line, 2, &mut table);
     let numbers: &[u16] = &table;
     match byte_at(line, end + 2) {
-        b'f' => lent::fill(line, numbers),
-        b's' => lent::search(line, numbers),
-        b'u' => lent::undo(line, numbers),
-        b'b' => lent::balance(line, numbers),
-        b'l' => lent::label(line, numbers),
-        b'c' => lent::chain(line, numbers),
-        b'k' => lent::cut(line, numbers),
-        b'n' => lent::below(line, numbers),
-        b'g' => lent::large(line, numbers),
+        b'f' => lent::fill(rt, line, numbers)?,
+        b's' => lent::search(rt, line, numbers)?,
+        b'u' => lent::undo(rt, line, numbers)?,
+        b'b' => lent::balance(rt, line, numbers)?,
+        b'l' => lent::label(rt, line, numbers)?,
+        b'c' => lent::chain(rt, line, numbers)?,
+        b'k' => lent::cut(rt, line, numbers)?,
+        b'n' => lent::below(rt, line, numbers)?,
+        b'g' => lent::large(rt, line, numbers)?,
         _ => {}
     }
-    show::byte(b'\n');
+    show::byte(rt, b'\n')
 }

@@ -4,6 +4,7 @@ use crate::second::at;
 use crate::{plan, second_labels, show};
 use cuts::Lightest;
 use depth::Explored;
+use std::io;
 
 // The k-th number of a case, as a length.
 fn length(numbers: &[u16], k: usize) -> usize {
@@ -60,8 +61,8 @@ fn front_wide(table: &[u64], n: usize) -> &[u64] {
     &table[0..n]
 }
 
-fn shown(table: &[u16; 17], numbers: &[u16], k: usize) {
-    show::table(front(table, length(numbers, k)));
+fn shown(rt: &impl Print, table: &[u16; 17], numbers: &[u16], k: usize) -> io::Result<()> {
+    show::table(rt, front(table, length(numbers, k)))
 }
 
 // The numbers of a part of a line, in a table that is lent.
@@ -76,7 +77,7 @@ fn given<'a, 'b>(line: &'b [u8], at: u16, table: &'a mut [u16]) -> &'a [u16] {
     front(table, n)
 }
 
-pub(crate) fn fill(line: &[u8], numbers: &[u16]) {
+pub(crate) fn fill(rt: &impl Print, line: &[u8], numbers: &[u16]) -> io::Result<()> {
     let mut ends = [0; 17];
     let mut incident = [9; 17];
     let mut begins = [9; 17];
@@ -86,12 +87,12 @@ pub(crate) fn fill(line: &[u8], numbers: &[u16]) {
         lend(numbers, 1, &mut incident),
         lend(numbers, 2, &mut begins),
     );
-    show::answer(answer);
-    shown(&incident, numbers, 1);
-    shown(&begins, numbers, 2);
+    show::answer(rt, answer)?;
+    shown(rt, &incident, numbers, 1)?;
+    shown(rt, &begins, numbers, 2)
 }
 
-pub(crate) fn search(line: &[u8], numbers: &[u16]) {
+pub(crate) fn search(rt: &impl Print, line: &[u8], numbers: &[u16]) -> io::Result<()> {
     let mut ends = [0; 17];
     let mut incident = [0; 17];
     let mut begins = [0; 17];
@@ -117,10 +118,10 @@ pub(crate) fn search(line: &[u8], numbers: &[u16]) {
         order,
         cursor,
     );
-    explored(told);
-    show::table(first);
-    show::table(order);
-    show::table(cursor);
+    explored(rt, told)?;
+    show::table(rt, first)?;
+    show::table(rt, order)?;
+    show::table(rt, cursor)
 }
 
 fn narrow(list: &[u16], table: &mut [u8]) {
@@ -131,17 +132,17 @@ fn narrow(list: &[u16], table: &mut [u8]) {
     }
 }
 
-fn explored(told: Explored) {
+fn explored(rt: &impl Print, told: Explored) -> io::Result<()> {
     match told {
-        Explored::Refused(answer) => show::answer(answer),
+        Explored::Refused(answer) => show::answer(rt, answer),
         Explored::Seen(count) => {
-            show::say(b": seen");
-            show::short(count);
+            show::say(rt, b": seen")?;
+            show::short(rt, count)
         }
     }
 }
 
-pub(crate) fn undo(line: &[u8], numbers: &[u16]) {
+pub(crate) fn undo(rt: &impl Print, line: &[u8], numbers: &[u16]) -> io::Result<()> {
     let mut order = [0; 17];
     let mut entered = [0; 17];
     let first = list(line, 4, &mut entered);
@@ -151,10 +152,10 @@ pub(crate) fn undo(line: &[u8], numbers: &[u16]) {
         at(numbers, 1),
         first,
     );
-    show::table(first);
+    show::table(rt, first)
 }
 
-pub(crate) fn balance(line: &[u8], numbers: &[u16]) {
+pub(crate) fn balance(rt: &impl Print, line: &[u8], numbers: &[u16]) -> io::Result<()> {
     let mut plan = [0; 17];
     let ends = given(line, 3, &mut plan);
     let mut excluded = [0; 17];
@@ -171,28 +172,29 @@ pub(crate) fn balance(line: &[u8], numbers: &[u16]) {
         lend_wide(numbers, 1, &mut labels),
         lend_wide(numbers, 2, &mut sums),
     );
-    show::answer(answer);
-    told(answer.number == 0, numbers, 1, ends, &labels, &sums);
+    show::answer(rt, answer)?;
+    told(rt, answer.number == 0, numbers, 1, ends, &labels, &sums)
 }
 
 // Of labels only what is promised is shown: whether they cancel around every piece, and what lies behind them; all of it, if they were refused.
 // Numbers k and k + 1 of the case are the lengths of the two tables.
 fn told(
+    rt: &impl Print,
     served: bool,
     numbers: &[u16],
     k: usize,
     ends: &[u16],
     labels: &[u64; 17],
     sums: &[u64; 17],
-) {
+) -> io::Result<()> {
     let l = front_wide(labels, length(numbers, k));
     let s = front_wide(sums, length(numbers, behind(k)));
     let pieces = at(numbers, 0);
     if served {
-        kept(pieces, ends, l, s);
+        kept(rt, pieces, ends, l, s)
     } else {
-        show::wide(l, 0);
-        show::wide(s, 0);
+        show::wide(rt, l, 0)?;
+        show::wide(rt, s, 0)
     }
 }
 
@@ -200,18 +202,25 @@ fn behind(k: usize) -> usize {
     if k < 16 { k + 1 } else { k }
 }
 
-fn kept(pieces: u16, ends: &[u16], labels: &[u64], sums: &[u64]) {
-    show::wide(labels, ends.len() / 2);
-    show::wide(sums, pieces as usize);
+fn kept(
+    rt: &impl Print,
+    pieces: u16,
+    ends: &[u16],
+    labels: &[u64],
+    sums: &[u64],
+) -> io::Result<()> {
+    show::wide(rt, labels, ends.len() / 2)?;
+    show::wide(rt, sums, pieces as usize)?;
     if second_labels::is_balanced(pieces, ends, labels) {
-        show::say(b"; the labels cancel");
+        show::say(rt, b"; the labels cancel")?;
     }
     if second_labels::is_summed(pieces, ends, labels, sums) {
-        show::say(b"; the sums are theirs");
+        show::say(rt, b"; the sums are theirs")?;
     }
+    Ok(())
 }
 
-pub(crate) fn label(line: &[u8], numbers: &[u16]) {
+pub(crate) fn label(rt: &impl Print, line: &[u8], numbers: &[u16]) -> io::Result<()> {
     let mut plan = [0; 17];
     let ends = given(line, 3, &mut plan);
     let mut excluded = [0; 17];
@@ -236,17 +245,17 @@ pub(crate) fn label(line: &[u8], numbers: &[u16]) {
         lend_wide(numbers, 7, &mut labels),
         lend_wide(numbers, 8, &mut sums),
     );
-    show::answer(answer);
-    shown(&incident, numbers, 1);
-    shown(&begins, numbers, 2);
-    show::bytes(front_bytes(&dead, length(numbers, 3)));
-    shown(&first, numbers, 4);
-    shown(&order, numbers, 5);
-    shown(&cursor, numbers, 6);
-    told(answer.number == 0, numbers, 7, ends, &labels, &sums);
+    show::answer(rt, answer)?;
+    shown(rt, &incident, numbers, 1)?;
+    shown(rt, &begins, numbers, 2)?;
+    show::bytes(rt, front_bytes(&dead, length(numbers, 3)))?;
+    shown(rt, &first, numbers, 4)?;
+    shown(rt, &order, numbers, 5)?;
+    shown(rt, &cursor, numbers, 6)?;
+    told(rt, answer.number == 0, numbers, 7, ends, &labels, &sums)
 }
 
-pub(crate) fn cut(line: &[u8], numbers: &[u16]) {
+pub(crate) fn cut(rt: &impl Print, line: &[u8], numbers: &[u16]) -> io::Result<()> {
     let mut ends = [0; 17];
     let mut excluded = [0; 17];
     let mut incident = [9; 17];
@@ -262,33 +271,38 @@ pub(crate) fn cut(line: &[u8], numbers: &[u16]) {
         lend(numbers, 3, &mut first),
         lend(numbers, 4, &mut order),
     );
-    weighed(told);
-    shown(&incident, numbers, 1);
-    shown(&begins, numbers, 2);
-    shown(&first, numbers, 3);
-    shown(&order, numbers, 4);
+    weighed(rt, told)?;
+    shown(rt, &incident, numbers, 1)?;
+    shown(rt, &begins, numbers, 2)?;
+    shown(rt, &first, numbers, 3)?;
+    shown(rt, &order, numbers, 4)
 }
 
 // How many tabs, and which; unused ones are 0.
-fn weighed(told: Lightest) {
+fn weighed(rt: &impl Print, told: Lightest) -> io::Result<()> {
     match told {
-        Lightest::Refused(answer) => show::answer(answer),
-        Lightest::NoCut => show::say(b": no cut"),
+        Lightest::Refused(answer) => show::answer(rt, answer),
+        Lightest::NoCut => show::say(rt, b": no cut"),
         Lightest::Cut(cut) => {
-            show::say(b": cut");
-            show::short(cut.count);
-            show::short(cut.first);
-            show::short(cut.second);
+            show::say(rt, b": cut")?;
+            show::short(rt, cut.count)?;
+            show::short(rt, cut.first)?;
+            show::short(rt, cut.second)
         }
     }
 }
 
-pub(crate) fn large(line: &[u8], numbers: &[u16]) {
+pub(crate) fn large(rt: &impl Print, line: &[u8], numbers: &[u16]) -> io::Result<()> {
     let mut slugs = [0; 17];
-    plan::large(at(numbers, 0), at(numbers, 1), given(line, 3, &mut slugs));
+    plan::large(
+        rt,
+        at(numbers, 0),
+        at(numbers, 1),
+        given(line, 3, &mut slugs),
+    )
 }
 
-pub(crate) fn below(line: &[u8], sizes: &[u16]) {
+pub(crate) fn below(rt: &impl Print, line: &[u8], sizes: &[u16]) -> io::Result<()> {
     let mut ends = [0; 17];
     let mut first = [0; 17];
     let mut order = [0; 17];
@@ -304,13 +318,13 @@ pub(crate) fn below(line: &[u8], sizes: &[u16]) {
         lend(sizes, 2, &mut last),
         lend(sizes, 3, &mut over),
     );
-    show::answer(answer);
-    shown(&number, sizes, 1);
-    shown(&last, sizes, 2);
-    shown(&over, sizes, 3);
+    show::answer(rt, answer)?;
+    shown(rt, &number, sizes, 1)?;
+    shown(rt, &last, sizes, 2)?;
+    shown(rt, &over, sizes, 3)
 }
 
-pub(crate) fn chain(line: &[u8], numbers: &[u16]) {
+pub(crate) fn chain(rt: &impl Print, line: &[u8], numbers: &[u16]) -> io::Result<()> {
     let mut keys = [0; 17];
     let k = read(line, 3, &mut keys);
     let mut labels = [0; 17];
@@ -323,9 +337,9 @@ pub(crate) fn chain(line: &[u8], numbers: &[u16]) {
         lend(numbers, 1, &mut next),
         lend(numbers, 2, &mut heads),
     );
-    show::answer(answer);
-    shown(&next, numbers, 1);
-    shown(&heads, numbers, 2);
+    show::answer(rt, answer)?;
+    shown(rt, &next, numbers, 1)?;
+    shown(rt, &heads, numbers, 2)
 }
 
 fn widen(list: &[u16], table: &mut [u64]) {

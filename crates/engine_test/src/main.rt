@@ -14,7 +14,9 @@
 // A plan without slugs may end before them.
 // A capital letter is the length of a table that is lent full of nines. A digit stands for itself, a letter for a larger number (`worth`); a
 // blank for nothing. Behind what is answered comes each table that the call may write, as it is then.
-use libc::STDIN_FILENO;
+#![tactic(auto)]
+
+use std::io;
 
 mod show; // show.rt: what is printed
 mod case; // case.rt: the cases, read
@@ -29,31 +31,32 @@ mod trial; // trial.rt: both on one plan
 const PLANS: u32 = 4000;
 
 // Both implementations on random plans.
-fn compare() {
+fn compare(rt: &impl Print) -> io::Result<()> {
     let mut run = [0u16; 7];
     let mut i: u32 = 0;
     while i < PLANS {
         plan::random(&mut run, i);
         i += 1;
     }
-    show::say(b"random plans");
-    plan::shown(&run);
-    show::byte(b'\n');
+    show::say(rt, b"random plans")?;
+    plan::shown(rt, &run)?;
+    show::byte(rt, b'\n')
 }
 
-fn main() {
-    let mut space = io::large_buffer();
-    let n = io::read_full(STDIN_FILENO, &mut space);
-    lines(&space[..n]);
-    compare();
+fn main(rt: HostRuntime) -> io::Result<()> {
+    let mut space = [0u8; 65536];
+    let n = bytes_io::read_full(&mut rt.stdin(), &mut space)?;
+    lines(&rt, &space[..n])?;
+    compare(&rt)
 }
 
 // Runs each line as a case.
-fn lines(text: &[u8]) {
+fn lines(rt: &impl Print, text: &[u8]) -> io::Result<()> {
     let mut begin = 0;
     while begin < text.len() {
         let end = case::find(text, begin, b'\n');
-        case::run(&text[begin..end]);
+        case::run(rt, &text[begin..end])?;
         begin = end + 1;
     }
+    Ok(())
 }

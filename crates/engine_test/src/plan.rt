@@ -2,6 +2,7 @@
 ghost use Rattle.std.specs.Prelude.{◌≤◌};
 
 use crate::{show, trial};
+use std::io;
 
 // A number below the bound; 0 if that is 0.
 fn below(x: u32, bound: u16) -> u16
@@ -50,13 +51,13 @@ fn size(rule: u16) -> usize
     }
 }
 
-pub(crate) fn large(pieces: u16, rule: u16, excluded: &[u16]) {
+pub(crate) fn large(rt: &impl Print, pieces: u16, rule: u16, excluded: &[u16]) -> io::Result<()> {
     let mut ends = [0u16; 8002];
     lay(&mut ends, rule, pieces, 7);
     let n = size(rule);
     let mut run = [0u16; 7];
     trial::tried(&mut run, pieces, &ends[..n], excluded, 7);
-    shown(&run);
+    shown(rt, &run)
 }
 
 // A random plan.
@@ -80,11 +81,12 @@ fn length(tabs: u16) -> usize
 }
 
 // What a run has counted.
-pub(crate) fn shown(run: &[u16; 7]) {
+pub(crate) fn shown(rt: &impl Print, run: &[u16; 7]) -> io::Result<()> {
     show::say(
+        rt,
         b": plans, refused by, in one body, labelled with slugs, searches, entered, differences",
-    );
-    show::numbers(run);
+    )?;
+    show::numbers(rt, run)
 }
 
 fn lay(ends: &mut [u16], rule: u16, pieces: u16, seed: u32) {

@@ -1,70 +1,74 @@
 // What is printed.
 use graph::Answer;
-use libc::STDOUT_FILENO;
+use std::io;
+use std::io::Write;
 
-pub(crate) fn say(text: &[u8]) {
-    io::write_all(STDOUT_FILENO, text);
+pub(crate) fn say(rt: &impl Print, text: &[u8]) -> io::Result<()> {
+    io::writer(rt).write_all(text)
 }
 
-pub(crate) fn byte(b: u8) {
+pub(crate) fn byte(rt: &impl Print, b: u8) -> io::Result<()> {
     let bytes = [b];
-    say(&bytes);
+    say(rt, &bytes)
 }
 
-pub(crate) fn number(x: u64) {
-    byte(b' ');
-    io::print_decimal(STDOUT_FILENO, x);
+pub(crate) fn number(rt: &impl Print, x: u64) -> io::Result<()> {
+    byte(rt, b' ')?;
+    rt.print(x)
 }
 
-pub(crate) fn short(x: u16) {
-    number(x as u64);
+pub(crate) fn short(rt: &impl Print, x: u16) -> io::Result<()> {
+    number(rt, x as u64)
 }
 
 // Passed, or refused with its number and place.
-pub(crate) fn answer(told: Answer) {
+pub(crate) fn answer(rt: &impl Print, told: Answer) -> io::Result<()> {
     if told.number == 0 {
-        return say(b": passed");
+        return say(rt, b": passed");
     }
-    say(b": refused");
-    short(told.number);
-    short(told.place);
+    say(rt, b": refused")?;
+    short(rt, told.number)?;
+    short(rt, told.place)
 }
 
 // A table: a semicolon, and its numbers.
-pub(crate) fn table(list: &[u16]) {
-    byte(b';');
-    numbers(list);
+pub(crate) fn table(rt: &impl Print, list: &[u16]) -> io::Result<()> {
+    byte(rt, b';')?;
+    numbers(rt, list)
 }
 
-pub(crate) fn numbers(list: &[u16]) {
+pub(crate) fn numbers(rt: &impl Print, list: &[u16]) -> io::Result<()> {
     let mut i = 0;
     while i < list.len() {
-        short(list[i]);
+        short(rt, list[i])?;
         i += 1;
     }
+    Ok(())
 }
 
-pub(crate) fn bytes(list: &[u8]) {
-    byte(b';');
+pub(crate) fn bytes(rt: &impl Print, list: &[u8]) -> io::Result<()> {
+    byte(rt, b';')?;
     let mut i = 0;
     while i < list.len() {
-        tiny(list[i]);
+        tiny(rt, list[i])?;
         i += 1;
     }
+    Ok(())
 }
 
-fn tiny(x: u8) {
-    number(x as u64);
+fn tiny(rt: &impl Print, x: u8) -> io::Result<()> {
+    number(rt, x as u64)
 }
 
 // The numbers of a table from a place on.
-pub(crate) fn wide(list: &[u64], from: usize) {
-    byte(b';');
+pub(crate) fn wide(rt: &impl Print, list: &[u64], from: usize) -> io::Result<()> {
+    byte(rt, b';')?;
     let mut i = 0;
     while i < list.len() {
         if from <= i {
-            number(list[i]);
+            number(rt, list[i])?;
         }
         i += 1;
     }
+    Ok(())
 }

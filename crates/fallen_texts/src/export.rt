@@ -1,4 +1,4 @@
-// The pieces that would fall, for C: include/hearthtansy_writer.h declares this function. A slice is a pointer and a length.
+// The pieces that would fall, as C takes them: `fallen_texts_c` hands this function to C.
 ghost use Rattle.std.specs.Prelude.{◌≡◌};
 ghost use Rattle.connectivity.specs.Plan.{limits};
 ghost use Rattle.text.specs.Column.{five, largest};
@@ -8,8 +8,7 @@ ghost use Rattle.fallen_texts.specs.Falls.{TextSize};
 use text_write::Written;
 
 // The text of the pieces of a plan text that would fall; how many bytes it has, or 0 where `text` is shorter.
-#[unsafe(no_mangle)]
-pub extern "C" fn hearthtansy_fallen_text(plan: &[u8], text: &mut [u8]) -> usize
+pub fn hearthtansy_fallen_text(plan: &[u8], text: &mut [u8]) -> usize
     ensures { TextSize five largest limits plan.now text.old text.new result }
 {
     count(crate::fallen_text(plan, text))

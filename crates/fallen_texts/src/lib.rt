@@ -13,7 +13,7 @@ use graph::{Admission, Graph};
 use removal::Fallen;
 use text_write::Written;
 
-pub mod export; // export.rt: the same for C
+pub mod export; // export.rt: the same as C takes it
 
 // A line for a number, and one for each vertex but the lowest, which never falls.
 pub const FALLEN_SIZE: usize = 6 * Graph::MAX_VERTICES;

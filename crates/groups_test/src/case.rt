@@ -1,5 +1,6 @@
 // The cases of the table: a line each.
 use crate::{plan, show, trial};
+use std::io;
 
 // The number that a byte stands for.
 fn worth(byte: u8) -> u16 {
@@ -21,21 +22,26 @@ fn worth(byte: u8) -> u16 {
 
 // Takes up a byte of a line. `at` is 0 while its name is read, which is shown, and then the place of the next number; so is what comes back.
 // Place 0 tells where the slugs begin.
-pub(crate) fn take(byte: u8, at: usize, numbers: &mut [u16; 64]) -> usize {
+pub(crate) fn take(
+    rt: &impl Print,
+    byte: u8,
+    at: usize,
+    numbers: &mut [u16; 64],
+) -> io::Result<usize> {
     if byte == b'\n' {
-        run(numbers, at);
-        show::byte(b'\n');
-        return 0;
+        run(rt, numbers, at)?;
+        show::byte(rt, b'\n')?;
+        return Ok(0);
     }
     if at != 0 {
-        return put(byte, at, numbers);
+        return Ok(put(byte, at, numbers));
     }
     if byte == b';' {
         numbers[0] = UNKNOWN;
-        return 1;
+        return Ok(1);
     }
-    show::byte(byte);
-    0
+    show::byte(rt, byte)?;
+    Ok(0)
 }
 
 // Behind the pieces and the length no slugs have begun yet.
@@ -68,20 +74,21 @@ fn begun(before: u16, at: usize) -> u16 {
     }
 }
 
-fn run(numbers: &[u16; 64], at: usize) {
+fn run(rt: &impl Print, numbers: &[u16; 64], at: usize) -> io::Result<()> {
     let rule = numbers[3];
     let begin = trial::wide(numbers[0]);
     let end = if begin < at { begin } else { at };
     let excluded = trial::part(numbers, end, at);
     if end == 5 && plan::RING <= rule {
-        trial::large(numbers[1], numbers[2], rule, numbers[4], excluded);
+        trial::large(rt, numbers[1], numbers[2], rule, numbers[4], excluded)
     } else {
         trial::told(
+            rt,
             numbers[1],
             numbers[2],
             trial::part(numbers, 3, end),
             excluded,
             false,
-        );
+        )
     }
 }

@@ -8,7 +8,9 @@
 // number (`worth`), a blank for nothing. A capital letter is the rule by which so many tabs of a large plan are laid. Behind the number and the
 // place that are answered comes the whole lent table, 54321 where nothing was written; of a large plan how many groups there are, a slug counted
 // as one, and a fingerprint of that table.
-use libc::STDIN_FILENO;
+#![tactic(auto)]
+
+use std::io;
 
 mod case; // case.rt: the cases
 mod plan; // plan.rt: large plans and random ones
@@ -19,26 +21,26 @@ mod trial; // trial.rt: both on one plan
 // How many random plans there are.
 const PLANS: u32 = 10000;
 
-fn main() {
-    let mut text = io::large_buffer();
-    let n = io::read_full(STDIN_FILENO, &mut text);
+fn main(rt: HostRuntime) -> io::Result<()> {
+    let mut text = [0u8; 65536];
+    let n = bytes_io::read_full(&mut rt.stdin(), &mut text)?;
     let mut numbers = [0; 64];
     let mut at = 0;
     let mut i = 0;
     while i < n {
-        at = case::take(text[i], at, &mut numbers);
+        at = case::take(&rt, text[i], at, &mut numbers)?;
         i += 1;
     }
-    compare();
+    compare(&rt)
 }
 
 // Both implementations on random plans.
-fn compare() {
+fn compare(rt: &impl Print) -> io::Result<()> {
     let mut run = [0; 19];
     let mut i: u32 = 0;
     while i < PLANS {
-        trial::random(&mut run, i);
+        trial::random(rt, &mut run, i)?;
         i += 1;
     }
-    trial::counted(&run);
+    trial::counted(rt, &run)
 }

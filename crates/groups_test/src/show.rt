@@ -1,37 +1,39 @@
 // What is printed.
-use libc::STDOUT_FILENO;
+use std::io;
+use std::io::Write;
 
-pub(crate) fn say(text: &[u8]) {
-    io::write_all(STDOUT_FILENO, text);
+pub(crate) fn say(rt: &impl Print, text: &[u8]) -> io::Result<()> {
+    io::writer(rt).write_all(text)
 }
 
-pub(crate) fn byte(b: u8) {
+pub(crate) fn byte(rt: &impl Print, b: u8) -> io::Result<()> {
     let bytes = [b];
-    say(&bytes);
+    say(rt, &bytes)
 }
 
-pub(crate) fn number(x: u32) {
-    byte(b' ');
-    io::print_decimal(STDOUT_FILENO, x as u64);
+pub(crate) fn number(rt: &impl Print, x: u32) -> io::Result<()> {
+    byte(rt, b' ')?;
+    rt.print(x)
 }
 
-fn short(x: u16) {
-    number(x as u32);
+fn short(rt: &impl Print, x: u16) -> io::Result<()> {
+    number(rt, x as u32)
 }
 
 // An answer that is one number.
-pub(crate) fn answer(told: u32) {
-    byte(b':');
-    number(told / 65536);
-    number(told % 65536);
+pub(crate) fn answer(rt: &impl Print, told: u32) -> io::Result<()> {
+    byte(rt, b':')?;
+    number(rt, told / 65536)?;
+    number(rt, told % 65536)
 }
 
 // A table: a semicolon, and its numbers.
-pub(crate) fn numbers(list: &[u16]) {
-    byte(b';');
+pub(crate) fn numbers(rt: &impl Print, list: &[u16]) -> io::Result<()> {
+    byte(rt, b';')?;
     let mut i = 0;
     while i < list.len() {
-        short(list[i]);
+        short(rt, list[i])?;
         i += 1;
     }
+    Ok(())
 }

@@ -1,6 +1,7 @@
 // The groups of one plan, and beside the second implementation.
 use crate::second::UNTOUCHED;
 use crate::{plan, second, show};
+use std::io;
 
 // A run has a fingerprint of all answers and tables, and counts plans: at place k those of k groups of kept pieces, at place 8 + k those refused
 // by k, or by k + 11 from 18 on; plans with slugs that are not refused; and differences.
@@ -29,28 +30,42 @@ fn ask(pieces: u16, ends: &[u16], excluded: &[u16], lent: usize, table: &mut [u1
 }
 
 // A plan of the table: the answer and the lent table.
-pub(crate) fn told(pieces: u16, lent: u16, ends: &[u16], excluded: &[u16], is_large: bool) {
+pub(crate) fn told(
+    rt: &impl Print,
+    pieces: u16,
+    lent: u16,
+    ends: &[u16],
+    excluded: &[u16],
+    is_large: bool,
+) -> io::Result<()> {
     let mut table = [UNTOUCHED; 1002];
-    show::answer(ask(pieces, ends, excluded, lent as usize, &mut table));
-    shown(part(&table, 0, lent as usize), is_large);
+    show::answer(rt, ask(pieces, ends, excluded, lent as usize, &mut table))?;
+    shown(rt, part(&table, 0, lent as usize), is_large)
 }
 
 // A large plan.
-pub(crate) fn large(pieces: u16, lent: u16, rule: u16, tabs: u16, excluded: &[u16]) {
+pub(crate) fn large(
+    rt: &impl Print,
+    pieces: u16,
+    lent: u16,
+    rule: u16,
+    tabs: u16,
+    excluded: &[u16],
+) -> io::Result<()> {
     let mut ends = [0; 8002];
     plan::lay(&mut ends, rule, pieces, 7);
     let laid = part(&ends, 0, 2 * (tabs as usize));
-    told(pieces, lent, laid, excluded, true);
+    told(rt, pieces, lent, laid, excluded, true)
 }
 
-fn shown(table: &[u16], is_large: bool) {
+fn shown(rt: &impl Print, table: &[u16], is_large: bool) -> io::Result<()> {
     if !is_large {
-        return show::numbers(table);
+        return show::numbers(rt, table);
     }
-    show::say(b"; groups");
-    show::number(groups(table));
-    show::say(b", fingerprint");
-    show::number(hashed(0, table));
+    show::say(rt, b"; groups")?;
+    show::number(rt, groups(table))?;
+    show::say(rt, b", fingerprint")?;
+    show::number(rt, hashed(0, table))
 }
 
 // How many pieces are the lowest of their groups.
@@ -86,7 +101,7 @@ fn stamped(hash: u32, x: u16) -> u32 {
 }
 
 // A random plan.
-pub(crate) fn random(run: &mut [u32; 19], seed: u32) {
+pub(crate) fn random(rt: &impl Print, run: &mut [u32; 19], seed: u32) -> io::Result<()> {
     let size = plan::size(seed);
     let how = plan::damage(seed);
     let mut ends = [0; 26];
@@ -95,16 +110,24 @@ pub(crate) fn random(run: &mut [u32; 19], seed: u32) {
     let mut excluded = [0; 10];
     plan::list(&mut excluded, fallen, how, seed);
     tried(
+        rt,
         run,
         plan::pieces(size, how),
         part(&ends, 0, plan::length(seed, how)),
         part(&excluded, 0, plan::count(fallen)),
         plan::lent(seed, how),
-    );
+    )
 }
 
 // Both on one plan.
-fn tried(run: &mut [u32; 19], pieces: u16, ends: &[u16], excluded: &[u16], lent: usize) {
+fn tried(
+    rt: &impl Print,
+    run: &mut [u32; 19],
+    pieces: u16,
+    ends: &[u16],
+    excluded: &[u16],
+    lent: usize,
+) -> io::Result<()> {
     let mut table = [UNTOUCHED; 12];
     let number = ask(pieces, ends, excluded, lent, &mut table);
     note(run, number, (excluded.len() % 16) as u32, &table);
@@ -115,8 +138,9 @@ fn tried(run: &mut [u32; 19], pieces: u16, ends: &[u16], excluded: &[u16], lent:
         0
     };
     if number != due || !is_same(&table, pieces, pairs) {
-        differ(run, pieces, ends, excluded, &table);
+        differ(rt, run, pieces, ends, excluded, &table)?;
     }
+    Ok(())
 }
 
 // Counts an answer, and takes it and the table into the fingerprint.
@@ -163,25 +187,33 @@ fn is_same(table: &[u16; 12], pieces: u16, pairs: u64) -> bool {
 }
 
 // A difference: the plan, and the table.
-fn differ(run: &mut [u32; 19], pieces: u16, ends: &[u16], excluded: &[u16], table: &[u16; 12]) {
+fn differ(
+    rt: &impl Print,
+    run: &mut [u32; 19],
+    pieces: u16,
+    ends: &[u16],
+    excluded: &[u16],
+    table: &[u16; 12],
+) -> io::Result<()> {
     count(run, DIFFERENCES);
-    show::say(b"difference:");
-    show::number(pieces as u32);
-    show::numbers(ends);
-    show::numbers(excluded);
-    show::numbers(table);
-    show::byte(b'\n');
+    show::say(rt, b"difference:")?;
+    show::number(rt, pieces as u32)?;
+    show::numbers(rt, ends)?;
+    show::numbers(rt, excluded)?;
+    show::numbers(rt, table)?;
+    show::byte(rt, b'\n')
 }
 
 // What a run has counted.
-pub(crate) fn counted(run: &[u32; 19]) {
+pub(crate) fn counted(rt: &impl Print, run: &[u32; 19]) -> io::Result<()> {
     show::say(
+        rt,
         b"random plans: fingerprint, of 1 to 8 groups, refused by 1 to 6, 18 and 19, with slugs, differences;",
-    );
+    )?;
     let mut i = 0;
     while i < 19 {
-        show::number(run[i]);
+        show::number(rt, run[i])?;
         i += 1;
     }
-    show::byte(b'\n');
+    show::byte(rt, b'\n')
 }

@@ -3,28 +3,31 @@
 // The table is the standard input, a line for each case:
 //     name; pieces; ends of the tabs; tabs that are lost; slugs;
 // A digit stands for itself, a letter for a larger number (`worth`). A letter in place of the ends stands for a rule that gives them (`large`).
+#![tactic(auto)]
+
 use graph::Answer;
-use libc::{STDIN_FILENO, STDOUT_FILENO};
 use removal::Fallen;
+use std::io;
+use std::io::Write;
 
-fn say(text: &[u8]) {
-    io::write_all(STDOUT_FILENO, text);
+fn say(rt: &impl Print, text: &[u8]) -> io::Result<()> {
+    io::writer(rt).write_all(text)
 }
 
-fn show(byte: u8) {
+fn show(rt: &impl Print, byte: u8) -> io::Result<()> {
     let bytes = [byte];
-    say(&bytes);
+    say(rt, &bytes)
 }
 
-fn number(x: u16) {
-    show(b' ');
-    io::print_decimal(STDOUT_FILENO, x as u64);
+fn number(rt: &impl Print, x: u16) -> io::Result<()> {
+    show(rt, b' ')?;
+    rt.print(x)
 }
 
-fn refused(answer: Answer) {
-    say(b": refused");
-    number(answer.number);
-    number(answer.place);
+fn refused(rt: &impl Print, answer: Answer) -> io::Result<()> {
+    say(rt, b": refused")?;
+    number(rt, answer.number)?;
+    number(rt, answer.place)
 }
 
 // The number that a byte stands for.
@@ -78,11 +81,11 @@ impl Case {
     }
 
     // Takes up a byte. The name is shown, and else a blank stands for nothing.
-    fn take(mut self, byte: u8) -> Case {
+    fn take(mut self, rt: &impl Print, byte: u8) -> io::Result<Case> {
         if byte == b'\n' {
-            self.run();
-            show(b'\n');
-            return Case::new();
+            self.run(rt)?;
+            show(rt, b'\n')?;
+            return Ok(Case::new());
         }
         if byte == b';' {
             self.named = true;
@@ -90,16 +93,16 @@ impl Case {
             self.second = self.third;
             self.third = self.fourth;
             self.fourth = self.n;
-            return self;
+            return Ok(self);
         }
         if !self.named {
-            show(byte);
-            return self;
+            show(rt, byte)?;
+            return Ok(self);
         }
         if byte == b' ' {
-            return self;
+            return Ok(self);
         }
-        self.put(byte)
+        Ok(self.put(byte))
     }
 
     fn put(mut self, byte: u8) -> Case {
@@ -111,12 +114,12 @@ impl Case {
         self
     }
 
-    fn run(self) {
+    fn run(self, rt: &impl Print) -> io::Result<()> {
         let all = self.numbers;
         let pieces = all[0];
         let ends = part(&all, self.first, self.second);
         let cut = part(&all, self.second, self.third);
-        lose(pieces, ends, part(&all, self.third, self.fourth), cut);
+        lose(rt, pieces, ends, part(&all, self.third, self.fourth), cut)
     }
 }
 
@@ -132,11 +135,17 @@ fn part(list: &[u16], from: usize, to: usize) -> &[u16] {
 }
 
 // The tabs of `cut` are lost.
-fn lose(pieces: u16, ends: &[u16], excluded: &[u16], cut: &[u16]) {
+fn lose(
+    rt: &impl Print,
+    pieces: u16,
+    ends: &[u16],
+    excluded: &[u16],
+    cut: &[u16],
+) -> io::Result<()> {
     if ends.len() == 1 {
-        large(pieces, ends[0], excluded, cut);
+        large(rt, pieces, ends[0], excluded, cut)
     } else {
-        tell(pieces, ends, excluded, cut);
+        tell(rt, pieces, ends, excluded, cut)
     }
 }
 
@@ -155,10 +164,16 @@ const STAR: u16 = 20001;
 const SHIFTED: u16 = 20002;
 
 // A plan of 4,000 tabs that jump about among as many pieces as the rule says, or of a row of them, or one of few tabs.
-fn large(pieces: u16, rule: u16, excluded: &[u16], cut: &[u16]) {
+fn large(rt: &impl Print, pieces: u16, rule: u16, excluded: &[u16], cut: &[u16]) -> io::Result<()> {
     let mut ends = [0u16; 8002];
     fill(&mut ends, rule);
-    tell(pieces, part(&ends, 0, length(pieces, rule)), excluded, cut);
+    tell(
+        rt,
+        pieces,
+        part(&ends, 0, length(pieces, rule)),
+        excluded,
+        cut,
+    )
 }
 
 // How many ends a large plan has.
@@ -223,38 +238,46 @@ fn jump(i: u16, side: u16, pieces: u16) -> u16 {
 }
 
 // What falls when the tabs of `cut` are lost.
-fn tell(pieces: u16, ends: &[u16], excluded: &[u16], cut: &[u16]) {
+fn tell(
+    rt: &impl Print,
+    pieces: u16,
+    ends: &[u16],
+    excluded: &[u16],
+    cut: &[u16],
+) -> io::Result<()> {
     let removed = removal::remove(pieces, ends, excluded, cut);
     let fallen = removed.fallen;
-    outcome(removed.answer, fallen.count);
+    outcome(rt, removed.answer, fallen.count)?;
     let words = fallen.words;
-    marks(&words);
+    marks(rt, &words)
 }
 
-fn outcome(answer: Answer, count: u16) {
+fn outcome(rt: &impl Print, answer: Answer, count: u16) -> io::Result<()> {
     if answer.number != 0 {
-        refused(answer);
+        refused(rt, answer)?;
     } else if count == 0 {
-        say(b": one body");
+        say(rt, b": one body")?;
     } else {
-        say(b": parted");
+        say(rt, b": parted")?;
     }
     if count != 0 {
-        say(b", fall");
-        number(count);
-        show(b':');
+        say(rt, b", fall")?;
+        number(rt, count)?;
+        show(rt, b':')?;
     }
+    Ok(())
 }
 
 // The pieces that are marked, whatever was counted.
-fn marks(words: &[u64; Fallen::WORDS]) {
+fn marks(rt: &impl Print, words: &[u64; Fallen::WORDS]) -> io::Result<()> {
     let mut v: u16 = 0;
     while v < 1024 {
         if is_marked(words, v) {
-            number(v);
+            number(rt, v)?;
         }
         v += 1;
     }
+    Ok(())
 }
 
 fn is_marked(words: &[u64; Fallen::WORDS], v: u16) -> bool {
@@ -266,13 +289,14 @@ fn is_marked(words: &[u64; Fallen::WORDS], v: u16) -> bool {
     }
 }
 
-fn main() {
-    let mut text = io::buffer();
-    let n = io::read_full(STDIN_FILENO, &mut text);
+fn main(rt: HostRuntime) -> io::Result<()> {
+    let mut text = [0u8; 4096];
+    let n = bytes_io::read_full(&mut rt.stdin(), &mut text)?;
     let mut case = Case::new();
     let mut i = 0;
     while i < n {
-        case = case.take(text[i]);
+        case = case.take(&rt, text[i])?;
         i += 1;
     }
+    Ok(())
 }

@@ -7,101 +7,104 @@
 //     v  a verdict text that is read, into so many of eight numbers
 //     P  the pieces of a plan, how many ends it has, its ends and its slugs, in five columns each, that are written into so many of 56 bytes
 //     V  the kind of a verdict and its list, likewise
+#![tactic(auto)]
+
 use graph::{Admission, Answer};
-use libc::{STDIN_FILENO, STDOUT_FILENO};
+use std::io;
+use std::io::Write;
 use text_read::VerdictRead;
 use text_write::Written;
 
-fn say(text: &[u8]) {
-    io::write_all(STDOUT_FILENO, text);
+fn say(rt: &impl Print, text: &[u8]) -> io::Result<()> {
+    io::writer(rt).write_all(text)
 }
 
-fn show(byte: u8) {
+fn show(rt: &impl Print, byte: u8) -> io::Result<()> {
     let bytes = [byte];
-    say(&bytes);
+    say(rt, &bytes)
 }
 
-fn digit(x: u16) {
-    show(48 + (x % 10) as u8);
+fn digit(rt: &impl Print, x: u16) -> io::Result<()> {
+    show(rt, 48 + (x % 10) as u8)
 }
 
 // A blank and the number in five digits.
-fn number(x: u16) {
-    show(b' ');
-    digit(x / 10000);
-    digit(x / 1000);
-    digit(x / 100);
-    digit(x / 10);
-    digit(x);
+fn number(rt: &impl Print, x: u16) -> io::Result<()> {
+    show(rt, b' ')?;
+    digit(rt, x / 10000)?;
+    digit(rt, x / 1000)?;
+    digit(rt, x / 100)?;
+    digit(rt, x / 10)?;
+    digit(rt, x)
 }
 
-fn row(name: &[u8], a: u16, b: u16) {
-    say(name);
-    number(a);
-    number(b);
-    show(b'\n');
+fn row(rt: &impl Print, name: &[u8], a: u16, b: u16) -> io::Result<()> {
+    say(rt, name)?;
+    number(rt, a)?;
+    number(rt, b)?;
+    show(rt, b'\n')
 }
 
-fn refused(a: Answer) {
-    row(b"refused", a.number, a.place);
+fn refused(rt: &impl Print, a: Answer) -> io::Result<()> {
+    row(rt, b"refused", a.number, a.place)
 }
 
-fn memory(list: &[u16; 8]) {
+fn memory(rt: &impl Print, list: &[u16; 8]) -> io::Result<()> {
     let mut i = 0;
     while i < 8 {
-        number(list[i]);
+        number(rt, list[i])?;
         i += 1;
     }
-    show(b'\n');
+    show(rt, b'\n')
 }
 
-fn plan(text: &[u8], space: usize) {
+fn plan(rt: &impl Print, text: &[u8], space: usize) -> io::Result<()> {
     let mut table = [9u16; 8];
     let n = space % 9;
     let answer = text_read::read_plan(text, &mut table[..n]);
-    admission(answer);
-    memory(&table);
+    admission(rt, answer)?;
+    memory(rt, &table)
 }
 
-fn admission(answer: Admission) {
+fn admission(rt: &impl Print, answer: Admission) -> io::Result<()> {
     match answer {
-        Admission::Refused(a) => refused(a),
+        Admission::Refused(a) => refused(rt, a),
         Admission::Admitted(g) => {
-            row(b"plan", g.vertices, g.edges);
-            row(b"kept", g.kept_vertices, g.kept_edges);
+            row(rt, b"plan", g.vertices, g.edges)?;
+            row(rt, b"kept", g.kept_vertices, g.kept_edges)
         }
     }
 }
 
-fn verdict(text: &[u8], space: usize) {
+fn verdict(rt: &impl Print, text: &[u8], space: usize) -> io::Result<()> {
     let mut list = [9u16; 8];
     let n = space % 9;
     let answer = text_read::read_verdict(text, &mut list[..n]);
-    verdict_read(answer);
-    memory(&list);
+    verdict_read(rt, answer)?;
+    memory(rt, &list)
 }
 
-fn verdict_read(answer: VerdictRead) {
+fn verdict_read(rt: &impl Print, answer: VerdictRead) -> io::Result<()> {
     match answer {
-        VerdictRead::Refused(a) => refused(a),
-        VerdictRead::Read { kind, count } => row(b"verdict", kind, (count % 10) as u16),
+        VerdictRead::Refused(a) => refused(rt, a),
+        VerdictRead::Read { kind, count } => row(rt, b"verdict", kind, (count % 10) as u16),
     }
 }
 
-fn write(letter: u8, text: &[u8], space: usize) {
+fn write(rt: &impl Print, letter: u8, text: &[u8], space: usize) -> io::Result<()> {
     let mut list = [0u16; 12];
     numbers(text, &mut list);
     let first = list[0];
-    store(letter, first, part(&list, 1, text.len() / 5), space);
+    store(rt, letter, first, part(&list, 1, text.len() / 5), space)
 }
 
-fn store(letter: u8, first: u16, list: &[u16], space: usize) {
+fn store(rt: &impl Print, letter: u8, first: u16, list: &[u16], space: usize) -> io::Result<()> {
     let mut bytes = [b'.'; 56];
     let n = space % 57;
     let answer = entry(letter, first, list, &mut bytes[..n]);
-    written(answer);
-    say(&bytes);
-    show(b'\n');
+    written(rt, answer)?;
+    say(rt, &bytes)?;
+    show(rt, b'\n')
 }
 
 // Takes up numbers of five columns each.
@@ -151,13 +154,13 @@ fn one_more(count: u16) -> usize {
     1 + count as usize
 }
 
-fn written(w: Written) {
+fn written(rt: &impl Print, w: Written) -> io::Result<()> {
     match w {
-        Written::Refused(a) => refused(a),
+        Written::Refused(a) => refused(rt, a),
         Written::Bytes(n) => {
-            say(b"bytes");
-            number((n % 65536) as u16);
-            show(b'\n');
+            say(rt, b"bytes")?;
+            number(rt, (n % 65536) as u16)?;
+            show(rt, b'\n')
         }
     }
 }
@@ -173,15 +176,15 @@ fn part(list: &[u16], from: usize, to: usize) -> &[u16] {
     &list[from..to]
 }
 
-fn run(letter: u8, space: usize, text: &[u8]) {
+fn run(rt: &impl Print, letter: u8, space: usize, text: &[u8]) -> io::Result<()> {
     match letter {
-        b'p' => plan(text, space),
-        b'v' => verdict(text, space),
+        b'p' => plan(rt, text, space),
+        b'v' => verdict(rt, text, space),
         b't' => {
-            say(text);
-            show(b'\n');
+            say(rt, text)?;
+            show(rt, b'\n')
         }
-        _ => write(letter, text, space),
+        _ => write(rt, letter, text, space),
     }
 }
 
@@ -204,23 +207,24 @@ fn body(text: &[u8], n: u8) -> &[u8] {
 }
 
 // Runs the case at a place, and answers where the next one begins.
-fn case(text: &[u8], at: usize) -> usize {
+fn case(rt: &impl Print, text: &[u8], at: usize) -> io::Result<usize> {
     if text.len() <= at {
-        return at;
+        return Ok(at);
     }
     let rest = &text[at..];
     let n = two(rest, 5);
-    run(rest[0], two(rest, 2) as usize, body(rest, n));
-    std::num::wrapping_add_usize(at, 9 + n as usize)
+    run(rt, rest[0], two(rest, 2) as usize, body(rest, n))?;
+    Ok(std::num::wrapping_add_usize(at, 9 + n as usize))
 }
 
-fn main() {
-    let mut text = io::large_buffer();
-    let n = io::read_full(STDIN_FILENO, &mut text);
+fn main(rt: HostRuntime) -> io::Result<()> {
+    let mut text = [0u8; 65536];
+    let n = bytes_io::read_full(&mut rt.stdin(), &mut text)?;
     let mut at = 0;
     let mut turns = 0;
     while turns < n {
-        at = case(&text[..n], at);
+        at = case(&rt, &text[..n], at)?;
         turns += 1;
     }
+    Ok(())
 }

@@ -25,23 +25,26 @@
 //     141 to 145  11 in a record: a slug's tab
 //     146 to 151  records over the kept pieces, under their drawn numbers, and 16
 //     152 to 163  weak lists: 11 for a slug's tab whatever the other parts, 17, and what the loss of a slug parts
+#![tactic(auto)]
+
 use graph::Answer;
-use libc::{STDIN_FILENO, STDOUT_FILENO};
+use std::io;
+use std::io::Write;
 
-fn say(text: &[u8]) {
-    io::write_all(STDOUT_FILENO, text);
+fn say(rt: &impl Print, text: &[u8]) -> io::Result<()> {
+    io::writer(rt).write_all(text)
 }
 
-fn number(x: u16) {
-    io::print_decimal(STDOUT_FILENO, x as u64);
+fn number(rt: &impl Print, x: u16) -> io::Result<()> {
+    rt.print(x)
 }
 
-fn tell(answer: Answer) {
-    say(b": ");
-    number(answer.number);
-    say(b" ");
-    number(answer.place);
-    say(b"\n");
+fn tell(rt: &impl Print, answer: Answer) -> io::Result<()> {
+    say(rt, b": ")?;
+    number(rt, answer.number)?;
+    say(rt, b" ")?;
+    number(rt, answer.place)?;
+    say(rt, b"\n")
 }
 
 // The number that a byte stands for.
@@ -110,26 +113,26 @@ impl Case {
     }
 
     // Takes up a byte. A semicolon ends a field, a line feed the case; the name is shown, and else a blank stands for nothing.
-    fn take(mut self, byte: u8) -> Case {
+    fn take(mut self, rt: &impl Print, byte: u8) -> io::Result<Case> {
         let field = self.field;
         if byte == b'\n' {
-            self.run();
-            return Case::new();
+            self.run(rt)?;
+            return Ok(Case::new());
         }
         if byte == b';' {
             if field < EXCLUDED {
                 self.field = field + 1;
             }
-            return self;
+            return Ok(self);
         }
         if field == NAME {
-            say(&[byte]);
-            return self;
+            say(rt, &[byte])?;
+            return Ok(self);
         }
         if byte == b' ' {
-            return self;
+            return Ok(self);
         }
-        self.put(worth(byte))
+        Ok(self.put(worth(byte)))
     }
 
     // Takes up a number of the field that is read.
@@ -181,35 +184,39 @@ impl Case {
         self
     }
 
-    fn run(self) {
+    fn run(self, rt: &impl Print) -> io::Result<()> {
         let ends = self.ends;
         if 36 < self.ends_length {
-            self.check(&[0; 8002]);
+            self.check(rt, &[0; 8002])
         } else {
-            self.check(&ends);
+            self.check(rt, &ends)
         }
     }
 
-    fn check(self, ends: &[u16]) {
+    fn check(self, rt: &impl Print, ends: &[u16]) -> io::Result<()> {
         let excluded = self.excluded;
         let list = self.list;
-        tell(verify::check(
-            self.vertices,
-            front(ends, self.ends_length),
-            front(&excluded, self.excluded_length),
-            self.kind,
-            front(&list, self.list_length),
-        ));
+        tell(
+            rt,
+            verify::check(
+                self.vertices,
+                front(ends, self.ends_length),
+                front(&excluded, self.excluded_length),
+                self.kind,
+                front(&list, self.list_length),
+            ),
+        )
     }
 }
 
-fn main() {
-    let mut text = io::large_buffer();
-    let n = io::read_full(STDIN_FILENO, &mut text);
+fn main(rt: HostRuntime) -> io::Result<()> {
+    let mut text = [0u8; 65536];
+    let n = bytes_io::read_full(&mut rt.stdin(), &mut text)?;
     let mut case = Case::new();
     let mut i = 0;
     while i < n {
-        case = case.take(text[i]);
+        case = case.take(&rt, text[i])?;
         i += 1;
     }
+    Ok(())
 }

@@ -1,4 +1,4 @@
-// The check for C: include/hearthtansy.h declares these functions. A slice is a pointer and a length.
+// The check as C takes it: `verify_texts_c` hands these functions to C.
 ghost use Rattle.std.specs.Prelude.{◌≡◌};
 ghost use Rattle.connectivity.specs.Plan.{plan, limits};
 ghost use Rattle.connectivity.specs.Admission as meaning;
@@ -10,8 +10,7 @@ ghost use Rattle.verify_texts.specs.Board.{packed};
 use graph::Answer;
 
 // The check of a verdict about a plan, both as numbers.
-#[unsafe(no_mangle)]
-pub extern "C" fn hearthtansy_check(
+pub fn hearthtansy_check(
     vertices: u16,
     ends: &[u16],
     excluded: &[u16],
@@ -24,8 +23,7 @@ pub extern "C" fn hearthtansy_check(
 }
 
 // The check of a verdict text about a plan text.
-#[unsafe(no_mangle)]
-pub extern "C" fn hearthtansy_check_texts(plan: &[u8], verdict: &[u8]) -> u32
+pub fn hearthtansy_check_texts(plan: &[u8], verdict: &[u8]) -> u32
     ensures { result ≡ packed (judge_texts five largest limits plan.now verdict.now) }
 {
     pack(crate::check_texts(plan, verdict))

@@ -12,7 +12,7 @@ ghost use Rattle.verify_texts.specs.Table.{Holds, plan_of};
 use graph::{Admission, Answer, Graph};
 use text_read::VerdictRead;
 
-pub mod board; // board.rt: the check for C, as a board's firmware calls it
+pub mod board; // board.rt: the check as C takes it, for a board's firmware
 
 // The plan is read first, and any refusal there is the answer.
 pub fn check_texts(plan: &[u8], verdict: &[u8]) -> Answer
