@@ -1,4 +1,6 @@
 // The writer: a verdict for every plan.
+#![tactic(auto)]
+
 ghost use Rattle.std.specs.Prelude.{◌≡◌, ◌≤◌};
 ghost use Rattle.connectivity.specs.Plan.{plan, limits};
 ghost use Rattle.removal.specs.Fallen.{none, removed_by};

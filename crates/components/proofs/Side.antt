@@ -152,7 +152,7 @@ module _ {g : Graph} {u v : ℕ} (hu : Vertex g u) (hv : Vertex g v) where
       go : Dec (x ≡ e) → Dec (x ≡ d) → crossing g (joined g (e ∷ d ∷ []) u) x ≡ pair e d x
       go (yes p) (yes q) = absurd (n (reach_twice (sym p ∙ q) re))
       go (yes p) (no m) = rw (eq-eqb x e p, ne_eqb x d m) (needed_crosses u hu hv n x (λ y i. elim (in-cons i) [ inl q ↦ inl (q ∙ sym p) | inr j ↦ inr j ]) rd)
-      go (no k) (yes q) = rw (ne_eqb x e k, eq-eqb x d q) (needed_crosses u hu hv n x (λ y i. elim (in-cons i) [ inl p ↦ inr (first p) | inr j ↦ inl (eq_of_singleton j ∙ sym q) ]) re)
+      go (no k) (yes q) = rw (ne_eqb x e k, eq-eqb x d q) (needed_crosses u hu hv n x (λ y i. elim (in-cons i) [ inl p ↦ inr (first {xs = []} p) | inr j ↦ inl (eq_of_singleton j ∙ sym q) ]) re)
       go (no k) (no m) = rw (ne_eqb x e k, ne_eqb x d m) (only_cut {cut = e ∷ d ∷ []} u x h (λ i. elim (in-cons i) [ inl p ↦ k p | inr j ↦ m (eq_of_singleton j) ]))
 
   pub split_one : {e : ℕ} {cut : List ℕ} → ((y : ℕ) → In y cut → y ≡ e) → Reach g (Without []) u v → (Reach g (Without cut) u v → ⊥) → Split g (λ x. eqb x e) u v

@@ -1,4 +1,6 @@
 // The groups of a plan: which vertices hold together, told by the lowest vertex of each group.
+#![tactic(auto)]
+
 ghost use Rattle.std.specs.Prelude.{◌≤◌, length};
 ghost use Rattle.connectivity.specs.Plan.{plan, graph, limits};
 ghost use Rattle.connectivity.specs.Component.{components};

@@ -1,4 +1,6 @@
 // The check: what 01 answers to a verdict about a plan.
+#![tactic(auto)]
+
 ghost use Rattle.std.specs.Prelude.{◌≡◌};
 ghost use Rattle.connectivity.specs.Plan.{plan, limits};
 ghost use Rattle.connectivity.specs.Admission.{admission, and_then, answer};

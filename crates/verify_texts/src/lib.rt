@@ -1,4 +1,6 @@
 // The check of a plan text and a verdict text. The tables of both have room for every text in the form.
+#![tactic(auto)]
+
 ghost use Rattle.std.specs.Prelude.{◌≡◌};
 ghost use Rattle.connectivity.specs.Plan.{plan, limits};
 ghost use Rattle.graph.specs.Admission.{told_by};

@@ -1,0 +1,16 @@
+-- `singles` meets its contract: a turn for each edge.
+use mathlib.Core.Path.{◌≡◌, subst}
+use Prim.Native.Nat.{ℕ, ◌-◌, ◌/◌, ◌≤◌}
+use native.Mathlib.Omega.{arith}
+use lib.ListN.{length}
+use Rattle.connectivity.specs.Plan.{plan, graph}
+use Rattle.components.specs.Stars.{Singles, Worked}
+use Rattle.components.proofs.Turning.{worked_same, worked_more, worked_turn, working_on, working_setting, singles_turn}
+use Rattle.components.proofs.pairs.singles.Given as goal
+
+abbrev pub invariant-loop-e : goal.invariant-loop-e
+invariant-loop-e l =
+    (l.e ≤ l.edges) × Singles (graph (plan l.vertices l.ends l.excluded)) l.vertices (length l.ends / 2) l.e l.claimed l.table × Worked l.vertices l.initial.claimed l.initial.table l.claimed l.table
+
+abbrev pub decreases-loop-e : goal.decreases-loop-e
+decreases-loop-e l = l.edges - l.e

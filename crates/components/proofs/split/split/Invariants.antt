@@ -1,0 +1,17 @@
+-- `split` meets its contract: the pass over all vertices.
+use borrow.Author.Rules.{rules}
+use Prim.Native.Nat.{ℕ, ◌-◌, ◌≤◌}
+use native.Mathlib.Omega.{arith}
+use mathlib.Core.Path.{◌≡◌, ◌∙◌, subst, refl}
+use lib.ListN.{length}
+use Rattle.components.specs.Splitting.{Placing, Parted, unseen}
+use Rattle.graph.specs.Marks.{read}
+use Rattle.components.proofs.Splitting.{low}
+use borrow.Author.Rules.{rules}
+use Rattle.components.proofs.split.split.Given as goal
+
+abbrev pub invariant-loop-v : goal.invariant-loop-v
+invariant-loop-v l = (l.v ≤ l.vertices) × (length l.other ≡ length l.initial.other) × Placing l.vertices l.v l.marks l.other l.initial.table l.table
+
+abbrev pub decreases-loop-v : goal.decreases-loop-v
+decreases-loop-v l = l.vertices - l.v

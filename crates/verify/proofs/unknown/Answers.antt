@@ -1,0 +1,18 @@
+-- `unknown` meets its contract: a plan that the constructor refuses is refused by its answer, for any other it is 9.
+use mathlib.Core.Path.{sym, ap, ◌∙◌}
+use borrow.Author.Rules.{rules}
+use Rattle.connectivity.specs.Plan.{plan}
+use Rattle.connectivity.proofs.Admission.{passed_then, failed_then, admission_number}
+use Rattle.graph.specs.Admission.{told_by}
+use Rattle.graph.proofs.Lent.{constructed-refused, constructed_admitted}
+use Rattle.verify.proofs.unknown.Goals as goal
+
+pub returns-in-Refused : goal.returns-in-Refused
+returns-in-Refused c =
+    let p = constructed-refused _ _ c.new-made.ensures c.in-Refused.is in
+    p.1 ∙ sym (ap told_by (failed_then _ _ (λ z. p.0 ((admission_number _ (plan _ _ _)).0 z))))
+
+pub returns-in-Admitted : goal.returns-in-Admitted
+returns-in-Admitted c =
+    let p = constructed_admitted _ _ c.new-made.ensures c.in-Admitted.is in
+    sym (ap told_by (passed_then _ _ ((admission_number _ (plan _ _ _)).1 p.admitted)))

@@ -1,0 +1,10 @@
+-- `hearthtansy_check` meets its contract: it packs what `check` answers.
+use mathlib.Core.Path.{ap, ◌∙◌}
+use borrow.Author.Rules.{rules}
+use Rattle.connectivity.specs.Admission as meaning
+use Rattle.graph.specs.declared.Answer.{Answer}
+use Rattle.verify_texts.specs.Board.{packed}
+use Rattle.verify_texts.proofs.board.hearthtansy_check.Goals as goal
+
+pub returns : goal.returns
+returns c = c.pack.ensures ∙ ap (λ (a : Answer). packed (meaning.answer a.number a.place)) c.check.ensures

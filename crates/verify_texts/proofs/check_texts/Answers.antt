@@ -1,0 +1,35 @@
+-- `check_texts` meets its contract: the table has room for every admitted plan, and the verdict is read and judged about what was read of
+-- it.
+use mathlib.Core.Path.{◌≡◌, sym, ap, ◌∙◌}
+use Prim.Native.Nat.{ℕ, ◌+◌, ◌*◌, ◌≤◌}
+use native.Mathlib.Omega.{arith}
+use lib.ListN.{length, replicate, length-replicate}
+use borrow.Author.Rules.{rules}
+use Rattle.connectivity.specs.Plan.{limits}
+use Rattle.graph.specs.Admission.{told_by}
+use Rattle.text.specs.Column.{five, largest}
+use Rattle.text.specs.Plan.{PlanReading}
+use Rattle.verify_texts.specs.Texts.{plan_in, verdict_in, judge_read, judge_texts}
+use Rattle.verify_texts.specs.Table.{Holds, plan_of}
+use Rattle.verify_texts.proofs.Stored.{plan_stored, plan-refused}
+use Rattle.verify_texts.proofs.check_texts.Goals as goal
+
+room : 2 * limits.edges + limits.vertices ≤ length {A = ℕ} (replicate (2 * limits.edges + limits.vertices) 0)
+room = omega (arith, length-replicate {A = ℕ} (2 * limits.edges + limits.vertices) 0)
+
+pub check_read-requires : goal.check_read-requires
+check_read-requires c =
+    let stored : let table = c.read_plan-read.new.table in let graph = c.in-Admitted.graph in Holds graph table × (plan_in five largest limits c.args.plan.now ≡ PlanReading.read (plan_of graph table)) = plan_stored five largest limits _ _ _ _ c.read_plan-read.ensures room _ c.in-Admitted.is in
+    stored.0
+
+pub returns-in-Refused : goal.returns-in-Refused
+unfolding judge_texts
+returns-in-Refused c =
+    plan-refused five largest limits _ _ _ _ c.read_plan-read.ensures room _ _ c.in-Refused.is
+
+pub returns-in-Admitted : goal.returns-in-Admitted
+unfolding judge_texts
+returns-in-Admitted c =
+    let stored : let table = c.read_plan-read.new.table in let graph = c.in-Admitted.graph in Holds graph table × (plan_in five largest limits c.args.plan.now ≡ PlanReading.read (plan_of graph table)) = plan_stored five largest limits _ _ _ _ c.read_plan-read.ensures room _ c.in-Admitted.is in
+    let verdict = verdict_in five largest limits c.args.verdict.now in
+    c.check_read.ensures ∙ sym (ap (λ (x : PlanReading). told_by (judge_read limits x verdict)) stored.1)
