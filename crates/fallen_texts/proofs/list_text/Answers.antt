@@ -18,7 +18,7 @@ room = omega (arith, length-replicate {A = ℕ} (2 * limits.edges + limits.verti
 
 pub list_read-requires : goal.list_read-requires
 list_read-requires c =
-    let stored : let table = c.read_plan-read.new.table in let graph = c.read-in-Admitted-1.given.0.0 in Holds graph table × (plan_in five largest limits c.args.plan.now ≡ PlanReading.read (plan_of graph table)) = plan_stored five largest limits _ _ _ _ c.read_plan-read.ensures room _ c.in-Admitted.is in
+    let stored : let table = c.read_plan-read.new.table in let graph = c.in-Admitted.graph in Holds graph table × (plan_in five largest limits c.args.plan.now ≡ PlanReading.read (plan_of graph table)) = plan_stored five largest limits _ _ _ _ c.read_plan-read.ensures room _ c.in-Admitted.is in
     let s = stored in
     (s.0, planned five largest limits _ s.1, c.requires)
 
@@ -29,5 +29,5 @@ returns-in-Refused c =
 
 pub returns-in-Admitted : goal.returns-in-Admitted
 returns-in-Admitted c =
-    let stored : let table = c.read_plan-read.new.table in let graph = c.read-in-Admitted-1.given.0.0 in Holds graph table × (plan_in five largest limits c.args.plan.now ≡ PlanReading.read (plan_of graph table)) = plan_stored five largest limits _ _ _ _ c.read_plan-read.ensures room _ c.in-Admitted.is in
+    let stored : let table = c.read_plan-read.new.table in let graph = c.in-Admitted.graph in Holds graph table × (plan_in five largest limits c.args.plan.now ≡ PlanReading.read (plan_of graph table)) = plan_stored five largest limits _ _ _ _ c.read_plan-read.ensures room _ c.in-Admitted.is in
     read_begins limits _ stored.1 c.list_read.ensures
