@@ -12,7 +12,7 @@ use cuts::lowest::Lowest;
 use graph::Answer;
 use removal::Fallen;
 
-#[derive(Drop)]
+#[derive(Clone, Copy)]
 pub enum Outcome {
     Refused(Answer),
     Weak,
@@ -20,7 +20,7 @@ pub enum Outcome {
 }
 
 // What is said of a plan; a weak one's cut is named beside it, and the vertices that fall with it.
-#[derive(Drop)]
+#[derive(Clone, Copy)]
 pub struct Finding {
     pub outcome: Outcome,
     pub cut: Lowest,

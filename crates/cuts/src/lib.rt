@@ -21,7 +21,7 @@ mod survey; // survey.rt: the first search, and the excluded vertices behind it
 mod tries; // tries.rt: whether one or two edges disconnect
 
 // What is said of a plan's cuts of at most two edges.
-#[derive(Drop)]
+#[derive(Clone, Copy)]
 pub enum Lightest {
     Refused(Answer),
     NoCut,

@@ -14,7 +14,7 @@ use graph::Graph;
 const HEADS: usize = 1024;
 
 // A cut of at most two edges: how many, and which; unused places are 0. Three for none.
-#[derive(Drop)]
+#[derive(Clone, Copy)]
 pub struct Lowest {
     pub count: u16,
     pub first: u16,

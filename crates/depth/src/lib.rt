@@ -10,7 +10,7 @@ ghost use Rattle.depth.specs.Parts.{Least, Fit, Rooms, EndsAt, Leads, LeadsOn, S
 use graph::{Answer, Graph};
 
 // What a search answers: refused, or how many vertices stand in the order.
-#[derive(Drop)]
+#[derive(Clone, Copy)]
 pub enum Explored {
     Refused(Answer),
     Seen(u16),

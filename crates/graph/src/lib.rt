@@ -9,7 +9,7 @@ ghost use Rattle.graph.specs.Admission.{told_by, handed, constructed, lent, List
 pub mod excluded; // excluded.rt: excluded vertices, and the edges that end there
 
 // An answer to every question asked of these crates (01): a number and a place; 0 and 0 is success.
-#[derive(Drop)]
+#[derive(Clone, Copy)]
 pub struct Answer {
     pub number: u16,
     pub place: u16,
@@ -17,7 +17,7 @@ pub struct Answer {
 
 // A graph (01: plan): how many vertices and edges, and how many of them are kept (02). The table of ends, two for each edge, and the list of
 // excluded vertices stay with the caller.
-#[derive(Drop)]
+#[derive(Clone, Copy)]
 pub struct Graph {
     pub vertices: u16,
     pub edges: u16,
@@ -25,7 +25,7 @@ pub struct Graph {
     pub kept_edges: u16,
 }
 
-#[derive(Drop)]
+#[derive(Clone, Copy)]
 pub enum Admission {
     Admitted(Graph),
     Refused(Answer),

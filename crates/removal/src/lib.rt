@@ -11,14 +11,14 @@ use depth::Explored;
 use graph::{Answer, Graph};
 
 // 02: the vertices that fall, sixty-four marks to a word, the lowest vertex in the lowest bit; and how many are marked.
-#[derive(Drop)]
+#[derive(Clone, Copy)]
 pub struct Fallen {
     pub words: [u64; Fallen::WORDS],
     pub count: u16,
 }
 
 // What is said of a set of edges (01: a set of tabs): 0 and the vertices that fall with it, or a refusal and none.
-#[derive(Drop)]
+#[derive(Clone, Copy)]
 pub struct Removed {
     pub answer: Answer,
     pub fallen: Fallen,

@@ -14,7 +14,7 @@ ghost use Rattle.text_read.specs.Entry.{ReadsPlan, ReadsVerdict};
 use graph::{Admission, Answer};
 use text::HEADER;
 
-#[derive(Drop)]
+#[derive(Clone, Copy)]
 pub enum VerdictRead {
     // the verdict's kind, and how many numbers its list has
     Read { kind: u16, count: usize },

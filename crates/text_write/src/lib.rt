@@ -13,7 +13,7 @@ ghost use Rattle.text_write.specs.Entry.{WritesPlan, WritesVerdict, WritesLines,
 use graph::{Admission, Answer, Graph};
 use text::{ANSWER_SIZE, HEADER, SHORTEST, WIDTH};
 
-#[derive(Drop)]
+#[derive(Clone, Copy)]
 pub enum Written {
     // how many bytes
     Bytes(usize),

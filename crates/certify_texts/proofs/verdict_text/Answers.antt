@@ -1,0 +1,33 @@
+-- `verdict_text` meets its contract: the table has room for every admitted plan, and what is read of the plan is judged.
+use mathlib.Core.Path.{◌≡◌}
+use Prim.Native.Nat.{ℕ, ◌+◌, ◌*◌, ◌≤◌}
+use native.Mathlib.Omega.{arith}
+use lib.ListN.{length, replicate, length-replicate}
+use borrow.Author.Rules.{rules}
+use Rattle.connectivity.specs.Plan.{limits}
+use Rattle.text.specs.Column.{five, largest}
+use Rattle.text.specs.Plan.{PlanReading}
+use Rattle.verify_texts.specs.Texts.{plan_in}
+use Rattle.verify_texts.specs.Table.{Holds, plan_of}
+use Rattle.verify_texts.proofs.Stored.{planned, plan_stored, plan-told}
+use Rattle.certify_texts.specs.Says.{read}
+use Rattle.certify_texts.proofs.Saying.{says_refused}
+use Rattle.certify_texts.proofs.verdict_text.Goals as goal
+
+room : 2 * limits.edges + limits.vertices ≤ length {A = ℕ} (replicate (2 * limits.edges + limits.vertices) 0)
+room = omega (arith, length-replicate {A = ℕ} (2 * limits.edges + limits.vertices) 0)
+
+pub write_read-requires : goal.write_read-requires
+write_read-requires c =
+    let stored : let table = c.read_plan-read.new.table in let graph = c.in-Admitted.graph in Holds graph table × (plan_in five largest limits c.args.plan.now ≡ PlanReading.read (plan_of graph table)) = plan_stored five largest limits _ _ _ _ c.read_plan-read.ensures room _ c.in-Admitted.is in
+    let s = stored in (s.0, planned five largest limits _ s.1)
+
+pub returns-in-Refused : goal.returns-in-Refused
+returns-in-Refused c =
+    let (b, q, e) = plan-told five largest limits _ _ _ _ c.read_plan-read.ensures room _ c.in-Refused.is in
+    says_refused b q e c.write_refusal.ensures
+
+pub returns-in-Admitted : goal.returns-in-Admitted
+returns-in-Admitted c =
+    let stored : let table = c.read_plan-read.new.table in let graph = c.in-Admitted.graph in Holds graph table × (plan_in five largest limits c.args.plan.now ≡ PlanReading.read (plan_of graph table)) = plan_stored five largest limits _ _ _ _ c.read_plan-read.ensures room _ c.in-Admitted.is in
+    let w = c.write_read.ensures in record { kind = w.kind; list = w.list; says = read stored.1 w.says; written = w.written }

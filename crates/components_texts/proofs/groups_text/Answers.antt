@@ -1,0 +1,32 @@
+-- `groups_text` meets its contract: the table has room for every admitted plan, and what is read of the plan is written.
+use mathlib.Core.Path.{◌≡◌}
+use Prim.Native.Nat.{ℕ, ◌+◌, ◌*◌, ◌≤◌}
+use native.Mathlib.Omega.{arith}
+use lib.ListN.{length, replicate, length-replicate}
+use borrow.Author.Rules.{rules}
+use Rattle.connectivity.specs.Plan.{limits}
+use Rattle.text.specs.Column.{five, largest}
+use Rattle.text.specs.Plan.{PlanReading}
+use Rattle.verify_texts.specs.Texts.{plan_in}
+use Rattle.verify_texts.specs.Table.{Holds, plan_of}
+use Rattle.verify_texts.proofs.Stored.{planned, plan_stored, plan-told}
+use Rattle.components_texts.proofs.Answering.{refused_written, read_written}
+use Rattle.components_texts.proofs.groups_text.Goals as goal
+
+room : 2 * limits.edges + limits.vertices ≤ length {A = ℕ} (replicate (2 * limits.edges + limits.vertices) 0)
+room = omega (arith, length-replicate {A = ℕ} (2 * limits.edges + limits.vertices) 0)
+
+pub write_read-requires : goal.write_read-requires
+write_read-requires c =
+    let stored : let table = c.read_plan-read.new.table in let graph = c.in-Admitted.graph in Holds graph table × (plan_in five largest limits c.args.plan.now ≡ PlanReading.read (plan_of graph table)) = plan_stored five largest limits _ _ _ _ c.read_plan-read.ensures room _ c.in-Admitted.is in
+    let s = stored in (s.0, planned five largest limits _ s.1)
+
+pub returns-in-Refused : goal.returns-in-Refused
+returns-in-Refused c =
+    let (b, q, e) = plan-told five largest limits _ _ _ _ c.read_plan-read.ensures room _ c.in-Refused.is in
+    refused_written b q e c.write_number.ensures
+
+pub returns-in-Admitted : goal.returns-in-Admitted
+returns-in-Admitted c =
+    let stored : let table = c.read_plan-read.new.table in let graph = c.in-Admitted.graph in Holds graph table × (plan_in five largest limits c.args.plan.now ≡ PlanReading.read (plan_of graph table)) = plan_stored five largest limits _ _ _ _ c.read_plan-read.ensures room _ c.in-Admitted.is in
+    read_written _ stored.1 c.write_read.ensures
