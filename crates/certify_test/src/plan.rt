@@ -36,7 +36,7 @@ const MAX_LISTED: u16 = 16;
 // `named` vertices and the edges get new numbers, from the seeds `names` and `places`. `length` ends are handed over, and `space` numbers for
 // the record. Ends and excluded vertices stand in one list (`placed`), in which the number at `large` is too large, that at `low` is 0, and those
 // at twice `twice` and behind it are the same, if they are handed over.
-#[derive(Drop)]
+#[derive(Clone, Copy)]
 pub struct Plan {
     pub seed: u32,
     pub tails: u64,

@@ -121,7 +121,7 @@ fn mark(e: u16, times: u16, seed: u32) -> u8 {
 }
 
 // A search: from `root`, behind `seen` places of the order, where one of so many edges is dead and one of so many vertices has a mark.
-#[derive(Drop)]
+#[derive(Clone, Copy)]
 struct Walk {
     root: u16,
     seen: u16,

@@ -1,6 +1,5 @@
 -- `main` is safe and ends. The loop's invariant: the place in the text is in its range.
 use Prim.Native.Nat.{◌-◌, ◌≤◌}
-use borrow.Author.Rules.{rules}
 use Rattle.removal_test.proofs.main.Given as goal
 
 abbrev pub invariant-loop-i : goal.invariant-loop-i

@@ -1,6 +1,5 @@
 -- `marks` is safe and ends.
 use Prim.Native.Nat.{◌-◌, ◌≤◌}
-use borrow.Author.Rules.{rules}
 use Rattle.removal_test.proofs.marks.Given as goal
 
 abbrev pub invariant-loop-v : goal.invariant-loop-v
