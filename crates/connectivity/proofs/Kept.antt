@@ -15,7 +15,7 @@ use lib.ListN.{length, get_or}
 use borrow.Author.Tests.{ltb-false}
 use Rattle.connectivity.specs.Lists.{Ordered, nil, range, keep, mem}
 use Rattle.connectivity.specs.Graph.{Vertex, Edge, is_vertex, is_edge, vertices, edges}
-use Rattle.connectivity.specs.Plan.{Plan, plan, entire, graph, Limits}
+use Rattle.connectivity.specs.Plan.{Plan, entire, graph, Limits}
 use Rattle.connectivity.specs.Admission.{answer, passed, and_then, kept_vertices, Admitted, ends_answer, excluded_answer, kept_answer, admission}
 use Rattle.connectivity.proofs.Lists.{T_true, in_dec, not_mem, keep_is, keep-length, range_is, length-range}
 use Rattle.connectivity.proofs.Search.{is_vertex_lem, is_edge_lem, vertices_are}

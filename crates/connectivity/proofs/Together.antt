@@ -9,7 +9,7 @@ use Prim.Native.Nat.{ℕ, ◌≤◌, ◌<◌}
 use native.Mathlib.Omega.{arith}
 use lib.Dec.{T_not, not_T}
 use lib.ListN.{length}
-use Rattle.connectivity.specs.Lists.{mem, all}
+use Rattle.connectivity.specs.Lists.{mem}
 use Rattle.connectivity.specs.Graph.{Graph, Vertex, Edge, edges}
 use Rattle.connectivity.specs.Reach.{Reach, here, Without}
 use Rattle.connectivity.specs.Cut.{EdgeSet, unreached}

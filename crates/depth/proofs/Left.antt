@@ -11,7 +11,7 @@ use lib.ListN.{get_or}
 use borrow.Author.Tests.{eq-eqb, ne_eqb, lt-ltb, le-ltb}
 use Rattle.connectivity.specs.Lists.{mem}
 use Rattle.connectivity.specs.Plan.{Plan, graph, Limits}
-use Rattle.connectivity.specs.Graph.{Graph, Vertex, is_vertex, vertices}
+use Rattle.connectivity.specs.Graph.{Graph, Vertex, is_vertex}
 use Rattle.connectivity.specs.Reach.{Reach, Without, Disconnects}
 use Rattle.connectivity.specs.Cut.{cut_off, disconnects}
 use Rattle.connectivity.specs.Admission.{kept_vertices}

@@ -5,17 +5,17 @@ use mathlib.Core.List.{List, [], ◌∷◌}
 use Prim.Native.Nat.{ℕ, zero, suc, ◌+◌, ◌*◌, ◌-◌, ◌/◌, ◌%◌, ◌^◌, ◌≤◌, ◌<◌}
 use native.Mathlib.Omega.{arith}
 use native.Mathlib.Numerals.{add-one}
-use native.Mathlib.Nat.{mul-zero, pow-suc, one-le-pow, mod-lt, mod-one, mod-eq_of_lt, div-eq_of_lt, mul-add, mul_assoc, mul-le-mul_left}
+use native.Mathlib.Nat.{mul-zero, pow-suc, one-le-pow, mul-add, mul_assoc, mul-le-mul_left}
 use lib.Dec.{eqb, ltb, leb}
 use lib.ListN.{length, take, drop, get_or}
 use lib.Seq.{drop-cons}
-use borrow.Author.Tests.{ltb-true, leb-true, eq-eqb, ne_eqb}
+use borrow.Author.Tests.{ltb-true, leb-true, ne_eqb}
 use Rattle.text.specs.Column.{worths, digit, value, same}
-use Rattle.text.proofs.Laws.{and_true, same_true, same_refl, digit_most, value_most, col_long, col_at}
-use Rattle.text.proofs.Digits.{digit_shown, more}
+use Rattle.text.proofs.Laws.{and_true, digit_most, value_most, col_long, col_at}
 use Rattle.text_read.proofs.Columns.{nothing, digit_here, both_told, one_most}
-use Rattle.drawn.specs.Length.{length_worths, eight, thousand, length_byte, length_column, length_fits}
-use Rattle.drawn.specs.Line.{zero_at, misfit, misfits}
+use Rattle.drawn.specs.Length.{length_worths, eight, length_byte, length_column, length_fits}
+use Rattle.drawn.specs.Drawing.{Letter, full, half, full_kerf}
+use Rattle.drawn.specs.Line.{longest, zero_at, misfit, misfits}
 
 -- the worths
 
@@ -49,6 +49,16 @@ value_below zero d (b ∷ bytes) = rw (zero_sum d) (omega (arith, value_most d b
 value_below (suc w) d [] = one-le-pow (suc w + d) 10 (omega arith)
 value_below (suc w) d (b ∷ bytes) =
     rw (suc_sum w d, pow-suc 10 (w + d)) (omega (arith, value_below w d bytes, mul-le-mul_left (10 ^ (w + d)) (digit_most b)))
+
+pub eight_below : (bytes : List ℕ) → value eight bytes ≤ longest
+unfolding length_worths worths
+eight_below bytes = let p = value_below 4 3 bytes in omega (arith, p)
+
+-- a kerf counts twice at most
+pub kerf_most : (a : Letter) (k : ℕ) → full_kerf a k ≤ 2 * k
+unfolding full_kerf
+kerf_most full k = omega arith
+kerf_most half k = omega arith
 
 -- the bytes in the form
 

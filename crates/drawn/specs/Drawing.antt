@@ -1,5 +1,5 @@
 -- A drawn list, which of its tabs are taken, and the plan that they make.
-use Rattle.std.specs.Prelude.{◌≡◌, cond, List, [], ◌∷◌, ℕ, suc, ◌+◌, ◌*◌, ◌≤◌, ◌<◌, leb, length}
+use Rattle.std.specs.Prelude.{cond, List, [], ◌∷◌, ℕ, suc, ◌+◌, ◌*◌, ◌≤◌, leb}
 use Rattle.connectivity.specs.Plan.{Plan, entire}
 
 -- 02: a drawn tab: two pieces and a gap

@@ -1,5 +1,5 @@
 -- A length, a letter, a header and a line as the code goes over them. No part of the meaning.
-use Rattle.std.specs.Prelude.{◌≡◌, Bool, true, cond, ◌&&◌, ◌||◌, List, [], ◌∷◌, ℕ, ◌+◌, ◌*◌, ◌≤◌, eqb, ltb, leb, length}
+use Rattle.std.specs.Prelude.{◌≡◌, true, cond, ◌&&◌, List, [], ◌∷◌, ℕ, ◌+◌, ◌*◌, ◌≤◌, eqb, ltb, leb, length}
 use Rattle.std.proofs.lemmas.List.Edits.{sets}
 use Rattle.connectivity.specs.Admission.{Answer, answer, ends_answer}
 use Rattle.text.specs.Column.{digit, value}

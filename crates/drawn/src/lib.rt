@@ -1,4 +1,6 @@
 // Drawn lists (02, note 5): read, judged, and the drawn tabs taken that are wide enough. A refusal leaves both tables unchanged.
+#![tactic(auto)]
+
 mod judge;
 mod length;
 mod line;

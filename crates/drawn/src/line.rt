@@ -21,7 +21,7 @@ const FULL: u8 = b'F';
 const HALF: u8 = b'H';
 
 // The first line as it was read: whether it is in the form, and then its numbers, lengths in thousandths; the kerf is the full one.
-#[derive(Drop)]
+#[derive(Clone, Copy)]
 pub(crate) struct Header {
     pub fits: bool,
     pub vertices: u16,

@@ -30,7 +30,7 @@ use Rattle.text_write.specs.declared.Written.TheVariants as written
 use Rattle.text_write.proofs.Result.{bytes_told}
 use Rattle.verify_texts.specs.Texts.{plan_in}
 use Rattle.verify_texts.proofs.Stored.{planned}
-use Rattle.fallen_texts.specs.Falls.{falls, numbers_of, write_fallen, WritesFallen}
+use Rattle.fallen_texts.specs.Falls.{numbers_of, write_fallen, WritesFallen}
 
 -- The lowest vertex never falls.
 

@@ -1,7 +1,6 @@
 -- The answer about a plan and its record: refused, weak or firm as the definition has it, and what the lent list then holds.
-use Rattle.std.proofs.Common.{◌≡◌, ℕ, ◌*◌, ◌<◌, ◌≤◌, ◌⊎◌, List, [], ◌∷◌, length, take, drop, sym, refl, ap, ◌∙◌, subst, inl, inr, arith, take_at, drop_at}
+use Rattle.std.proofs.Common.{◌≡◌, ℕ, ◌*◌, ◌<◌, ◌≤◌, List, [], ◌∷◌, length, take, drop, sym, refl, ap, ◌∙◌, subst, arith, take_at, drop_at}
 use mathlib.Core.Option.{Option, none, some}
-use denote.Enum.Declared.{tag_of}
 use Rattle.connectivity.specs.Plan.{Plan, graph, limits}
 use Rattle.connectivity.specs.Cut.{lowest_cut}
 use Rattle.connectivity.specs.Admission.{kept_edges, Admitted, answer, passed, admission}
@@ -18,7 +17,6 @@ use Rattle.graph.specs.declared.Answer.{Answer}
 use Rattle.cuts.specs.declared.lowest.Lowest.{Lowest}
 use Rattle.cuts.specs.declared.Lightest.{Lightest}
 use Rattle.cuts.specs.declared.Lightest.TheVariants as light
-use Rattle.cuts.specs.contracts.Lightest as lightest
 use Rattle.cuts.specs.Verdict.{handed, lowest_handed}
 use Rattle.cuts.proofs.Handing.{told_of, handed-told, told_back}
 use Rattle.record.specs.Recording.{Sturdy, Recorded}

@@ -1,5 +1,5 @@
 -- What the tables say while a record is written: the edges at each vertex, and what stays as it is.
-use Rattle.std.specs.Prelude.{◌≡◌, ℕ, ◌+◌, ◌-◌, ◌<◌, ◌≤◌, List, length, ◌≢◌}
+use Rattle.std.specs.Prelude.{◌≡◌, ℕ, ◌+◌, ◌<◌, ◌≤◌, List, length, ◌≢◌}
 use Rattle.connectivity.specs.Plan.{Plan, graph, listed, Limits}
 use Rattle.connectivity.specs.Graph.{Joins}
 use Rattle.connectivity.specs.Reach.{ThreeEdgeConnected}

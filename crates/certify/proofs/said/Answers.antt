@@ -1,6 +1,5 @@
 -- `said` meets its contract.
 use mathlib.Core.Path.{ap}
-use borrow.Author.Rules.{rules}
 use Rattle.removal.specs.declared.Fallen.{Fallen}
 use Rattle.certify.specs.Answered.{unnamed}
 use Rattle.certify.proofs.said.Goals as goal

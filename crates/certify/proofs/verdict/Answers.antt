@@ -1,6 +1,5 @@
 -- `verdict` meets its contract: each answer about the record is told as an outcome, a weak one with what falls with its cut.
 use mathlib.Core.Path.{sym, ap, ◌∙◌}
-use borrow.Author.Rules.{rules}
 use Rattle.connectivity.specs.Plan.{plan, limits}
 use Rattle.certify.proofs.Outcomes.{weak_told}
 use Rattle.certify.proofs.Answering.{finding, answers}

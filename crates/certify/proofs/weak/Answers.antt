@@ -1,7 +1,6 @@
 -- `weak` meets its contract: the list that is removed is that of the named edges.
 use mathlib.Core.Path.{ap}
 use native.Mathlib.Omega.{arith}
-use borrow.Author.Rules.{rules}
 use lib.ListN.{length-take}
 use Rattle.removal.specs.declared.Removed.{Removed}
 use Rattle.certify.specs.declared.Outcome.TheVariants.{Weak}

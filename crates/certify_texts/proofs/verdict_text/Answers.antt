@@ -3,7 +3,6 @@ use mathlib.Core.Path.{◌≡◌}
 use Prim.Native.Nat.{ℕ, ◌+◌, ◌*◌, ◌≤◌}
 use native.Mathlib.Omega.{arith}
 use lib.ListN.{length, replicate, length-replicate}
-use borrow.Author.Rules.{rules}
 use Rattle.connectivity.specs.Plan.{limits}
 use Rattle.text.specs.Column.{five, largest}
 use Rattle.text.specs.Plan.{PlanReading}

@@ -4,7 +4,6 @@ use mathlib.Core.Path.{◌≡◌, sym, subst}
 use Prim.Native.Nat.{ℕ, ◌*◌, ◌≤◌}
 use native.Mathlib.Omega.{arith}
 use lib.ListN.{length, take, replicate, length-take, length-replicate}
-use borrow.Author.Rules.{rules}
 use Rattle.connectivity.specs.Plan.{Plan, plan, limits}
 use Rattle.graph.proofs.Barring.{edges_few}
 use Rattle.certify.specs.Answered.{named}

@@ -2,7 +2,6 @@
 use mathlib.Core.Path.{sym, ap, subst, ◌∙◌}
 use native.Mathlib.Omega.{arith}
 use lib.ListN.{length-take}
-use borrow.Author.Rules.{rules}
 use Rattle.connectivity.specs.Plan.{Plan, limits}
 use Rattle.connectivity.specs.Admission.{kept_edges, Admitted}
 use Rattle.text.specs.Column.{five}

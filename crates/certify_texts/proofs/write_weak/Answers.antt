@@ -1,5 +1,4 @@
 -- `write_weak` meets its contract: the list's front has the edges that the cut names.
-use borrow.Author.Rules.{rules}
 use native.Mathlib.Omega.{arith}
 use lib.ListN.{length-take}
 use Rattle.certify_texts.proofs.write_weak.Goals as goal

@@ -1,7 +1,6 @@
 -- `chain` meets its contract: too short, or cleared and linked.
 use mathlib.Core.Path.{ap, ◌∙◌}
 use Prim.Native.Nat.{ℕ, ◌≤◌, ◌<◌}
-use borrow.Author.Rules.{rules}
 use lib.ListN.{length, length-replicate}
 use Rattle.chains.proofs.Linking.{chained_short, link_ready, chained_linked}
 use Rattle.chains.proofs.chain.Goals as goal

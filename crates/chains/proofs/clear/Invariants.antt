@@ -1,12 +1,7 @@
 -- `clear` meets its contract. The loop's invariant: the numbers before place i are 0.
-use mathlib.Core.Path.{◌≡◌, refl, ◌∙◌}
+use mathlib.Core.Path.{◌≡◌}
 use Prim.Native.Nat.{ℕ, ◌-◌, ◌≤◌, ◌<◌}
-use native.Mathlib.Omega.{arith}
-use borrow.Author.Rules.{rules}
-use borrow.Author.Count.{below_more}
-use lib.ListN.{length, get_or, set, length-set}
-use lib.Seq.{get_or-set_same, get_or-set_other}
-use Rattle.chains.proofs.Linking.{all_zero}
+use lib.ListN.{length, get_or}
 use Rattle.chains.proofs.clear.Given as goal
 
 abbrev pub invariant-loop-i : goal.invariant-loop-i

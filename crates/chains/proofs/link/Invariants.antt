@@ -1,12 +1,7 @@
 -- `link` meets its contract. The loop's invariant: the edges from e on stand on their chains.
-use mathlib.Core.Path.{◌≡◌, ap, subst, ◌∙◌}
-use Prim.Native.Nat.{ℕ, ◌-◌, ◌≤◌}
-use native.Mathlib.Omega.{arith}
-use borrow.Author.Rules.{rules}
-use lib.ListN.{length, get_or}
-use Rattle.chains.specs.Chains.{key_of}
+use Prim.Native.Nat.{◌≤◌}
+use lib.ListN.{length}
 use Rattle.chains.specs.Parts.{Linked}
-use Rattle.chains.proofs.Linking.{linked_start, linked_step}
 use Rattle.chains.proofs.link.Given as goal
 
 abbrev pub invariant-loop-e : goal.invariant-loop-e

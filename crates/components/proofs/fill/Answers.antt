@@ -1,5 +1,4 @@
 -- `fill` meets its contract: labels, bodies, then the cuts.
-use borrow.Author.Rules.{rules}
 use Rattle.components.proofs.Serving.{labelled_forest, labelled_low, labelled_ordered, labelled_stage, found_front}
 use Rattle.components.proofs.fill.Goals as goal
 

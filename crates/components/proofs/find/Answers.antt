@@ -1,5 +1,4 @@
 -- `find` meets its contract: refused, or filled.
-use borrow.Author.Rules.{rules}
 use Rattle.connectivity.specs.Plan.{Plan, plan, limits}
 use Rattle.components.proofs.Serving.{answer_ready, answer-served, answer-refused}
 use Rattle.components.proofs.find.Goals as goal

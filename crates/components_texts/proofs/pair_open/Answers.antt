@@ -1,6 +1,6 @@
 -- `pair_open` meets its contract. The loop's invariant: the list is filled with the pairs of the numbers below v that have no mark.
 use mathlib.Core.Path.{◌≡◌, subst}
-use Prim.Native.Nat.{ℕ, ◌-◌, ◌≤◌}
+use Prim.Native.Nat.{ℕ}
 use native.Mathlib.Omega.{arith}
 use Rattle.connectivity.specs.Lists.{range, keep}
 use Rattle.graph.specs.Excluded.{is_open}

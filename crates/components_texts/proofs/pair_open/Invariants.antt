@@ -1,11 +1,8 @@
 -- `pair_open` meets its contract. The loop's invariant: the list is filled with the pairs of the numbers below v that have no mark.
-use mathlib.Core.Path.{◌≡◌, subst}
-use Prim.Native.Nat.{ℕ, ◌-◌, ◌≤◌}
-use native.Mathlib.Omega.{arith}
+use Prim.Native.Nat.{◌-◌, ◌≤◌}
 use Rattle.connectivity.specs.Lists.{range, keep}
 use Rattle.graph.specs.Excluded.{is_open}
 use Rattle.components_texts.specs.Pairs.{Paired}
-use Rattle.components_texts.proofs.Listing.{paired_start, paired_room, paired_long, paired_step}
 use Rattle.components_texts.proofs.pair_open.Given as goal
 
 abbrev pub invariant-loop-v : goal.invariant-loop-v

@@ -1,7 +1,6 @@
 -- `put` meets its contract: nothing is written where there is a mark, else one pair.
 use native.Mathlib.Omega.{arith}
 use lib.ListN.{length-set}
-use borrow.Author.Rules.{rules}
 use Rattle.components_texts.proofs.Listing.{pair_none, pair_one}
 use Rattle.components_texts.proofs.put.Goals as goal
 

@@ -2,7 +2,6 @@
 use mathlib.Core.Path.{sym, subst}
 use native.Mathlib.Omega.{arith}
 use lib.ListN.{length-take}
-use borrow.Author.Rules.{rules}
 use Rattle.connectivity.specs.Plan.{Plan, graph, limits}
 use Rattle.connectivity.specs.Admission.{Admitted}
 use Rattle.text.specs.Column.{five}

@@ -1,7 +1,6 @@
 -- `lowest_cut` meets its contract: a refusal, and all tables stay; or the lowest cut, and the tables by vertex and the search.
 use Rattle.connectivity.specs.Plan.{plan}
 use Rattle.cuts.proofs.Serving.{answers_refused, told_space, filled-tables, answers_served}
-use borrow.Author.Rules.{rules}
 use Rattle.cuts.proofs.lowest_cut.Goals as goal
 
 pub returns-then-answer-ne0 : goal.returns-then-answer-ne0

@@ -1,6 +1,5 @@
 -- `lowest_filled` meets its contract: its tables have room for every plan, and no mark is set but those of the edges of excluded vertices.
 use Rattle.cuts.proofs.Answers.{filled_cut, filled_spaces, told-handed}
-use borrow.Author.Rules.{rules}
 use Rattle.cuts.proofs.lowest_filled.Goals as goal
 
 pub lowest_over-requires : goal.lowest_over-requires

@@ -2,7 +2,6 @@
 use Rattle.connectivity.proofs.Kept.{admitted_count}
 use Rattle.cuts.proofs.Answers.{uncut_yet, found_parted, found_whole}
 use native.Mathlib.Omega.{arith}
-use borrow.Author.Rules.{rules}
 use Rattle.cuts.proofs.lowest_over.Goals as goal
 
 pub survey-count-requires : goal.survey-count-requires

@@ -6,7 +6,6 @@ use lib.ListN.{length, set, length-set}
 use Rattle.graph.proofs.Joined.{joins_edge}
 use Rattle.depth.proofs.Edges.{new_is}
 use Rattle.connectivity.specs.Plan.{entire}
-use borrow.Author.Rules.{rules}
 use Rattle.depth.proofs.descend.Goals as goal
 
 pub overflow_add-e : goal.overflow_add-e

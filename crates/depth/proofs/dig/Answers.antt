@@ -1,13 +1,8 @@
 -- `dig` meets its contract. The loop's invariant: `Digging`, for whatever the tables were before the root was entered.
-use mathlib.Core.Path.{◌≡◌, ◌∙◌}
-use mathlib.Core.List.{List}
-use Prim.Native.Nat.{ℕ, ◌+◌, ◌-◌}
+use mathlib.Core.Path.{◌∙◌}
 use native.Mathlib.Omega.{arith}
-use borrow.Author.Rules.{rules}
-use lib.ListN.{set}
 use Rattle.connectivity.specs.Plan.{entire}
-use Rattle.depth.specs.Depth.{root_mark, Fresh}
-use Rattle.depth.specs.Parts.{Rooms, GoesOn}
+use Rattle.depth.specs.Parts.{GoesOn}
 use Rattle.depth.proofs.Digging.{Digging, digging_start, digging_rooms, digging_deep, at_entered, digging_turn, turn_less, digging_end}
 use Rattle.depth.proofs.Walk.{walk_first_long, walk_order_long}
 use Rattle.depth.proofs.dig.Goals as goal

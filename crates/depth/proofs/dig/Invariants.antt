@@ -1,15 +1,12 @@
 -- `dig` meets its contract. The loop's invariant: `Digging`, for whatever the tables were before the root was entered.
-use mathlib.Core.Path.{◌≡◌, ◌∙◌}
+use mathlib.Core.Path.{◌≡◌}
 use mathlib.Core.List.{List}
 use Prim.Native.Nat.{ℕ, ◌+◌, ◌-◌}
-use native.Mathlib.Omega.{arith}
-use borrow.Author.Rules.{rules}
 use lib.ListN.{set}
 use Rattle.connectivity.specs.Plan.{entire}
 use Rattle.depth.specs.Depth.{root_mark, Fresh}
-use Rattle.depth.specs.Parts.{Rooms, GoesOn}
-use Rattle.depth.proofs.Digging.{Digging, digging_start, digging_rooms, digging_deep, at_entered, digging_turn, turn_less, digging_end}
-use Rattle.depth.proofs.Walk.{walk_first_long, walk_order_long}
+use Rattle.depth.specs.Parts.{Rooms}
+use Rattle.depth.proofs.Digging.{Digging}
 use Rattle.depth.proofs.dig.Given as goal
 
 abbrev pub invariant-loop-first : goal.invariant-loop-first

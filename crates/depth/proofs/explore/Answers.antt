@@ -6,7 +6,6 @@ use Rattle.connectivity.specs.Admission.{passed}
 use Rattle.depth.specs.Depth.{told}
 use Rattle.depth.specs.Parts.{Fit, Rooms}
 use Rattle.depth.proofs.Outcomes.{told_zero, told_passed, told-refused, told-fits, from_cases}
-use borrow.Author.Rules.{rules}
 use Rattle.depth.proofs.explore.Goals as goal
 
 pub returns-then-number-ne0 : goal.returns-then-number-ne0

@@ -2,7 +2,6 @@
 use native.Mathlib.Omega.{arith}
 use Prim.Native.Nat.{◌+◌}
 use Rattle.depth.proofs.Edges.{ends_last, ends_cut, ends_next}
-use borrow.Author.Rules.{rules}
 use Rattle.depth.proofs.group_end.Goals as goal
 
 pub returns-then-next-vertices : goal.returns-then-next-vertices

@@ -3,7 +3,6 @@ use native.Mathlib.Omega.{arith}
 use Rattle.depth.proofs.Edges.{lead_outside, lead_dead, lead_right, lead_left, lead_neither}
 use Rattle.connectivity.specs.Plan.{entire}
 use Rattle.connectivity.proofs.Kept.{entire_vertex}
-use borrow.Author.Rules.{rules}
 use Rattle.depth.proofs.lead.Goals as goal
 
 pub returns-then-at-ends : goal.returns-then-at-ends

@@ -2,7 +2,6 @@
 use native.Mathlib.Omega.{arith}
 use Rattle.depth.proofs.Edges.{on_none, on_old, on_new}
 use Rattle.connectivity.specs.Plan.{entire}
-use borrow.Author.Rules.{rules}
 use Rattle.depth.proofs.leads_on.Goals as goal
 
 pub returns-then-w-vertices : goal.returns-then-w-vertices

@@ -1,6 +1,5 @@
 -- `least` meets its contract, by what `lower` tells of each pair.
 use native.Mathlib.Omega.{arith}
-use borrow.Author.Rules.{rules}
 use Rattle.depth.proofs.least.Goals as goal
 
 pub returns : goal.returns

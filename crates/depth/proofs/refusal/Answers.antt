@@ -3,7 +3,6 @@ use mathlib.Core.Path.{◌≡◌, sym, ap, ◌∙◌}
 use Rattle.connectivity.specs.Plan.{entire, limits}
 use Rattle.connectivity.specs.Admission.{Answer}
 use Rattle.depth.proofs.Counts.{refused-counts, refused_short_lem, refused_not, enough_places}
-use borrow.Author.Rules.{rules}
 use Rattle.depth.proofs.refusal.Goals as goal
 
 -- from an answer to its number

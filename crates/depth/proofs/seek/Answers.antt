@@ -1,12 +1,7 @@
 -- `seek` meets its contract. The loop's invariant: the edges from the first place up to i lead to nothing new.
 use mathlib.Core.Path.{refl}
-use Prim.Native.Nat.{ℕ, ◌-◌, ◌≤◌, ◌<◌}
 use native.Mathlib.Omega.{arith}
-use Rattle.connectivity.specs.Plan.{entire}
-use borrow.Author.Rules.{rules}
 use borrow.Author.Count.{below_more}
-use lib.ListN.{get_or}
-use Rattle.depth.specs.Parts.{Old}
 use Rattle.depth.proofs.seek.Goals as goal
 
 pub loop-i-init : goal.loop-i-init

@@ -2,7 +2,6 @@
 use mathlib.Core.Path.{refl}
 use native.Mathlib.Omega.{arith}
 use Rattle.depth.specs.Parts.{down, up}
-use borrow.Author.Rules.{rules}
 use Rattle.depth.proofs.turn.Goals as goal
 
 pub overflow_cast-start : goal.overflow_cast-start

@@ -1,9 +1,7 @@
 -- `undo` meets its contract. The loop's invariant: the marks of the vertices at the places from the first up to i are 0.
-use Prim.Native.Nat.{ℕ, ◌+◌, ◌-◌, ◌≤◌, ◌<◌}
+use Prim.Native.Nat.{◌+◌}
 use native.Mathlib.Omega.{arith}
-use borrow.Author.Rules.{rules}
 use borrow.Author.Count.{below_more}
-use Rattle.depth.specs.Depth.{Undone}
 use Rattle.depth.proofs.Undoing.{undoing_start, undoing_step, undoing_end}
 use Rattle.depth.proofs.undo.Goals as goal
 

@@ -1,10 +1,6 @@
 -- `undo` meets its contract. The loop's invariant: the marks of the vertices at the places from the first up to i are 0.
-use Prim.Native.Nat.{ℕ, ◌+◌, ◌-◌, ◌≤◌, ◌<◌}
-use native.Mathlib.Omega.{arith}
-use borrow.Author.Rules.{rules}
-use borrow.Author.Count.{below_more}
+use Prim.Native.Nat.{ℕ, ◌-◌, ◌≤◌, ◌<◌}
 use Rattle.depth.specs.Depth.{Undone}
-use Rattle.depth.proofs.Undoing.{undoing_start, undoing_step, undoing_end}
 use Rattle.depth.proofs.undo.Given as goal
 
 abbrev pub invariant-loop-i : goal.invariant-loop-i

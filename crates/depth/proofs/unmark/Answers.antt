@@ -1,7 +1,6 @@
 -- `unmark` meets its contract: a mark behind the last place changes nothing.
 use mathlib.Core.Path.{sym}
 use native.Mathlib.Omega.{arith}
-use borrow.Author.Rules.{rules}
 use lib.Seq.{set_out}
 use Rattle.depth.proofs.unmark.Goals as goal
 

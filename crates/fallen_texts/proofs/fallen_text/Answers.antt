@@ -2,7 +2,6 @@
 use native.Mathlib.Omega.{arith}
 use lib.ListN.{length-take}
 use Rattle.fallen_texts.proofs.Answering.{lines_written}
-use borrow.Author.Rules.{rules}
 use Rattle.fallen_texts.proofs.fallen_text.Goals as goal
 
 pub slice_bounds-list-end : goal.slice_bounds-list-end

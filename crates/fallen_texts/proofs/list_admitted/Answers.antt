@@ -9,7 +9,6 @@ use Rattle.connectivity.specs.Admission.{kept_edges}
 use Rattle.graph.proofs.Barring.{edges_few}
 use Rattle.fallen_texts.specs.Listing.{Begins}
 use Rattle.fallen_texts.proofs.Answering.{words_long, marked-falls}
-use borrow.Author.Rules.{rules}
 use Rattle.fallen_texts.proofs.list_admitted.Goals as goal
 
 pub unpack-requires : goal.unpack-requires

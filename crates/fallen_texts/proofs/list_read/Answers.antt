@@ -7,7 +7,6 @@ use Rattle.connectivity.specs.Admission.{Admitted}
 use Rattle.verify_texts.proofs.Stored.{plan_parts}
 use Rattle.fallen_texts.specs.Falls.{falls}
 use Rattle.fallen_texts.specs.Listing.{Begins}
-use borrow.Author.Rules.{rules}
 use Rattle.fallen_texts.proofs.list_read.Goals as goal
 
 pub slice_bounds-list_admitted-end : goal.slice_bounds-list_admitted-end

@@ -10,7 +10,6 @@ use Rattle.verify_texts.specs.Texts.{plan_in}
 use Rattle.verify_texts.specs.Table.{Holds, plan_of}
 use Rattle.verify_texts.proofs.Stored.{planned, plan_stored, plan-told}
 use Rattle.fallen_texts.proofs.Answering.{number_begins, read_begins}
-use borrow.Author.Rules.{rules}
 use Rattle.fallen_texts.proofs.list_text.Goals as goal
 
 room : 2 * limits.edges + limits.vertices ≤ length {A = ℕ} (replicate (2 * limits.edges + limits.vertices) 0)

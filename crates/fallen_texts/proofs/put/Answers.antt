@@ -1,6 +1,5 @@
 -- `put` meets its contract: a vertex without a mark leaves the list, one with a mark is put behind it.
 use native.Mathlib.Omega.{arith}
-use borrow.Author.Rules.{rules}
 use Rattle.fallen_texts.proofs.Listing.{more_none, more_one}
 use Rattle.fallen_texts.proofs.put.Goals as goal
 

@@ -1,11 +1,8 @@
 -- `put_marked` meets its contract. The loop's invariant: the list begins with the number and the marked vertices below v.
-use mathlib.Core.Path.{◌≡◌, refl, subst, ◌∙◌}
-use mathlib.Core.List.{List}
-use Prim.Native.Nat.{ℕ, ◌+◌, ◌-◌, ◌≤◌}
-use native.Mathlib.Omega.{arith}
-use lib.ListN.{length, length-set}
+use mathlib.Core.Path.{◌≡◌}
+use Prim.Native.Nat.{◌+◌, ◌-◌, ◌≤◌}
+use lib.ListN.{length}
 use Rattle.fallen_texts.specs.Listing.{marked_below, Begins}
-use Rattle.fallen_texts.proofs.Listing.{marked_start, marked_next}
 use Rattle.fallen_texts.proofs.put_marked.Given as goal
 
 abbrev pub invariant-loop-v : goal.invariant-loop-v

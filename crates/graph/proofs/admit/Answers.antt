@@ -10,7 +10,6 @@ use Rattle.graph.specs.declared.Admission.TheVariants.{Refused}
 use Rattle.graph.specs.Admission.{handed}
 use Rattle.graph.proofs.Laws.{fallen, kept_left, too_bare, is_admitted, fits}
 use native.Mathlib.Omega.{arith}
-use borrow.Author.Rules.{rules}
 use Rattle.graph.proofs.admit.Goals as goal
 
 pub returns-then-number-ne0 : goal.returns-then-number-ne0

@@ -1,13 +1,9 @@
 -- `first_misfit` meets its contract. The loop's invariant: the answer is the one from edge e on.
-use mathlib.Core.Path.{◌≡◌, refl, sym, ap, ◌∙◌}
-use Prim.Native.Nat.{ℕ, ◌*◌, ◌/◌, ◌-◌, ◌≤◌}
-use native.Mathlib.Omega.{arith}
-use lib.ListN.{length, drop, length-drop}
-use borrow.Author.Rules.{rules}
+use mathlib.Core.Path.{◌≡◌}
+use Prim.Native.Nat.{◌*◌, ◌/◌, ◌-◌, ◌≤◌}
+use lib.ListN.{length, drop}
 use Rattle.connectivity.specs.Plan.{limits}
 use Rattle.connectivity.specs.Admission.{ends_answer}
-use Rattle.graph.specs.Admission.{told_by}
-use Rattle.graph.proofs.Laws.{ends_next, ends_stop, ends_over}
 use Rattle.graph.proofs.first_misfit.Given as goal
 
 abbrev pub invariant-loop-e : goal.invariant-loop-e

@@ -1,6 +1,5 @@
 -- `judge_ends` meets its contract: numbers that add up to 0 are all 0.
 use mathlib.Core.Path.{sym, ap}
-use borrow.Author.Rules.{rules}
 use Rattle.graph.specs.Admission.{told_by}
 use Rattle.graph.proofs.judge_ends.Goals as goal
 

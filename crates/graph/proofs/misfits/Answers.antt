@@ -1,11 +1,9 @@
 -- `misfits` meets its contract. The loop's invariant: where the sum is 0, the answer is the one from edge e on.
-use mathlib.Core.Path.{◌≡◌, refl, sym, ◌∙◌}
-use Prim.Native.Nat.{◌*◌, ◌/◌, ◌-◌, ◌≤◌}
+use mathlib.Core.Path.{refl, sym, ◌∙◌}
+use Prim.Native.Nat.{◌*◌, ◌≤◌}
 use native.Mathlib.Omega.{arith}
-use lib.ListN.{length, drop, length-drop}
+use lib.ListN.{length-drop}
 use borrow.Author.Rules.{rules}
-use Rattle.connectivity.specs.Plan.{limits}
-use Rattle.connectivity.specs.Admission.{ends_answer}
 use Rattle.graph.proofs.Laws.{number_most, ends_next, ends_over}
 use Rattle.graph.proofs.misfits.Goals as goal
 

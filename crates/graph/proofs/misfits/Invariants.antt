@@ -1,12 +1,9 @@
 -- `misfits` meets its contract. The loop's invariant: where the sum is 0, the answer is the one from edge e on.
-use mathlib.Core.Path.{◌≡◌, refl, sym, ◌∙◌}
+use mathlib.Core.Path.{◌≡◌}
 use Prim.Native.Nat.{◌*◌, ◌/◌, ◌-◌, ◌≤◌}
-use native.Mathlib.Omega.{arith}
-use lib.ListN.{length, drop, length-drop}
-use borrow.Author.Rules.{rules}
+use lib.ListN.{length, drop}
 use Rattle.connectivity.specs.Plan.{limits}
 use Rattle.connectivity.specs.Admission.{ends_answer}
-use Rattle.graph.proofs.Laws.{number_most, ends_next, ends_over}
 use Rattle.graph.proofs.misfits.Given as goal
 
 abbrev pub invariant-loop-e : goal.invariant-loop-e

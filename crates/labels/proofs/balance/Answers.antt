@@ -1,7 +1,6 @@
 -- `balance` meets its contract: refused by the plan or for want of space, or labelled along the order.
 use mathlib.Core.Path.{◌≡◌}
 use mathlib.Core.Bool.{Bool, not}
-use borrow.Author.Rules.{rules}
 use Rattle.connectivity.specs.Plan.{Plan, plan, limits}
 use Rattle.connectivity.specs.Admission.{Admitted}
 use Rattle.graph.specs.Admission.{told_by, lent}

@@ -1,5 +1,4 @@
 -- `distribute` meets its contract: labels and sums begin as 0, agree from there on, and are settled.
-use borrow.Author.Rules.{rules}
 use Rattle.labels.proofs.Sums.{summed_start}
 use Rattle.labels.proofs.Settling.{settling_after}
 use Rattle.labels.proofs.distribute.Goals as goal

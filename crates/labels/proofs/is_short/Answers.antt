@@ -1,7 +1,6 @@
 -- `is_short` meets its contract: the last test tells the rest.
 use mathlib.Core.Bool.{not}
 use native.Mathlib.Omega.{arith}
-use borrow.Author.Rules.{rules}
 use Rattle.graph.proofs.Telling.{tells_to}
 use Rattle.labels.proofs.is_short.Goals as goal
 

@@ -2,7 +2,6 @@
 use mathlib.Core.Path.{◌≡◌}
 use mathlib.Core.Bool.{not}
 use native.Mathlib.Omega.{arith}
-use borrow.Author.Rules.{rules}
 use Rattle.connectivity.specs.Plan.{Plan, plan, limits}
 use Rattle.connectivity.specs.Admission.{Admitted}
 use Rattle.graph.specs.Admission.{told_by, lent}

@@ -1,11 +1,6 @@
 -- `scatter` meets its contract. The loop's invariant: the sums are those of the labels, and what lies behind has stayed.
-use mathlib.Core.Path.{◌≡◌, refl}
-use Prim.Native.Nat.{◌-◌, ◌/◌}
+use mathlib.Core.Path.{refl}
 use native.Mathlib.Omega.{arith}
-use borrow.Author.Rules.{rules}
-use lib.ListN.{length}
-use Rattle.connectivity.specs.Plan.{plan}
-use Rattle.labels.specs.Labels.{Scattered}
 use Rattle.labels.proofs.Sums.{ready, scattered_start, scattered_masked}
 use Rattle.labels.proofs.scatter.Goals as goal
 

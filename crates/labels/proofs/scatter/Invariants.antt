@@ -1,12 +1,9 @@
 -- `scatter` meets its contract. The loop's invariant: the sums are those of the labels, and what lies behind has stayed.
-use mathlib.Core.Path.{◌≡◌, refl}
+use mathlib.Core.Path.{◌≡◌}
 use Prim.Native.Nat.{◌-◌, ◌/◌}
-use native.Mathlib.Omega.{arith}
-use borrow.Author.Rules.{rules}
 use lib.ListN.{length}
 use Rattle.connectivity.specs.Plan.{plan}
 use Rattle.labels.specs.Labels.{Scattered}
-use Rattle.labels.proofs.Sums.{ready, scattered_start, scattered_masked}
 use Rattle.labels.proofs.scatter.Given as goal
 
 abbrev pub invariant-loop-e : goal.invariant-loop-e

@@ -1,10 +1,6 @@
 -- `settle` meets its contract. The loop's invariant: the places from k on are settled.
-use mathlib.Core.Path.{◌≡◌, sym, subst}
-use Prim.Native.Nat.{ℕ, ◌+◌, ◌-◌}
-use native.Mathlib.Omega.{arith}
 use Rattle.connectivity.specs.Plan.{plan}
 use Rattle.labels.specs.Labels.{Settling}
-use Rattle.labels.proofs.Settling.{settling_start, settling_step}
 use Rattle.labels.proofs.settle.Given as goal
 
 abbrev pub invariant-loop-k : goal.invariant-loop-k

@@ -1,7 +1,6 @@
 -- `settle_one` meets its contract: the edge is the vertex's first one, or there is none in the graph.
 use mathlib.Core.Path.{refl}
 use native.Mathlib.Omega.{arith}
-use borrow.Author.Rules.{rules}
 use Rattle.connectivity.specs.Plan.{Plan, plan}
 use Rattle.connectivity.proofs.Kept.{edge_size_lem}
 use Rattle.labels.specs.Labels.{FirstEdge, by, passed}

@@ -1,7 +1,6 @@
 -- `fill` meets its contract: the parts, one after the other.
 use mathlib.Core.Path.{ap, ◌∙◌}
 use native.Mathlib.Omega.{arith}
-use borrow.Author.Rules.{rules}
 use lib.ListN.{length}
 use Rattle.numbers.proofs.Lengths.{numbers_long, owns_long}
 use Rattle.numbers.proofs.Serving.{filled_by}

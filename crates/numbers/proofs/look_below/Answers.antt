@@ -1,7 +1,6 @@
 -- `look_below` meets its contract: refused by the plan or for want of space, or filled.
 use mathlib.Core.Path.{◌≡◌, refl}
 use mathlib.Core.Bool.{not}
-use borrow.Author.Rules.{rules}
 use Rattle.connectivity.specs.Plan.{entire, limits}
 use Rattle.graph.specs.Admission.{told_by, lent}
 use Rattle.graph.proofs.Telling.{lent-told, told_admitted, told_room}

@@ -1,9 +1,6 @@
 -- `number_all` meets its contract. The loop's invariant: both tables have the first k places.
 use mathlib.Core.Path.{◌≡◌, sym, ap, ◌∙◌}
-use mathlib.Core.Logic.{⊎_elim}
-use Prim.Native.Nat.{◌-◌, ◌≤◌}
 use native.Mathlib.Omega.{arith}
-use borrow.Author.Rules.{rules}
 use lib.ListN.{length}
 use Rattle.numbers.specs.Tables.{numbers_to}
 use Rattle.numbers.proofs.Lengths.{numbers_long}

@@ -1,5 +1,5 @@
 -- `write_admitted` meets its contract: 6 for want of room; else the plan's lowest cut, or none and the record written.
-use Rattle.std.proofs.Common.{◌≡◌, ◌*◌, ◌≤◌, length, refl, arith, rules}
+use Rattle.std.proofs.Common.{◌≡◌, ◌*◌, ◌≤◌, length, refl, arith}
 use Rattle.connectivity.specs.Plan.{plan, limits}
 use Rattle.connectivity.specs.Admission.{kept_edges}
 use Rattle.cuts.specs.Verdict.{handed, lowest_handed}

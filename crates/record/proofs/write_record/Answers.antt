@@ -1,7 +1,6 @@
 -- `write_record` meets its contract: a plan that the constructor refuses is refused by its answer; any other has its counts.
 use Rattle.graph.proofs.Lent.{constructed-refused, constructed_admitted}
 use Rattle.record.proofs.Answering.{answers_refused}
-use Rattle.std.proofs.Common.{rules}
 use Rattle.record.proofs.write_record.Goals as goal
 
 pub write_admitted-requires : goal.write_admitted-requires

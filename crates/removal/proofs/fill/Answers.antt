@@ -1,11 +1,10 @@
 -- `fill` meets its contract. The loop's invariant: the first i words are there.
 use mathlib.Core.Path.{◌≡◌, refl, ◌∙◌}
-use Prim.Native.Nat.{ℕ, ◌+◌, ◌-◌, ◌*◌, ◌≤◌, ◌<◌}
+use Prim.Native.Nat.{◌+◌, ◌≤◌}
 use native.Mathlib.Omega.{arith}
-use lib.ListN.{length, get_or, length-set}
+use lib.ListN.{length, length-set}
 use Rattle.connectivity.specs.Plan.{limits}
-use Rattle.connectivity.specs.Fallen.{per_word, word_from, words_for}
-use Rattle.removal.specs.Fallen.{is_unseen}
+use Rattle.connectivity.specs.Fallen.{words_for}
 use Rattle.removal.proofs.Packing.{filled_step, filled-all}
 use Rattle.removal.proofs.fill.Goals as goal
 

@@ -1,12 +1,9 @@
 -- `fill` meets its contract. The loop's invariant: the first i words are there.
-use mathlib.Core.Path.{◌≡◌, refl, ◌∙◌}
-use Prim.Native.Nat.{ℕ, ◌+◌, ◌-◌, ◌*◌, ◌≤◌, ◌<◌}
-use native.Mathlib.Omega.{arith}
-use lib.ListN.{length, get_or, length-set}
-use Rattle.connectivity.specs.Plan.{limits}
-use Rattle.connectivity.specs.Fallen.{per_word, word_from, words_for}
+use mathlib.Core.Path.{◌≡◌}
+use Prim.Native.Nat.{ℕ, ◌-◌, ◌*◌, ◌≤◌, ◌<◌}
+use lib.ListN.{length, get_or}
+use Rattle.connectivity.specs.Fallen.{per_word, word_from}
 use Rattle.removal.specs.Fallen.{is_unseen}
-use Rattle.removal.proofs.Packing.{filled_step, filled-all}
 use Rattle.removal.proofs.fill.Given as goal
 
 abbrev pub invariant-loop-i : goal.invariant-loop-i

@@ -1,6 +1,5 @@
 -- `mark` meets its contract: each test tells one part of the definition's.
 use native.Mathlib.Omega.{arith}
-use borrow.Author.Rules.{rules}
 use Rattle.removal.proofs.Packing.{unseen_first, unseen_barred, unseen_is}
 use Rattle.removal.proofs.mark.Goals as goal
 

@@ -5,7 +5,6 @@ use mathlib.Core.List.{List, [], ◌∷◌}
 use Prim.Native.Nat.{ℕ}
 use native.Mathlib.Omega.{arith}
 use lib.ListN.{length}
-use borrow.Author.Rules.{rules}
 use Rattle.connectivity.specs.Plan.{plan, entire, Limits, limits}
 use Rattle.graph.specs.Admission.{told_by, lent}
 use Rattle.graph.specs.declared.Answer as code

@@ -1,6 +1,5 @@
 -- `pack` meets its contract: the marks of the excluded vertices stand for their list, and each word has at most sixty-four ones.
 use mathlib.Core.Path.{◌∙◌}
-use borrow.Author.Rules.{rules}
 use Rattle.connectivity.specs.Plan.{limits}
 use Rattle.connectivity.specs.Fallen.{words_for}
 use Rattle.connectivity.proofs.Fallen.{words_same}

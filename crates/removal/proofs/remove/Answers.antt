@@ -1,6 +1,5 @@
 -- `remove` meets its contract: the tables have room for every plan, so the search is refused only where the plan is.
 use native.Mathlib.Omega.{arith}
-use borrow.Author.Rules.{rules}
 use Rattle.connectivity.specs.Plan.{plan, limits}
 use Rattle.removal.proofs.Parted.{ready}
 use Rattle.removal.proofs.Falling.{packed-falls, removed_refused, removed_served}

@@ -1,10 +1,10 @@
 -- `total` meets its contract. The loop's invariant: the count and the ones of the words from i on are those of all words.
 use mathlib.Core.Path.{◌≡◌}
-use Prim.Native.Nat.{◌+◌, ◌-◌, ◌*◌, ◌≤◌}
+use Prim.Native.Nat.{◌≤◌}
 use native.Mathlib.Omega.{arith}
 use lib.Count.{ones}
-use lib.ListN.{length, get_or, drop}
-use Rattle.connectivity.specs.Fallen.{per_word, marked}
+use lib.ListN.{length, get_or}
+use Rattle.connectivity.specs.Fallen.{per_word}
 use Rattle.removal.proofs.Packing.{sum_next, sum_over, ones_few}
 use Rattle.removal.proofs.total.Goals as goal
 

@@ -1,7 +1,6 @@
 -- `without` meets its contract: what the search has seen is what the lowest vertex reaches once the cut is removed.
 use mathlib.Core.Bool.{true}
 use native.Mathlib.Omega.{arith}
-use borrow.Author.Rules.{rules}
 use Rattle.connectivity.specs.Plan.{plan, limits}
 use Rattle.connectivity.specs.Admission.{Admitted}
 use Rattle.connectivity.proofs.Kept.{vertex_size}

@@ -1,9 +1,8 @@
 -- `word` meets its contract. The loop's invariant: the marks from v on are in the word.
 use mathlib.Core.Path.{◌≡◌, sym, ap, ◌∙◌}
 use mathlib.Core.Bool.{Bool}
-use Prim.Native.Nat.{ℕ, ◌+◌, ◌-◌, ◌*◌, ◌^◌, ◌≤◌, ◌<◌}
+use Prim.Native.Nat.{ℕ, ◌+◌, ◌-◌, ◌*◌, ◌^◌, ◌<◌}
 use native.Mathlib.Omega.{arith}
-use borrow.Author.Rules.{rules}
 use Rattle.connectivity.specs.Fallen.{per_word, word_from}
 use Rattle.removal.specs.Fallen.{is_unseen}
 use Rattle.removal.proofs.Packing.{unseen_behind, word_none, word_next, word_room}

@@ -10,9 +10,6 @@ pub returns-then-list-eq0 : goal.returns-then-list-eq0
 unfolding count_of
 returns-then-list-eq0 c = let a = c.args in rw (eq-eqb a.kind 2 c.if-kind-eq2.true) (sym (get_or-eq_default a.list.now 0 (omega arith)))
 
-pub overflow_cast-result : goal.overflow_cast-result
-overflow_cast-result c = omega (arith, c.shared_slice_known-1.given 0)
-
 pub returns-then-kind-eq2 : goal.returns-then-kind-eq2
 unfolding count_of
 returns-then-kind-eq2 c = let k = c.args.kind in rw (eq-eqb k 2 (omega arith))

@@ -1,6 +1,5 @@
 -- `unknown` meets its contract: a plan that the constructor refuses is refused by its answer, for any other it is 9.
 use mathlib.Core.Path.{sym, ap, ◌∙◌}
-use borrow.Author.Rules.{rules}
 use Rattle.connectivity.specs.Plan.{plan}
 use Rattle.connectivity.proofs.Admission.{passed_then, failed_then, admission_number}
 use Rattle.graph.specs.Admission.{told_by}

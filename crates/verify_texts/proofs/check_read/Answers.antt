@@ -2,7 +2,6 @@
 use mathlib.Core.Path.{ap, ◌∙◌}
 use native.Mathlib.Omega.{arith}
 use lib.ListN.{length-take}
-use borrow.Author.Rules.{rules}
 use Rattle.connectivity.specs.Plan.{Plan, limits}
 use Rattle.graph.specs.Admission.{told_by}
 use Rattle.text.specs.Column.{five, largest}

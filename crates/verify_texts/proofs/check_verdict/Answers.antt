@@ -3,7 +3,6 @@ use mathlib.Core.Path.{◌≡◌, sym, ap, ◌∙◌}
 use Prim.Native.Nat.{ℕ, ◌*◌, ◌≤◌}
 use native.Mathlib.Omega.{arith}
 use lib.ListN.{length, take, length-take, length-replicate}
-use borrow.Author.Rules.{rules}
 use Rattle.connectivity.specs.Plan.{plan, limits}
 use Rattle.graph.specs.Admission.{told_by}
 use Rattle.text.specs.Column.{five, largest}

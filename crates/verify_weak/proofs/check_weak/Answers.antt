@@ -1,6 +1,5 @@
 -- `check_weak` meets its contract: a plan that the constructor refuses is refused by its answer, any other is judged.
 use mathlib.Core.Path.{sym, ap, ◌∙◌}
-use borrow.Author.Rules.{rules}
 use Rattle.connectivity.specs.Plan.{plan, limits}
 use Rattle.connectivity.proofs.Judge.{judge-refused}
 use Rattle.graph.specs.Admission.{told_by}

@@ -1,7 +1,6 @@
 -- `is_missing` meets its contract: behind the table, or the first end, or the second.
 use mathlib.Core.Path.{sym, ◌∙◌}
 use native.Mathlib.Omega.{arith}
-use borrow.Author.Rules.{rules}
 use Rattle.verify_weak.proofs.Weak.{missing_behind, missing_end}
 use Rattle.verify_weak.proofs.is_missing.Goals as goal
 

@@ -1,15 +1,7 @@
 -- `rises` meets its contract. The loop's invariant: the answer is the one from number i on, where `low` is one more than the number before.
-use mathlib.Core.Path.{◌≡◌, refl, sym, ap, ◌∙◌}
-use mathlib.Core.Bool.{not}
-use Prim.Native.Nat.{ℕ, ◌-◌, ◌/◌, ◌≤◌}
+use mathlib.Core.Path.{refl, sym, ap, ◌∙◌}
 use native.Mathlib.Omega.{arith}
-use lib.ListN.{length, drop}
-use borrow.Author.Rules.{rules}
-use Rattle.connectivity.specs.Plan.{limits}
-use Rattle.connectivity.specs.Graph.{Graph, is_edge}
-use Rattle.connectivity.specs.Judge.{ascending}
 use Rattle.graph.specs.Admission.{told_by}
-use Rattle.verify_weak.specs.Weak.{is_missing}
 use Rattle.verify_weak.proofs.Weak.{not_missing, turn_next, turn_none, turn_low, turn_over}
 use Rattle.verify_weak.proofs.rises.Goals as goal
 

@@ -1,5 +1,4 @@
 -- `hearthtansy_verdict` meets its contract: it packs what `verdict` finds, and hands over what falls.
-use borrow.Author.Rules.{rules}
 use Rattle.certify_texts.proofs.Saying.{packs, marks}
 use Rattle.certify_texts.proofs.export.hearthtansy_verdict.Goals as goal
 

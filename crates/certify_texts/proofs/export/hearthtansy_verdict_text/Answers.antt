@@ -1,5 +1,4 @@
 -- `hearthtansy_verdict_text` meets its contract: it tells how many bytes `verdict_text` has written.
-use borrow.Author.Rules.{rules}
 use Rattle.certify_texts.proofs.Saying.{sizes}
 use Rattle.certify_texts.proofs.export.hearthtansy_verdict_text.Goals as goal
 

@@ -1,6 +1,5 @@
 -- `pack` meets its contract: the four numbers are those of the outcome.
 use mathlib.Core.Path.{sym, ap, ◌∙◌}
-use borrow.Author.Rules.{rules}
 use Rattle.certify.specs.declared.Outcome.{Outcome}
 use Rattle.certify.specs.Answered.{handed_by}
 use Rattle.certify_texts.specs.Packed.{packed}

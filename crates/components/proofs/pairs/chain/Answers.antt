@@ -1,7 +1,6 @@
 -- `chain` meets its contract: the chains that are made serve.
 use native.Mathlib.Omega.{arith}
 use Rattle.cuts.proofs.Likes.{chained}
-use borrow.Author.Rules.{rules}
 use Rattle.components.proofs.pairs.chain.Goals as goal
 
 pub returns : goal.returns

@@ -1,6 +1,5 @@
 -- `part` meets its contract: each edge alone, then with later ones.
 use mathlib.Core.Path.{refl}
-use borrow.Author.Rules.{rules}
 use Rattle.components.proofs.Starring.{stars_start}
 use Rattle.components.proofs.Turning.{working_on, working_setting}
 use Rattle.components.proofs.Serving.{stage_working, stage_singles, stage_found}

@@ -1,10 +1,10 @@
 -- `singles` meets its contract: a turn for each edge.
 use mathlib.Core.Path.{◌≡◌, subst}
-use Prim.Native.Nat.{ℕ, ◌-◌, ◌/◌, ◌≤◌}
+use Prim.Native.Nat.{ℕ, ◌/◌}
 use native.Mathlib.Omega.{arith}
 use lib.ListN.{length}
 use Rattle.connectivity.specs.Plan.{plan, graph}
-use Rattle.components.specs.Stars.{Singles, Worked}
+use Rattle.components.specs.Stars.{Singles}
 use Rattle.components.proofs.Turning.{worked_same, worked_more, worked_turn, working_on, working_setting, singles_turn}
 use Rattle.components.proofs.pairs.singles.Goals as goal
 

@@ -1,11 +1,8 @@
 -- `singles` meets its contract: a turn for each edge.
-use mathlib.Core.Path.{◌≡◌, subst}
-use Prim.Native.Nat.{ℕ, ◌-◌, ◌/◌, ◌≤◌}
-use native.Mathlib.Omega.{arith}
+use Prim.Native.Nat.{◌-◌, ◌/◌, ◌≤◌}
 use lib.ListN.{length}
 use Rattle.connectivity.specs.Plan.{plan, graph}
 use Rattle.components.specs.Stars.{Singles, Worked}
-use Rattle.components.proofs.Turning.{worked_same, worked_more, worked_turn, working_on, working_setting, singles_turn}
 use Rattle.components.proofs.pairs.singles.Given as goal
 
 abbrev pub invariant-loop-e : goal.invariant-loop-e

@@ -1,14 +1,8 @@
 -- `star` meets its contract: a turn for each edge on the chain.
-use borrow.Author.Rules.{rules}
-use Prim.Native.Nat.{◌-◌, ◌/◌, ◌≤◌, ◌<◌}
+use Prim.Native.Nat.{◌<◌}
 use native.Mathlib.Omega.{arith}
-use lib.ListN.{length}
-use Rattle.connectivity.specs.Plan.{plan, graph}
-use Rattle.chains.specs.Chains.{keys, named}
-use Rattle.cuts.specs.Alike.{Chaining}
-use Rattle.components.specs.Stars.{Stars, Worked}
 use Rattle.components.proofs.Starring.{stars_pass, stars_head}
-use Rattle.components.proofs.Turning.{worked_same, worked_more, worked_turn, working_on, working_setting, OnChain, chain_start, chain_turn, chain_less, chain_end}
+use Rattle.components.proofs.Turning.{worked_same, worked_more, worked_turn, working_on, working_setting, chain_start, chain_turn, chain_less, chain_end}
 use Rattle.components.proofs.pairs.star.Goals as goal
 
 pub bounds-claimed-e : goal.bounds-claimed-e

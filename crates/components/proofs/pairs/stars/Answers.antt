@@ -1,10 +1,10 @@
 -- `stars` meets its contract: one edge after the other.
 use mathlib.Core.Path.{◌≡◌, subst}
-use Prim.Native.Nat.{ℕ, ◌-◌, ◌/◌, ◌≤◌}
+use Prim.Native.Nat.{ℕ, ◌/◌}
 use native.Mathlib.Omega.{arith}
 use lib.ListN.{length}
 use Rattle.connectivity.specs.Plan.{plan, graph}
-use Rattle.components.specs.Stars.{Stars, Worked}
+use Rattle.components.specs.Stars.{Stars}
 use Rattle.components.proofs.Turning.{worked_same, worked_more, working_on}
 use Rattle.components.proofs.pairs.stars.Goals as goal
 

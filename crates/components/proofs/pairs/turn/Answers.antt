@@ -1,7 +1,6 @@
 -- `turn` meets its contract: nothing happens, or the cut is tried.
 use mathlib.Core.Path.{refl}
 use Rattle.components.specs.Stars.{other, taken, tried}
-use borrow.Author.Rules.{rules}
 use Rattle.components.proofs.pairs.turn.Goals as goal
 
 pub returns-then-labels-at : goal.returns-then-labels-at

@@ -1,12 +1,9 @@
 -- `bodies` meets its contract: the pass along the order.
-use borrow.Author.Rules.{rules}
 use mathlib.Core.Path.{◌≡◌, ◌∙◌, subst, refl}
-use mathlib.Core.List.{List}
-use Prim.Native.Nat.{ℕ, ◌-◌, ◌≤◌}
+use Prim.Native.Nat.{ℕ}
 use native.Mathlib.Omega.{arith}
-use lib.ListN.{length, length-set}
+use lib.ListN.{length-set}
 use Rattle.connectivity.specs.Plan.{plan}
-use Rattle.labels.specs.Answered.{ForestOf}
 use Rattle.components.specs.Bodies.{Rooting}
 use Rattle.components.proofs.Bodies.{rooting_start, rooting_step, bodied}
 use Rattle.components.proofs.split.bodies.Goals as goal

@@ -1,6 +1,5 @@
 -- `place` meets its contract: each way out is one of the cases of the pass.
 use Rattle.components.proofs.Splitting.{placing_lowest, placing_stays, placing_first, placing_later}
-use borrow.Author.Rules.{rules}
 use Rattle.components.proofs.split.place.Goals as goal
 
 pub returns-then-lowest-at : goal.returns-then-lowest-at

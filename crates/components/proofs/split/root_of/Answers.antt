@@ -2,7 +2,6 @@
 use borrow.Author.Tests.{eq-eqb, ne_eqb}
 use lib.ListN.{get_or}
 use Rattle.depth.specs.Depth.{root_mark}
-use borrow.Author.Rules.{rules}
 use Rattle.components.proofs.split.root_of.Goals as goal
 
 pub returns-then-first-v : goal.returns-then-first-v

@@ -1,13 +1,10 @@
 -- `split` meets its contract: the pass over all vertices.
-use borrow.Author.Rules.{rules}
-use Prim.Native.Nat.{ℕ, ◌-◌, ◌≤◌}
+use Prim.Native.Nat.{ℕ}
 use native.Mathlib.Omega.{arith}
 use mathlib.Core.Path.{◌≡◌, ◌∙◌, subst, refl}
-use lib.ListN.{length}
-use Rattle.components.specs.Splitting.{Placing, Parted, unseen}
+use Rattle.components.specs.Splitting.{Parted, unseen}
 use Rattle.graph.specs.Marks.{read}
 use Rattle.components.proofs.Splitting.{low}
-use borrow.Author.Rules.{rules}
 use Rattle.components.proofs.split.split.Goals as goal
 
 pub loop-v-init : goal.loop-v-init

@@ -1,13 +1,8 @@
 -- `split` meets its contract: the pass over all vertices.
-use borrow.Author.Rules.{rules}
-use Prim.Native.Nat.{ℕ, ◌-◌, ◌≤◌}
-use native.Mathlib.Omega.{arith}
-use mathlib.Core.Path.{◌≡◌, ◌∙◌, subst, refl}
+use Prim.Native.Nat.{◌-◌, ◌≤◌}
+use mathlib.Core.Path.{◌≡◌}
 use lib.ListN.{length}
-use Rattle.components.specs.Splitting.{Placing, Parted, unseen}
-use Rattle.graph.specs.Marks.{read}
-use Rattle.components.proofs.Splitting.{low}
-use borrow.Author.Rules.{rules}
+use Rattle.components.specs.Splitting.{Placing}
 use Rattle.components.proofs.split.split.Given as goal
 
 abbrev pub invariant-loop-v : goal.invariant-loop-v

@@ -7,7 +7,6 @@ use Rattle.connectivity.proofs.Kept.{edge_size_lem}
 use Rattle.graph.proofs.Tally.{zeros}
 use Rattle.cuts.proofs.Trying.{ends_below, end_vertex}
 use Rattle.components.proofs.Attempting.{far_below, attempted}
-use borrow.Author.Rules.{rules}
 use Rattle.components.proofs.tries.attempt.Goals as goal
 
 pub lower_end-root-requires : goal.lower_end-root-requires

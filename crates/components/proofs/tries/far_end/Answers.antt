@@ -2,7 +2,6 @@
 use Prim.Native.Nat.{◌*◌}
 use lib.ListN.{get_or}
 use borrow.Author.Tests.{eq-eqb, ne_eqb}
-use borrow.Author.Rules.{rules}
 use Rattle.components.proofs.tries.far_end.Goals as goal
 
 pub returns-then-left-v : goal.returns-then-left-v

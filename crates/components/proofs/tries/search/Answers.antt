@@ -1,7 +1,6 @@
 -- `search` meets its contract: the marks tell what the root reaches without the two edges.
 use Prim.Native.Nat.{ℕ}
 use native.Mathlib.Omega.{arith}
-use borrow.Author.Rules.{rules}
 use lib.ListN.{length-replicate}
 use Rattle.connectivity.specs.Plan.{limits}
 use Rattle.components.proofs.Attempting.{searched}

@@ -1,5 +1,4 @@
 -- `hearthtansy_groups` meets its contract: it packs what `find` answers.
-use borrow.Author.Rules.{rules}
 use Rattle.components_texts.proofs.Answering.{packs}
 use Rattle.components_texts.proofs.export.hearthtansy_groups.Goals as goal
 

@@ -1,5 +1,4 @@
 -- `hearthtansy_groups_text` meets its contract: it tells how many bytes `groups_text` has written.
-use borrow.Author.Rules.{rules}
 use Rattle.components_texts.proofs.Answering.{sizes}
 use Rattle.components_texts.proofs.export.hearthtansy_groups_text.Goals as goal
 

@@ -1,10 +1,8 @@
 -- `next_like` meets its contract: the walk along the chain.
-use Prim.Native.Nat.{◌-◌, ◌≤◌, ◌<◌}
+use Prim.Native.Nat.{◌-◌, ◌≤◌}
 use Rattle.chains.specs.Chains.{keys, named}
 use Rattle.cuts.specs.Alike.{Chaining}
-use Rattle.cuts.proofs.Likes.{Walked, walk_start, walk_found, walk_next, walk_less, walk_over}
-use native.Mathlib.Omega.{arith}
-use borrow.Author.Rules.{rules}
+use Rattle.cuts.proofs.Likes.{Walked}
 use Rattle.cuts.proofs.alike.next_like.Given as goal
 
 abbrev pub invariant-loop-x : goal.invariant-loop-x

@@ -1,9 +1,8 @@
 -- `paired_from` meets its contract: no edge that is passed has the label of a later one.
-use Prim.Native.Nat.{ℕ, ◌-◌, ◌≤◌, ◌<◌}
+use Prim.Native.Nat.{ℕ, ◌≤◌, ◌<◌}
 use borrow.Author.Count.{below_more}
 use Rattle.cuts.specs.Alike.{Paired}
 use native.Mathlib.Omega.{arith}
-use borrow.Author.Rules.{rules}
 use Rattle.cuts.proofs.alike.paired_from.Goals as goal
 
 pub loop-d-init : goal.loop-d-init

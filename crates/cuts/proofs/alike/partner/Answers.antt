@@ -1,7 +1,6 @@
 -- `partner` meets its contract: an edge of the graph has the one that follows with its label; any other entry has none.
 use Rattle.cuts.proofs.Likes.{partner_none}
 use native.Mathlib.Omega.{arith}
-use borrow.Author.Rules.{rules}
 use Rattle.cuts.proofs.alike.partner.Goals as goal
 
 pub returns-then-dead-e-ne0 : goal.returns-then-dead-e-ne0

@@ -1,9 +1,8 @@
 -- `zero_from` meets its contract: every edge that is passed has another label.
-use Prim.Native.Nat.{ℕ, ◌-◌, ◌≤◌, ◌<◌}
+use Prim.Native.Nat.{ℕ, ◌≤◌}
 use borrow.Author.Count.{below_more}
 use Rattle.cuts.specs.Alike.{Like}
 use native.Mathlib.Omega.{arith}
-use borrow.Author.Rules.{rules}
 use Rattle.cuts.proofs.alike.zero_from.Goals as goal
 
 pub loop-d-init : goal.loop-d-init

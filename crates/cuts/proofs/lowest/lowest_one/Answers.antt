@@ -1,15 +1,11 @@
 -- `lowest_one` meets its contract: every edge before the one that is tried has been tried or passed over.
-use mathlib.Core.Path.{◌≡◌, sym, ap, ◌∙◌}
-use Prim.Native.Nat.{◌-◌, ◌≤◌, ◌<◌}
+use mathlib.Core.Path.{sym, ap, ◌∙◌}
 use native.Mathlib.Omega.{arith}
-use borrow.Author.Rules.{rules}
-use lib.ListN.{length, get_or}
+use lib.ListN.{length}
 use Rattle.connectivity.specs.Plan.{plan, graph, limits}
 use Rattle.connectivity.specs.Graph.{Edge}
-use Rattle.connectivity.specs.Cut.{singles, first_of}
-use Rattle.cuts.specs.Lowest.{cut_by, first_one}
-use Rattle.cuts.specs.Tries.{Ready, Restored}
-use Rattle.cuts.proofs.First.{from, one_found, one_next, one_over}
+use Rattle.cuts.specs.Tries.{Ready}
+use Rattle.cuts.proofs.First.{one_found, one_next, one_over}
 use Rattle.cuts.proofs.Likes.{by_one, pass_one}
 use Rattle.cuts.proofs.Trying.{one_twice, ready_again, restored_same, restored_more}
 use Rattle.cuts.proofs.lowest.lowest_one.Goals as goal

@@ -1,17 +1,12 @@
 -- `lowest_one` meets its contract: every edge before the one that is tried has been tried or passed over.
-use mathlib.Core.Path.{◌≡◌, sym, ap, ◌∙◌}
+use mathlib.Core.Path.{◌≡◌}
 use Prim.Native.Nat.{◌-◌, ◌≤◌, ◌<◌}
-use native.Mathlib.Omega.{arith}
-use borrow.Author.Rules.{rules}
-use lib.ListN.{length, get_or}
-use Rattle.connectivity.specs.Plan.{plan, graph, limits}
-use Rattle.connectivity.specs.Graph.{Edge}
+use lib.ListN.{get_or}
+use Rattle.connectivity.specs.Plan.{plan, graph}
 use Rattle.connectivity.specs.Cut.{singles, first_of}
 use Rattle.cuts.specs.Lowest.{cut_by, first_one}
-use Rattle.cuts.specs.Tries.{Ready, Restored}
-use Rattle.cuts.proofs.First.{from, one_found, one_next, one_over}
-use Rattle.cuts.proofs.Likes.{by_one, pass_one}
-use Rattle.cuts.proofs.Trying.{one_twice, ready_again, restored_same, restored_more}
+use Rattle.cuts.specs.Tries.{Restored}
+use Rattle.cuts.proofs.First.{from}
 use Rattle.cuts.proofs.lowest.lowest_one.Given as goal
 
 abbrev pub invariant-loop-e : goal.invariant-loop-e

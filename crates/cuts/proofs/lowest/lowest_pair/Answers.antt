@@ -4,7 +4,6 @@ use native.Mathlib.Omega.{arith}
 use lib.ListN.{length-replicate}
 use Rattle.connectivity.specs.Plan.{limits}
 use Rattle.cuts.proofs.Likes.{chained}
-use borrow.Author.Rules.{rules}
 use Rattle.cuts.proofs.lowest.lowest_pair.Goals as goal
 
 pub lowest_two-requires : goal.lowest_two-requires

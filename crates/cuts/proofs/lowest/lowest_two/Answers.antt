@@ -1,16 +1,11 @@
 -- `lowest_two` meets its contract: no pair whose first edge is lower than the one that is tried disconnects.
-use mathlib.Core.Path.{◌≡◌, ap, ◌∙◌}
-use Prim.Native.Nat.{◌-◌, ◌≤◌, ◌<◌}
+use mathlib.Core.Path.{ap, ◌∙◌}
 use native.Mathlib.Nat.{le_refl}
 use native.Mathlib.Omega.{arith}
 use borrow.Author.Tests.{lt-ltb, le-ltb}
-use borrow.Author.Rules.{rules}
-use lib.ListN.{length, get_or}
-use Rattle.connectivity.specs.Plan.{plan, graph}
-use Rattle.connectivity.specs.Cut.{pairs, first_of}
-use Rattle.cuts.specs.Lowest.{cut_by, first_two, two, uncut}
-use Rattle.cuts.specs.Tries.{Restored}
-use Rattle.cuts.proofs.First.{from, two_found, two_next, two_over}
+use lib.ListN.{length}
+use Rattle.cuts.specs.Lowest.{two, uncut}
+use Rattle.cuts.proofs.First.{two_found, two_next, two_over}
 use Rattle.cuts.proofs.Likes.{pass_two}
 use Rattle.cuts.proofs.Trying.{ready_again, restored_same, restored_more}
 use Rattle.cuts.proofs.lowest.lowest_two.Goals as goal

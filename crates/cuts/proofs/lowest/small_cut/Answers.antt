@@ -3,7 +3,6 @@ use mathlib.Core.Path.{refl}
 use Rattle.cuts.specs.Lowest.{one}
 use Rattle.cuts.proofs.Filter.{shows_one, shows_both, lowest_one, lowest_two, none_one}
 use Rattle.cuts.proofs.Trying.{ready_again}
-use borrow.Author.Rules.{rules}
 use Rattle.cuts.proofs.lowest.small_cut.Goals as goal
 
 pub lowest_one-e-requires : goal.lowest_one-e-requires

@@ -1,9 +1,7 @@
 -- `append` meets its contract. The loop's invariant: the first i of them stand where they should.
 use mathlib.Core.Path.{refl}
-use Prim.Native.Nat.{◌-◌, ◌≤◌}
-use lib.ListN.{length}
 use Rattle.graph.proofs.Marking.{index_in}
-use Rattle.cuts.proofs.Surveying.{Added, added_start, added_step, added_end}
+use Rattle.cuts.proofs.Surveying.{added_start, added_step, added_end}
 use native.Mathlib.Omega.{arith}
 use Rattle.cuts.proofs.survey.append.Goals as goal
 

@@ -7,7 +7,6 @@ use Rattle.connectivity.proofs.Kept.{vertex_size, admitted_count}
 use Rattle.graph.proofs.Barring.{lowest_is}
 use Rattle.depth.proofs.Left.{count_most}
 use native.Mathlib.Omega.{arith}
-use borrow.Author.Rules.{rules}
 use Rattle.cuts.proofs.survey.survey.Goals as goal
 
 pub overflow_cast-root : goal.overflow_cast-root

@@ -1,5 +1,4 @@
 -- `search` meets its contract: the root can be entered, and with tables that are long enough an admitted plan is not refused.
-use borrow.Author.Rules.{rules}
 use Rattle.connectivity.proofs.Kept.{vertex_size, admitted_entire}
 use Rattle.depth.proofs.Left.{fresh_at}
 use Rattle.depth.proofs.Masking.{found_kept}

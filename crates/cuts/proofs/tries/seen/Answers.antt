@@ -1,7 +1,6 @@
 -- `seen` meets its contract: fewer are seen than there are exactly where the marked edges disconnect.
 use mathlib.Core.Path.{◌∙◌}
 use native.Mathlib.Omega.{arith}
-use borrow.Author.Rules.{rules}
 use Rattle.depth.proofs.Left.{fewer}
 use Rattle.depth.proofs.Undoing.{undone_all}
 use Rattle.cuts.proofs.tries.seen.Goals as goal

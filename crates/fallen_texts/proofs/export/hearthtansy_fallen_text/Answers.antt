@@ -1,6 +1,5 @@
 -- `hearthtansy_fallen_text` meets its contract: it counts what `fallen_text` writes.
 use Rattle.fallen_texts.proofs.Answering.{sizes}
-use borrow.Author.Rules.{rules}
 use Rattle.fallen_texts.proofs.export.hearthtansy_fallen_text.Goals as goal
 
 pub returns : goal.returns

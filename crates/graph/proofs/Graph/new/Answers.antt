@@ -1,7 +1,6 @@
 -- `Graph::new` meets its contract: each way out cites the law for its tests.
 use mathlib.Core.Path.{sym, ap, ◌∙◌}
 use native.Mathlib.Omega.{arith}
-use borrow.Author.Rules.{rules}
 use Rattle.connectivity.specs.Plan.{limits}
 use Rattle.connectivity.proofs.Admission.{told_zero, ends_told}
 use Rattle.graph.specs.declared.Answer.{Answer}

@@ -4,7 +4,6 @@ use mathlib.Core.List.{List, [], ◌∷◌}
 use Prim.Native.Nat.{ℕ, ◌/◌}
 use native.Mathlib.Omega.{arith}
 use lib.ListN.{length, length-replicate}
-use borrow.Author.Rules.{rules}
 use Rattle.connectivity.specs.Plan.{plan, Limits, limits}
 use Rattle.connectivity.specs.Admission.{kept_edges, Admitted}
 use Rattle.connectivity.proofs.Lists.{length-range}

@@ -1,13 +1,10 @@
 -- `count_open` meets its contract. The loop's invariant: so many of the first e edges have no mark.
 use mathlib.Core.Path.{◌≡◌, sym, ap, ◌∙◌}
-use Prim.Native.Nat.{◌+◌, ◌-◌, ◌≤◌}
-use lib.ListN.{length}
-use Rattle.connectivity.specs.Plan.{limits}
+use Prim.Native.Nat.{◌+◌}
 use Rattle.graph.specs.Marks.{rank}
 use Rattle.graph.specs.Excluded.{is_open}
 use Rattle.graph.proofs.Rank.{rank-none, rank_next, rank_most}
 use native.Mathlib.Omega.{arith}
-use borrow.Author.Rules.{rules}
 use Rattle.graph.proofs.excluded.count_open.Goals as goal
 
 pub loop-e-init : goal.loop-e-init

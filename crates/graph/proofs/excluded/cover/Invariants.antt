@@ -1,13 +1,11 @@
 -- `cover` meets its contract. The loop's invariant: the first e edges have been judged.
-use mathlib.Core.Path.{◌≡◌, ◌∙◌}
+use mathlib.Core.Path.{◌≡◌}
 use mathlib.Core.List.{List}
 use Prim.Native.Nat.{ℕ, ◌/◌, ◌-◌, ◌≤◌}
 use lib.ListN.{length}
 use Rattle.connectivity.specs.Plan.{limits}
 use Rattle.graph.specs.Excluded.{Barring}
-use Rattle.graph.proofs.Barring.{Covering, covering_start, covering_step, covering_end}
-use native.Mathlib.Omega.{arith}
-use borrow.Author.Rules.{rules}
+use Rattle.graph.proofs.Barring.{Covering}
 use Rattle.graph.proofs.excluded.cover.Given as goal
 
 abbrev pub invariant-loop-e : goal.invariant-loop-e

@@ -1,6 +1,5 @@
 -- `cover_one` meets its contract: the left end first, then the right one.
 use mathlib.Core.Path.{sym, ◌∙◌}
-use borrow.Author.Rules.{rules}
 use Rattle.graph.proofs.excluded.cover_one.Goals as goal
 
 pub returns-then-is_marked : goal.returns-then-is_marked

@@ -1,10 +1,8 @@
 -- `is_excluded` meets its contract. The loop's invariant: v stands in the list exactly if it stands from place k on.
-use mathlib.Core.Path.{◌≡◌, refl, sym, ◌∙◌}
+use mathlib.Core.Path.{◌≡◌}
 use Prim.Native.Nat.{◌-◌, ◌≤◌}
-use lib.ListN.{length, drop, length-drop}
+use lib.ListN.{length, drop}
 use Rattle.connectivity.specs.Lists.{mem}
-use Rattle.graph.proofs.Barring.{mem_here, mem_next, mem_over}
-use native.Mathlib.Omega.{arith}
 use Rattle.graph.proofs.excluded.is_excluded.Given as goal
 
 abbrev pub invariant-loop-k : goal.invariant-loop-k

@@ -1,11 +1,8 @@
 -- `judge_excluded` meets its contract. The loop's invariant: the answer is the one from place k on, and no place is above the number that comes next.
-use mathlib.Core.Path.{◌≡◌, refl, sym, ap, ◌∙◌}
+use mathlib.Core.Path.{◌≡◌}
 use Prim.Native.Nat.{◌-◌, ◌≤◌}
-use lib.ListN.{length, drop, length-drop}
+use lib.ListN.{length, drop}
 use Rattle.connectivity.specs.Admission.{excluded_answer}
-use Rattle.graph.specs.Admission.{told_by}
-use Rattle.graph.proofs.Barring.{excluded_next, excluded_low, excluded_high, excluded_over}
-use native.Mathlib.Omega.{arith}
 use Rattle.graph.proofs.excluded.judge_excluded.Given as goal
 
 abbrev pub invariant-loop-k : goal.invariant-loop-k

@@ -1,12 +1,9 @@
 -- `lowest_kept` meets its contract. The loop's invariant: the gap is the one from place k on.
-use mathlib.Core.Path.{◌≡◌, refl, sym, ◌∙◌}
-use Prim.Native.Nat.{◌-◌, ◌≤◌}
+use mathlib.Core.Path.{refl, sym, ◌∙◌}
 use native.Mathlib.Decide.{ℕ_discrete}
-use lib.ListN.{length, get_or, drop, length-drop}
-use Rattle.graph.specs.Excluded.{first_gap}
+use lib.ListN.{get_or, length-drop}
 use Rattle.graph.proofs.Barring.{gap_next, gap_here, gap_over}
 use native.Mathlib.Omega.{arith}
-use borrow.Author.Rules.{rules}
 use Rattle.graph.proofs.excluded.lowest_kept.Goals as goal
 
 pub loop-k-init : goal.loop-k-init

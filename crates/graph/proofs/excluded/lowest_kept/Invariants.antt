@@ -1,12 +1,8 @@
 -- `lowest_kept` meets its contract. The loop's invariant: the gap is the one from place k on.
-use mathlib.Core.Path.{◌≡◌, refl, sym, ◌∙◌}
+use mathlib.Core.Path.{◌≡◌}
 use Prim.Native.Nat.{◌-◌, ◌≤◌}
-use native.Mathlib.Decide.{ℕ_discrete}
-use lib.ListN.{length, get_or, drop, length-drop}
+use lib.ListN.{length, drop}
 use Rattle.graph.specs.Excluded.{first_gap}
-use Rattle.graph.proofs.Barring.{gap_next, gap_here, gap_over}
-use native.Mathlib.Omega.{arith}
-use borrow.Author.Rules.{rules}
 use Rattle.graph.proofs.excluded.lowest_kept.Given as goal
 
 abbrev pub invariant-loop-k : goal.invariant-loop-k

@@ -1,9 +1,6 @@
 -- `mark` meets its contract. The loop's invariant: the first i numbers of the list have been marked.
-use Prim.Native.Nat.{◌-◌, ◌≤◌}
-use lib.ListN.{length}
-use Rattle.graph.proofs.Marking.{Marking, marking_start, marking_step, marking_end}
+use Rattle.graph.proofs.Marking.{marking_start, marking_step, marking_end}
 use native.Mathlib.Omega.{arith}
-use borrow.Author.Rules.{rules}
 use Rattle.graph.proofs.excluded.mark.Goals as goal
 
 pub loop-i-init : goal.loop-i-init

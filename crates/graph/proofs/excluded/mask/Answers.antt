@@ -4,7 +4,6 @@ use lib.ListN.{length-replicate}
 use Rattle.connectivity.specs.Plan.{limits}
 use Rattle.graph.proofs.Tally.{zeros}
 use Rattle.graph.proofs.Barring.{mask_none, barring}
-use borrow.Author.Rules.{rules}
 use Rattle.graph.proofs.excluded.mask.Goals as goal
 
 pub returns-then-excluded-eq0 : goal.returns-then-excluded-eq0

@@ -1,6 +1,6 @@
 -- `clear_edges` meets its contract. The loop's invariant: the first e marks are 0, and the others have stayed.
 use mathlib.Core.Path.{◌≡◌, subst}
-use Prim.Native.Nat.{ℕ, ◌-◌, ◌≤◌}
+use Prim.Native.Nat.{ℕ}
 use native.Mathlib.Omega.{arith}
 use Rattle.incidence.specs.Parts.{Cleared}
 use Rattle.incidence.proofs.Loops.{cleared_start, cleared_step}

@@ -1,6 +1,5 @@
 -- `plant` meets its contract: over prepared tables the searches leave a spanning forest.
 use native.Mathlib.Omega.{arith}
-use borrow.Author.Rules.{rules}
 use Rattle.labels.proofs.Growing.{planted}
 use Rattle.labels.proofs.forest.plant.Goals as goal
 

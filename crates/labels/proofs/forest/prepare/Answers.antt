@@ -1,5 +1,4 @@
 -- `prepare` meets its contract: with room for them the tables of an admitted plan are filled.
-use borrow.Author.Rules.{rules}
 use Rattle.labels.proofs.Growing.{prepared}
 use Rattle.labels.proofs.forest.prepare.Goals as goal
 

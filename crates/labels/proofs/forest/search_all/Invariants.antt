@@ -1,9 +1,7 @@
 -- `search_all` meets its contract. The loop's invariant: the roots below v have been tried, and `seen` vertices stand in the order.
-use Prim.Native.Nat.{◌-◌, ◌≤◌, ◌<◌}
-use native.Mathlib.Omega.{arith}
+use Prim.Native.Nat.{◌-◌, ◌≤◌}
 use Rattle.connectivity.specs.Plan.{plan}
 use Rattle.labels.specs.Planting.{Growing}
-use Rattle.labels.proofs.Growing.{growing_start, growing_search, growing_more, growing_end, growing_rooms}
 use Rattle.labels.proofs.forest.search_all.Given as goal
 
 abbrev pub invariant-loop-seen : goal.invariant-loop-seen

@@ -1,5 +1,4 @@
 -- `search_from` meets its contract: over the tables of an admitted plan and with room for all, a search is not refused; it enters no excluded vertex but as its root.
-use borrow.Author.Rules.{rules}
 use Rattle.connectivity.specs.Plan.{plan}
 use Rattle.connectivity.proofs.Kept.{admitted_entire}
 use Rattle.depth.proofs.Outcomes.{not_refused, searched, tabled_enough}

@@ -1,6 +1,5 @@
 -- `hand` meets its contract: where `t` is an edge, its place gets what `higher` answers.
 use Rattle.numbers.proofs.Steps.{hand_some, hand_none}
-use borrow.Author.Rules.{rules}
 use Rattle.numbers.proofs.below.hand.Goals as goal
 
 pub returns-then-t-ne0 : goal.returns-then-t-ne0

@@ -1,6 +1,6 @@
 -- `lower_all` meets its contract. The loop's invariant: the places from k on are done.
 use mathlib.Core.Path.{◌≡◌, ◌∙◌, ap}
-use Prim.Native.Nat.{◌-◌, ◌≤◌}
+use Prim.Native.Nat.{◌-◌}
 use native.Mathlib.Omega.{arith}
 use lib.ListN.{length}
 use Rattle.numbers.specs.Tables.{lasts_down, overs_down}

@@ -1,11 +1,7 @@
 -- `lower_all` meets its contract. The loop's invariant: the places from k on are done.
-use mathlib.Core.Path.{◌≡◌, ◌∙◌, ap}
+use mathlib.Core.Path.{◌≡◌}
 use Prim.Native.Nat.{◌-◌, ◌≤◌}
-use native.Mathlib.Omega.{arith}
-use lib.ListN.{length}
 use Rattle.numbers.specs.Tables.{lasts_down, overs_down}
-use Rattle.numbers.proofs.Lengths.{lasts_long, overs_long}
-use Rattle.numbers.proofs.Steps.{lasts_start, overs_start, lasts_next, overs_next}
 use Rattle.numbers.proofs.below.lower_all.Given as goal
 
 abbrev pub invariant-loop-k : goal.invariant-loop-k

@@ -4,7 +4,6 @@ use Prim.Native.Nat.{◌-◌, ◌/◌, ◌<◌}
 use native.Mathlib.Omega.{arith}
 use lib.ListN.{length}
 use Rattle.numbers.proofs.Steps.{ends_below, mark_edge, mark_vertex, far_below, last_some, over_some, last_none, over_none}
-use borrow.Author.Rules.{rules}
 use Rattle.numbers.proofs.below.lower_one.Goals as goal
 
 pub far-up-requires : goal.far-up-requires

@@ -1,6 +1,5 @@
 -- `own_all` meets its contract. The loop's invariant: the edges below e are done.
 use mathlib.Core.Path.{◌≡◌, ◌∙◌, ap}
-use Prim.Native.Nat.{◌-◌, ◌≤◌}
 use native.Mathlib.Omega.{arith}
 use lib.ListN.{length}
 use Rattle.numbers.specs.Tables.{owns_to}

@@ -1,11 +1,7 @@
 -- `own_all` meets its contract. The loop's invariant: the edges below e are done.
-use mathlib.Core.Path.{◌≡◌, ◌∙◌, ap}
+use mathlib.Core.Path.{◌≡◌}
 use Prim.Native.Nat.{◌-◌, ◌≤◌}
-use native.Mathlib.Omega.{arith}
-use lib.ListN.{length}
 use Rattle.numbers.specs.Tables.{owns_to}
-use Rattle.numbers.proofs.Lengths.{owns_long}
-use Rattle.numbers.proofs.Steps.{owns_start, owns_next}
 use Rattle.numbers.proofs.below.own_all.Given as goal
 
 abbrev pub invariant-loop-e : goal.invariant-loop-e

@@ -4,7 +4,6 @@ use mathlib.Core.Path.{◌∙◌}
 use Prim.Native.Nat.{◌+◌, ◌/◌}
 use lib.ListN.{length, length-set}
 use Rattle.numbers.proofs.Steps.{ends_below, mark_edge, own_other, own_none, own_first}
-use borrow.Author.Rules.{rules}
 use Rattle.numbers.proofs.below.own_one.Goals as goal
 
 pub lower-w-requires : goal.lower-w-requires

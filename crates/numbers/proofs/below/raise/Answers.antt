@@ -1,6 +1,5 @@
 -- `raise` meets its contract: by the test, the last number of `up` becomes that of `v`, or stays.
 use Rattle.numbers.proofs.Steps.{raise_higher, raise_same}
-use borrow.Author.Rules.{rules}
 use Rattle.numbers.proofs.below.raise.Goals as goal
 
 pub returns-then-last-up : goal.returns-then-last-up

@@ -1,6 +1,5 @@
 -- `far` meets its contract: the other end, by the one test.
 use borrow.Author.Tests.{eq-eqb, ne_eqb}
-use borrow.Author.Rules.{rules}
 use Rattle.numbers.proofs.ends.far.Goals as goal
 
 pub returns-then-l-v : goal.returns-then-l-v

@@ -1,5 +1,4 @@
 -- `build_all` meets its contract: three walks, then Mader-paths until every edge is built.
-use Rattle.std.proofs.Common.{rules}
 use Rattle.record.proofs.Tabling.{beginning, finishing}
 use Rattle.record.proofs.build.build_all.Goals as goal
 

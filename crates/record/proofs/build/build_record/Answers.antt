@@ -1,5 +1,4 @@
 -- `build_record` meets its contract: over tables of which nothing is set.
-use Rattle.std.proofs.Common.{rules}
 use Rattle.record.proofs.Tabling.{ready}
 use Rattle.record.proofs.build.build_record.Goals as goal
 

@@ -1,7 +1,5 @@
 -- `finish` meets its contract: after each turn the rows so far are those of Mader's steps.
-use Rattle.std.proofs.Common.{◌≡◌, ◌-◌, length, sym, refl, ◌∙◌, arith}
-use Rattle.connectivity.specs.Plan.{plan, limits}
-use Rattle.record.specs.Progress.{Finishing, Going}
+use Rattle.std.proofs.Common.{sym, refl, ◌∙◌, arith}
 use Rattle.record.proofs.Progress.{now_long, order_room, begins_room, going_first, going_long, nexting, adding, going_then, recorded}
 use Rattle.record.proofs.build.finish.Goals as goal
 

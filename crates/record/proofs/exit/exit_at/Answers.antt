@@ -1,9 +1,9 @@
 -- `exit_at` meets its contract. The loop's invariant: the edges of the group that are behind are built, or fail the test.
 use Rattle.std.specs.Prelude.{ℕ}
-use Rattle.std.proofs.Common.{◌-◌, ◌≤◌, refl, ⊎_elim, arith, rules}
+use Rattle.std.proofs.Common.{◌-◌, refl, arith}
 use Rattle.graph.specs.Marks.{read}
 use Rattle.record.specs.Exits.{Passes, Reading}
-use Rattle.record.proofs.Exits.{Failing, failing_more}
+use Rattle.record.proofs.Exits.{failing_more}
 use Rattle.record.proofs.exit.exit_at.Goals as goal
 use Rattle.record.proofs.exit.exit_at.Goals.{then-f-ne0+else-is_exit, else-f-ne0}
 

@@ -1,8 +1,8 @@
 -- `exit_at` meets its contract. The loop's invariant: the edges of the group that are behind are built, or fail the test.
-use Rattle.std.proofs.Common.{◌-◌, ◌≤◌, refl, ⊎_elim, arith, rules}
+use Rattle.std.proofs.Common.{◌-◌, ◌≤◌}
 use Rattle.graph.specs.Marks.{read}
-use Rattle.record.specs.Exits.{Passes, Reading}
-use Rattle.record.proofs.Exits.{Failing, failing_more}
+use Rattle.record.specs.Exits.{Passes}
+use Rattle.record.proofs.Exits.{Failing}
 use Rattle.record.proofs.exit.exit_at.Given as goal
 
 abbrev pub invariant-loop-k : goal.invariant-loop-k

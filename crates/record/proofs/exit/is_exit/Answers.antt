@@ -1,5 +1,5 @@
 -- `is_exit` meets its contract: each way out cites the law for its tests.
-use Rattle.std.proofs.Common.{ap, ◌∙◌, arith, rules}
+use Rattle.std.proofs.Common.{ap, ◌∙◌, arith}
 use Rattle.numbers.specs.Tables.{far_end}
 use Rattle.record.proofs.Exits.{test_away, test_before, test_within}
 use Rattle.record.proofs.exit.is_exit.Goals as goal

@@ -1,6 +1,6 @@
 -- `leave_link` meets its contract. The loop's invariant: no edge leads out at a vertex of the link strictly above a or strictly below b. The measure
 -- is how far their numbers are apart.
-use Rattle.std.proofs.Common.{◌≡◌, ◌-◌, ◌<◌, length, sym, ap, ◌∙◌, subst, arith, rules}
+use Rattle.std.proofs.Common.{◌≡◌, ◌<◌, length, sym, ap, ◌∙◌, subst, arith}
 use native.Mathlib.Decide.{dec_le}
 use Rattle.connectivity.specs.Plan.{limits}
 use Rattle.graph.specs.Marks.{read}

@@ -1,11 +1,10 @@
 -- `leave_link` meets its contract. The loop's invariant: no edge leads out at a vertex of the link strictly above a or strictly below b. The measure
 -- is how far their numbers are apart.
-use Rattle.std.proofs.Common.{◌≡◌, ◌-◌, ◌<◌, length, sym, ap, ◌∙◌, subst, arith, rules}
-use native.Mathlib.Decide.{dec_le}
+use Rattle.std.proofs.Common.{◌-◌}
 use Rattle.connectivity.specs.Plan.{limits}
 use Rattle.graph.specs.Marks.{read}
 use Rattle.record.specs.Leaving.{Leaving}
-use Rattle.record.proofs.Outward.{inside_below, ranging, sized, looking, stays_at, leaves_at, Still, Sought, sought_start, Descended, sought_down, Ascended, sought_up}
+use Rattle.record.proofs.Outward.{Sought}
 use Rattle.record.proofs.exit.leave_link.Given as goal
 
 abbrev pub invariant-loop-under : goal.invariant-loop-under

@@ -1,5 +1,5 @@
 -- `range_below` meets its contract: its numbers are those of the child that is noted.
-use Rattle.std.proofs.Common.{◌≡◌, ℕ, suc, ◌-◌, ◌<◌, length, arith, rules}
+use Rattle.std.proofs.Common.{◌≡◌, ℕ, suc, ◌-◌, ◌<◌, length, arith}
 use Rattle.graph.specs.Marks.{read}
 use Rattle.record.proofs.Exits.{under_none, under_some}
 use Rattle.record.proofs.exit.range_below.Goals as goal

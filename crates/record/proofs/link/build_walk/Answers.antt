@@ -1,5 +1,5 @@
 -- `build_walk` meets its contract: the way up is built, and its vertices get the place `next`.
-use Rattle.std.proofs.Common.{◌+◌, ◌<◌, refl, ◌∙◌, arith, length-set, rules}
+use Rattle.std.proofs.Common.{◌+◌, ◌<◌, refl, ◌∙◌, arith, length-set}
 use Rattle.record.proofs.TwoTips.{tips_length}
 use Rattle.record.proofs.NewWalk.{walked_none, raising, top_below, marking, next_room, walked}
 use Rattle.record.proofs.link.build_walk.Goals as goal

@@ -1,5 +1,5 @@
 -- `cut` meets its contract: v is the top, the bottom, or lies between them.
-use Rattle.std.proofs.Common.{ℕ, ◌+◌, arith, rules}
+use Rattle.std.proofs.Common.{ℕ, ◌+◌, arith}
 use Rattle.record.specs.Ways.{next_up}
 use Rattle.record.proofs.Parts.{cut_bottom, cut_between}
 use Rattle.record.proofs.link.cut.Goals as goal

@@ -1,5 +1,4 @@
 -- `cut_top` meets its contract: the link has a vertex left or none.
-use Rattle.std.proofs.Common.{rules}
 use Rattle.record.specs.Parting.{whole, off_top}
 use Rattle.record.proofs.link.cut_top.Goals as goal
 

@@ -1,8 +1,5 @@
 -- `is_upper_shorter` meets its contract. The loop's invariant: both are onward on their ways.
-use Rattle.std.proofs.Common.{rules}
-use Rattle.connectivity.specs.Plan.{limits}
-use Rattle.record.specs.Parting.{Between}
-use Rattle.record.proofs.Paths.{left, left_less, Onward, onward_start, onward_rises, onward_step}
+use Rattle.record.proofs.Paths.{left_less, Onward, onward_start, onward_rises, onward_step}
 use Rattle.record.proofs.link.is_upper_shorter.Goals as goal
 
 pub loop-a-init : goal.loop-a-init

@@ -1,8 +1,7 @@
 -- `is_upper_shorter` meets its contract. The loop's invariant: both are onward on their ways.
-use Rattle.std.proofs.Common.{rules}
 use Rattle.connectivity.specs.Plan.{limits}
 use Rattle.record.specs.Parting.{Between}
-use Rattle.record.proofs.Paths.{left, left_less, Onward, onward_start, onward_rises, onward_step}
+use Rattle.record.proofs.Paths.{left, Onward}
 use Rattle.record.proofs.link.is_upper_shorter.Given as goal
 
 abbrev pub invariant-loop-a : goal.invariant-loop-a

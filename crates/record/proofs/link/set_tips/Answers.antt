@@ -1,5 +1,5 @@
 -- `set_tips` meets its contract: two numbers are stored.
-use Rattle.std.proofs.Common.{arith, length-set, rules}
+use Rattle.std.proofs.Common.{arith, length-set}
 use Rattle.record.proofs.link.set_tips.Goals as goal
 
 pub bounds-tips-k-2 : goal.bounds-tips-k-2

@@ -1,5 +1,5 @@
 -- `split` meets its contract: a vertex inside a link is cut out of it, and a part that is left over becomes a link.
-use Rattle.std.proofs.Common.{◌+◌, ◌<◌, ◌≤◌, ◌∙◌, arith, length-set, rules}
+use Rattle.std.proofs.Common.{◌+◌, ◌<◌, ◌≤◌, ◌∙◌, arith, length-set}
 use Rattle.graph.specs.Marks.{read}
 use Rattle.record.proofs.TwoTips.{tips_length}
 use Rattle.record.proofs.Parts.{v_fits, own_room, own_small, next_small, split_cutting, split_new, split_already, split_old, split_more}

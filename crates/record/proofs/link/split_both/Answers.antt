@@ -1,5 +1,5 @@
 -- `split_both` meets its contract: one after the other.
-use Rattle.std.proofs.Common.{◌∙◌, rules}
+use Rattle.std.proofs.Common.{◌∙◌}
 use Rattle.record.proofs.Ending.{splitting_two, both_parted}
 use Rattle.record.proofs.link.split_both.Goals as goal
 

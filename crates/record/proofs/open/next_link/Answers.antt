@@ -1,5 +1,5 @@
 -- `next_link` meets its contract. The loop's invariant: the places from the first up to m have no top.
-use Rattle.std.proofs.Common.{◌≡◌, ℕ, ◌-◌, ◌*◌, ◌<◌, ◌≤◌, get_or, arith, rules, below_more}
+use Rattle.std.proofs.Common.{arith, below_more}
 use Rattle.record.proofs.open.next_link.Goals as goal
 
 pub loop-m-init : goal.loop-m-init

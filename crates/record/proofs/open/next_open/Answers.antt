@@ -1,7 +1,6 @@
 -- `next_open` meets its contract. The loop's invariant: all that was passed is built.
-use Rattle.std.proofs.Common.{◌+◌, ◌-◌, ◌<◌, ◌≤◌, length, get_or, arith}
+use Rattle.std.proofs.Common.{◌+◌, ◌<◌, ◌≤◌, length, get_or, arith}
 use Rattle.connectivity.specs.Plan.{limits}
-use Rattle.record.specs.Cursors.{ScannedTo}
 use Rattle.record.proofs.Scanning.{scanned_start, scanned_vertex, scanned_slots, scanned_end, scanned_more, scanned_next}
 use Rattle.record.proofs.open.next_open.Goals as goal
 

@@ -1,6 +1,5 @@
 -- `next_slot` meets its contract. The loop's invariant: the edges from the first place up to k are built.
-use Rattle.std.proofs.Common.{◌≡◌, ℕ, ◌-◌, ◌<◌, ◌≤◌, get_or, arith, rules, below_more}
-use Rattle.graph.specs.Marks.{read}
+use Rattle.std.proofs.Common.{arith, below_more}
 use Rattle.record.proofs.open.next_slot.Goals as goal
 
 pub loop-k-init : goal.loop-k-init

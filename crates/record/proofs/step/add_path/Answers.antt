@@ -1,5 +1,5 @@
 -- `add_path` meets its contract: both ends become branches, the inside a link, and the rows of the walk are written behind those so far.
-use Rattle.std.proofs.Common.{◌+◌, ◌≤◌, arith, rules}
+use Rattle.std.proofs.Common.{◌+◌, ◌≤◌, arith}
 use Rattle.connectivity.specs.Plan.{limits}
 use Rattle.record.proofs.Stepping.{f_ended, toward_at, one_more_at, ending_at, building_at}
 use Rattle.record.proofs.Progress.{row_room, stepping, path_fits, path_added}

@@ -1,5 +1,5 @@
 -- `next_edge` meets its contract: out of the first link that has an inside, or over the first edge that is not built.
-use Rattle.std.proofs.Common.{arith, rules}
+use Rattle.std.proofs.Common.{arith}
 use Rattle.record.proofs.Choosing.{tips_room, next_large, has_top, has_bottom, leaving, exit_chosen, links_same, opening, opened_behind, opened_chosen, slot_room, slot_small, over_room}
 use Rattle.record.proofs.step.next_edge.Goals as goal
 

@@ -1,5 +1,5 @@
 -- `build_walks` meets its contract: both ends are made branches, and the three walks are built. The loop's invariant: k of them are built.
-use Rattle.std.proofs.Common.{◌≡◌, ℕ, ◌+◌, ◌-◌, List, length, set, refl, ◌∙◌, arith, length-set, rules}
+use Rattle.std.proofs.Common.{◌+◌, set, refl, ◌∙◌, arith, length-set}
 use Rattle.connectivity.specs.Plan.{limits}
 use Rattle.record.specs.Opening.{Raw}
 use Rattle.record.proofs.Opening.{root_fits, x_fits, p_fits, x_small, Stage, stage_start, stage_building, stage_next, stage_end}

@@ -1,5 +1,5 @@
 -- `find` meets its contract: two doors of the root's first child, and the place where their ways up meet.
-use Rattle.std.proofs.Common.{◌+◌, arith, rules}
+use Rattle.std.proofs.Common.{◌+◌, arith}
 use Rattle.connectivity.specs.Plan.{limits}
 use Rattle.graph.specs.Marks.{read}
 use Rattle.record.specs.Opening.{NextDoor, Finding}

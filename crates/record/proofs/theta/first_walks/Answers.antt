@@ -1,5 +1,5 @@
 -- `first_walks` meets its contract: what is found is what writing and building the three walks ask.
-use Rattle.std.proofs.Common.{◌∙◌, rules}
+use Rattle.std.proofs.Common.{◌∙◌}
 use Rattle.record.proofs.Beginning.{finding, rowed, raw, begun}
 use Rattle.record.proofs.theta.first_walks.Goals as goal
 

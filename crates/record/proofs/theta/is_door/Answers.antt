@@ -1,5 +1,5 @@
 -- `is_door` meets its contract.
-use Rattle.std.proofs.Common.{◌≡◌, ℕ, ◌≤◌, Bool, true, false, leb, refl, arith, rules, leb-false, leb-true}
+use Rattle.std.proofs.Common.{◌≡◌, ℕ, ◌≤◌, Bool, true, false, leb, refl, arith, leb-false, leb-true}
 use Rattle.graph.specs.Marks.{read}
 use Rattle.graph.specs.Tells.{Tells}
 use Rattle.record.specs.Opening.{Door}

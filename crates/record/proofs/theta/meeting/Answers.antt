@@ -1,5 +1,5 @@
 -- `meeting` meets its contract: the first way's vertices are marked, the second is followed to the first mark, and the marks are taken back.
-use Rattle.std.proofs.Common.{arith, rules}
+use Rattle.std.proofs.Common.{arith}
 use Rattle.record.proofs.TwoWays.{marking, toward, meeting_at, unmarked}
 use Rattle.record.proofs.theta.meeting.Goals as goal
 

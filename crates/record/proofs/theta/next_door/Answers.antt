@@ -1,6 +1,6 @@
 -- `next_door` meets its contract. The loop's invariant: no place passed is that of a door.
-use Rattle.std.proofs.Common.{◌-◌, length, arith}
-use Rattle.record.proofs.Doors.{Passed, passed_start, passed_step, passed_door, place_below, place_fits, edge_fits_lem, door_fits}
+use Rattle.std.proofs.Common.{arith}
+use Rattle.record.proofs.Doors.{passed_start, passed_step, passed_door, place_below, place_fits, edge_fits_lem, door_fits}
 use Rattle.record.proofs.theta.next_door.Goals as goal
 
 pub loop-end-init : goal.loop-end-init

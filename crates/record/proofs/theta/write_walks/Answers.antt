@@ -1,5 +1,5 @@
 -- `write_walks` meets its contract: three steps, each through the part of the list behind the rows before it.
-use Rattle.std.proofs.Common.{ℕ, ◌+◌, ◌-◌, ◌*◌, ◌≤◌, List, ◌++◌, length, take, drop, arith, rules}
+use Rattle.std.proofs.Common.{ℕ, ◌+◌, ◌-◌, ◌*◌, ◌≤◌, List, ◌++◌, length, take, drop, arith}
 use Rattle.connectivity.specs.Plan.{limits}
 use Rattle.record.proofs.ThreeRows.{high_room, one_fits, low_room, two_fits, side_room, three_fits, three_written}
 use Rattle.record.proofs.theta.write_walks.Goals as goal

@@ -1,9 +1,7 @@
 -- `build_up` meets its contract. The loop's invariant: the legs that are done are built, and the top is the last vertex that was left.
-use Rattle.std.proofs.Common.{◌/◌, ◌<◌, ◌≤◌, length, arith}
 use Rattle.connectivity.specs.Plan.{limits}
-use Rattle.record.specs.Ways.{Rises, next_up}
-use Rattle.record.proofs.Paths.{left, left_less, onward_next, onward_rises}
-use Rattle.record.proofs.Rising.{LiftsAll, lifts_start, lifts_step, lifts_end}
+use Rattle.record.proofs.Paths.{left}
+use Rattle.record.proofs.Rising.{LiftsAll}
 use Rattle.record.proofs.walk.build_up.Given as goal
 
 abbrev pub invariant-loop-at : goal.invariant-loop-at

@@ -1,9 +1,8 @@
 -- `climb` meets its contract. The loop's invariant: the legs that are done have their rows.
 use Rattle.std.proofs.Common.{arith}
-use Rattle.connectivity.specs.Plan.{limits}
 use Rattle.record.specs.Ways.{Rises}
-use Rattle.record.proofs.Paths.{left, left_less, onward_rises}
-use Rattle.record.proofs.Rising.{RisingAll, rising_start, rising_length, rising_end, rising_few, rising_step}
+use Rattle.record.proofs.Paths.{left_less, onward_rises}
+use Rattle.record.proofs.Rising.{rising_start, rising_length, rising_end, rising_few, rising_step}
 use Rattle.record.proofs.walk.climb.Goals as goal
 
 pub loop-at-init : goal.loop-at-init

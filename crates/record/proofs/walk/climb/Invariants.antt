@@ -1,9 +1,7 @@
 -- `climb` meets its contract. The loop's invariant: the legs that are done have their rows.
-use Rattle.std.proofs.Common.{arith}
 use Rattle.connectivity.specs.Plan.{limits}
-use Rattle.record.specs.Ways.{Rises}
-use Rattle.record.proofs.Paths.{left, left_less, onward_rises}
-use Rattle.record.proofs.Rising.{RisingAll, rising_start, rising_length, rising_end, rising_few, rising_step}
+use Rattle.record.proofs.Paths.{left}
+use Rattle.record.proofs.Rising.{RisingAll}
 use Rattle.record.proofs.walk.climb.Given as goal
 
 abbrev pub invariant-loop-at : goal.invariant-loop-at

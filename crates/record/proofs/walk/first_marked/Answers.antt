@@ -1,8 +1,7 @@
 -- `first_marked` meets its contract. The loop's invariant: the first marked vertex is still ahead.
 use Rattle.std.proofs.Common.{arith}
-use Rattle.connectivity.specs.Plan.{limits}
 use Rattle.record.proofs.Paths.{onward_start}
-use Rattle.record.proofs.Meeting.{HeadingAll, toward, heading_below, heading_rises, heading_step, heading_less, heading_end}
+use Rattle.record.proofs.Meeting.{heading_below, heading_rises, heading_step, heading_less, heading_end}
 use Rattle.record.proofs.walk.first_marked.Goals as goal
 
 pub loop-at-init : goal.loop-at-init

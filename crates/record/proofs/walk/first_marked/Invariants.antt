@@ -1,8 +1,6 @@
 -- `first_marked` meets its contract. The loop's invariant: the first marked vertex is still ahead.
-use Rattle.std.proofs.Common.{arith}
 use Rattle.connectivity.specs.Plan.{limits}
-use Rattle.record.proofs.Paths.{onward_start}
-use Rattle.record.proofs.Meeting.{HeadingAll, toward, heading_below, heading_rises, heading_step, heading_less, heading_end}
+use Rattle.record.proofs.Meeting.{HeadingAll, toward}
 use Rattle.record.proofs.walk.first_marked.Given as goal
 
 abbrev pub invariant-loop-at : goal.invariant-loop-at

@@ -1,8 +1,8 @@
 -- `mark_up` meets its contract. The loop's invariant: the vertices that were left have the mark.
 use Rattle.std.proofs.Common.{◌<◌, length, arith}
 use Rattle.connectivity.specs.Plan.{limits}
-use Rattle.record.proofs.Paths.{left, left_less, onward_below, onward_rises}
-use Rattle.record.proofs.Rising.{MarksAll, marks_start, marks_room, marks_step, marks_long, marks_end}
+use Rattle.record.proofs.Paths.{left_less, onward_below, onward_rises}
+use Rattle.record.proofs.Rising.{marks_start, marks_room, marks_step, marks_long, marks_end}
 use Rattle.record.proofs.walk.mark_up.Goals as goal
 
 pub loop-at-init : goal.loop-at-init

@@ -1,8 +1,7 @@
 -- `mark_up` meets its contract. The loop's invariant: the vertices that were left have the mark.
-use Rattle.std.proofs.Common.{◌<◌, length, arith}
 use Rattle.connectivity.specs.Plan.{limits}
-use Rattle.record.proofs.Paths.{left, left_less, onward_below, onward_rises}
-use Rattle.record.proofs.Rising.{MarksAll, marks_start, marks_room, marks_step, marks_long, marks_end}
+use Rattle.record.proofs.Paths.{left}
+use Rattle.record.proofs.Rising.{MarksAll}
 use Rattle.record.proofs.walk.mark_up.Given as goal
 
 abbrev pub invariant-loop-at : goal.invariant-loop-at

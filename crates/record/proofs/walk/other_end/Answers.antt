@@ -1,5 +1,5 @@
 -- `other_end` meets its contract: the other end, by the one test.
-use Rattle.std.proofs.Common.{rules, eq-eqb, ne_eqb}
+use Rattle.std.proofs.Common.{eq-eqb, ne_eqb}
 use Rattle.record.proofs.walk.other_end.Goals as goal
 
 pub returns-then-l-v : goal.returns-then-l-v

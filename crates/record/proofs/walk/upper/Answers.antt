@@ -1,5 +1,5 @@
 -- `upper` meets its contract.
-use Rattle.std.proofs.Common.{rules, le-ltb, lt-ltb}
+use Rattle.std.proofs.Common.{le-ltb, lt-ltb}
 use Rattle.record.proofs.walk.upper.Goals as goal
 
 pub returns-then-number-l : goal.returns-then-number-l

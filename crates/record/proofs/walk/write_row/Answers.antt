@@ -1,5 +1,5 @@
 -- `write_row` meets its contract: three numbers are stored.
-use Rattle.std.proofs.Common.{arith, length-set, rules}
+use Rattle.std.proofs.Common.{arith, length-set}
 use Rattle.record.proofs.walk.write_row.Goals as goal
 
 pub bounds-rows-k-2 : goal.bounds-rows-k-2

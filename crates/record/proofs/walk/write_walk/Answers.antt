@@ -1,5 +1,5 @@
 -- `write_walk` meets its contract: one row, and a climb through the part of the list behind it.
-use Rattle.std.proofs.Common.{arith, rules}
+use Rattle.std.proofs.Common.{arith}
 use Rattle.record.proofs.Rising.{over_climb, over_up}
 use Rattle.record.proofs.walk.write_walk.Goals as goal
 

@@ -1,6 +1,5 @@
 -- `hearthtansy_check_texts` meets its contract: it packs what `check_texts` answers.
 use mathlib.Core.Path.{ap, ◌∙◌}
-use borrow.Author.Rules.{rules}
 use Rattle.connectivity.specs.Admission as meaning
 use Rattle.graph.specs.declared.Answer.{Answer}
 use Rattle.verify_texts.specs.Board.{packed}

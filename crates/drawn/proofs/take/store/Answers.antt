@@ -1,0 +1,74 @@
+-- `store` meets its contract. The loop's invariant: what is left to be stored, from drawn tab e on, makes the whole.
+use mathlib.Core.Path.{◌≡◌, sym, ap, ◌∙◌}
+use mathlib.Core.Bool.{true}
+use mathlib.Core.List.{List, [], ◌∷◌}
+use Prim.Native.Nat.{ℕ, ◌+◌, ◌*◌, ◌-◌, ◌<◌}
+use native.Mathlib.Omega.{arith}
+use lib.ListN.{length, drop, length-drop}
+use lib.Seq.{sets}
+use Rattle.text.proofs.Laws.{and_true}
+use Rattle.drawn.specs.Drawing.{Drawn, all_ends, wide_ones, wide_numbers}
+use Rattle.drawn.specs.Text.{Form, form, edge_size, edge_fits, edge_in, edges_fit, edges_in}
+use Rattle.drawn.specs.Line.{EdgeRead, drawn}
+use Rattle.drawn.specs.declared.line.Edge.{Edge}
+use Rattle.drawn.proofs.Edges.{fit_next, in_next, edges_long}
+use Rattle.drawn.proofs.Stores.{stored_next}
+use Rattle.drawn.proofs.take.store.Goals as goal
+
+-- of lines in the form, the next one is there, and so are those behind it
+module _ (f : Form) (next left : ℕ) (text : List ℕ) (h : 0 < left) (p : edges_fit f left (drop next text) ≡ true) where
+  both : (edge_fits f (drop next text) ≡ true) × (edges_fit f (left - 1) (drop (next + edge_size f) text) ≡ true)
+  both = and_true (edge_fits f (drop next text)) (edges_fit f (left - 1) (drop (next + edge_size f) text)) (sym (fit_next f next left text h) ∙ p)
+
+  drawn_is : {x : Edge} → EdgeRead f (drop next text) x → drawn x.left x.right x.gap ≡ edge_in f (drop next text)
+  drawn_is r = let e = r.fits ∙ both.0 in rw (r.left e, r.right e, r.gap e)
+
+  listed : {x : Edge} → EdgeRead f (drop next text) x → edges_in f left (drop next text) ≡ drawn x.left x.right x.gap ∷ edges_in f (left - 1) (drop (next + edge_size f) text)
+  listed r = in_next f next left text h ∙ ap (λ (d : Drawn). d ∷ edges_in f (left - 1) (drop (next + edge_size f) text)) (sym (drawn_is r))
+
+pub read_edge-edge-requires : goal.read_edge-edge-requires
+read_edge-edge-requires c =
+    let l = c.loop-e in
+    let a = c.args in
+    omega (arith, edges_long form (a.edges - l.e) (drop l.next a.text.now) l.invariant.fits, length-drop l.next a.text.now)
+
+pub overflow_add-next : goal.overflow_add-next
+overflow_add-next c =
+    let l = c.loop-e in
+    let a = c.args in
+    omega (arith, edges_long form (a.edges - l.e) (drop l.next a.text.now) l.invariant.fits, length-drop l.next a.text.now)
+
+pub loop-e-preserved : goal.loop-e-preserved
+loop-e-preserved c =
+    let a = c.args in
+    let l = c.loop-e in
+    let i = l.invariant in
+    let left = a.edges - l.e in
+    let r = c.read_edge-edge.ensures in
+    let s = stored_next c.put-count.ensures (edges_in form (left - 1) (drop (l.next + edge_size form) a.text.now)) in
+    let p : a.edges - (l.e + 1) ≡ left - 1 = omega arith in
+    let q = listed form l.next left a.text.now (omega arith) i.fits r in
+    record {
+      inside = omega arith;
+      few = omega (arith, s.most);
+      ends_long = omega arith;
+      numbers_long = omega arith;
+      fits = rw p (both form l.next left a.text.now (omega arith) i.fits).1;
+      many = rw p (s.many ∙ ap (λ (d : List Drawn). l.count + length (wide_numbers a.least l.e d)) (sym q) ∙ i.many);
+      ends_set = rw p (s.ends_set ∙ ap (λ (d : List Drawn). sets l.ends (2 * l.count) (all_ends (wide_ones a.least d))) (sym q) ∙ i.ends_set);
+      numbers_set = rw p (s.numbers_set ∙ ap (λ (d : List Drawn). sets l.numbers l.count (wide_numbers a.least l.e d)) (sym q) ∙ i.numbers_set);
+    }
+
+pub returns : goal.returns
+unfolding all_ends wide_ones wide_numbers edges_in
+returns c =
+    let a = c.args in
+    let l = c.loop-e in
+    let i = l.invariant in
+    let p : a.edges - l.e ≡ 0 = omega arith in
+    let none : edges_in form (a.edges - l.e) (drop l.next a.text.now) ≡ [] = rw p in
+    record {
+      many = omega (arith, rw none at i.many);
+      ends_set = rw none at i.ends_set;
+      numbers-set = rw none at i.numbers_set;
+    }
