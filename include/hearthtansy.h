@@ -63,8 +63,8 @@ extern "C" {
 #endif
 
 /* Bytes of stack to keep free below a call. */
-#define HEARTHTANSY_CHECK_STACK 37888
-#define HEARTHTANSY_CHECK_TEXTS_STACK 79872
+#define HEARTHTANSY_CHECK_STACK 39936
+#define HEARTHTANSY_CHECK_TEXTS_STACK 81920
 
 /*
  * The check of a verdict about a plan, both as numbers. `ends` has two numbers for each tab, the pieces that it joins. `excluded` has the

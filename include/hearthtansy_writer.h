@@ -28,8 +28,8 @@ extern "C" {
 #define HEARTHTANSY_VERDICT_STACK 83968
 #define HEARTHTANSY_VERDICT_TEXT_STACK 125952
 #define HEARTHTANSY_FALLEN_TEXT_STACK 104448
-#define HEARTHTANSY_GROUPS_STACK 94208
-#define HEARTHTANSY_GROUPS_TEXT_STACK 119808
+#define HEARTHTANSY_GROUPS_STACK 97280
+#define HEARTHTANSY_GROUPS_TEXT_STACK 121856
 
 /* Words that are lent for the marks of the pieces that would fall: one bit for each piece, sixty-four to a word. */
 #define HEARTHTANSY_FALLEN_WORDS 16
