@@ -83,6 +83,7 @@ fn pair_open(vertices: u16, marks: &[u8], table: &[u16], list: &mut [u16]) -> us
 }
 
 // One pair, unless there is a mark; and the place behind it.
+#[tactic(auto, unfolding(crate::specs::Pairs::pair_unless))]
 fn put(v: u16, mark: u8, group: u16, list: &mut [u16], at: usize) -> usize
     requires { at + 2 ≤ length list.old }
     ensures { (result ≡ at + length (pair_unless mark v group)) × (list.new ≡ sets list.old at (pair_unless mark v group)) }

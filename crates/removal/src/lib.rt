@@ -176,6 +176,7 @@ fn top(n: usize, from: usize) -> usize
 }
 
 // 1 where v has no mark in either table, else 0.
+#[tactic(auto, using(crate::proofs::Packing::unseen_first, crate::proofs::Packing::unseen_barred, crate::proofs::Packing::unseen_is))]
 fn mark(n: usize, first: &[u16], barred: &[u8], v: usize) -> u64
     requires { (n ≤ length first.now) × (n ≤ length barred.now) × (v < n) }
     ensures { result ≡ cond (is_unseen n first.now barred.now v) 1 0 }
