@@ -15,6 +15,7 @@ use lib.Dec.{T, eqb, ltb, leb, lt→ltb}
 use lib.ListN.{length, get_or, set, drop, length-set, get_or-eq_default}
 use lib.Seq.{drop-cons, get_or-set_same, get_or-set_other}
 use borrow.Author.Tests.{eq-eqb, ne_eqb, eqb-true, eqb-false, lt-ltb, le-ltb, le-leb, lt-leb}
+use Rattle.std.specs.List.{list_any}
 use Rattle.connectivity.specs.Lists.{Ordered, keep, range, mem}
 use Rattle.connectivity.specs.Graph.{Vertex, Edge, is_vertex, is_edge, vertices, edges}
 use Rattle.connectivity.specs.Plan.{Plan, graph, Limits}
@@ -139,22 +140,14 @@ module _ {most : Limits} {p : Plan} (a : Admitted most p) where
         least = λ v h. omega (arith, out, t.lowest.least v h);
       }
 
--- whether a number stands in a list, from one to the next
-module _ (v k : ℕ) (list : List ℕ) (h : k < length list) where
-  mem_step : mem v (drop k list) ≡ (eqb v (get_or list k 0) || mem v (drop (suc k) list))
-  unfolding mem
-  mem_step = rw (drop-cons list k 0 h)
+eqb-sym : (a b : ℕ) → eqb a b ≡ eqb b a
+eqb-sym a b = elim (ℕ_discrete a b) [ yes q ↦ eq-eqb a b q ∙ sym (eq-eqb b a (sym q)) | no n ↦ ne_eqb a b n ∙ sym (ne_eqb b a (λ (q : b ≡ a). n (sym q))) ]
 
-  pub mem_here : get_or list k 0 ≡ v → mem v (drop k list) ≡ true
-  mem_here q = mem_step ∙ rw (eq-eqb v (get_or list k 0) (sym q))
-
-  pub mem_next : (get_or list k 0 ≡ v → ⊥) → mem v (drop k list) ≡ mem v (drop (k + 1) list)
-  mem_next n = let p : suc k ≡ k + 1 = omega arith in mem_step ∙ rw (ne_eqb v (get_or list k 0) (λ q. n (sym q)), p)
-
-pub mem_over : (v : ℕ) (rest : List ℕ) → length rest ≡ 0 → mem v rest ≡ false
+-- the library's test of a list
+pub mem-any : (v : ℕ) (list : List ℕ) → list_any (λ y. eqb y v) list ≡ mem v list
 unfolding mem
-mem_over v [] h = refl
-mem_over v (x ∷ rest) h = absurd (omega arith)
+mem-any v [] = refl
+mem-any v (x ∷ rest) = rw (eqb-sym x v) (ap (λ (t : Bool). eqb v x || t) (mem-any v rest))
 
 -- The marks of the edges.
 

@@ -8,7 +8,9 @@ use native.Mathlib.Nat.{eq-or-lt_of_le}
 use native.Mathlib.Omega.{arith}
 use native.Mathlib.Decide.{ℕ_discrete, dec_lt}
 use lib.Dec.{T}
-use lib.ListN.{length, get_or, length-append, get_or-append}
+use lib.ListN.{length, get_or, take, length-append, get_or-append}
+use Rattle.std.specs.List.{count_by}
+use Rattle.std.proofs.lemmas.List.Sums.{count_by_more_yes, count_by_more_no}
 use lib.Seq.{get_or-append_seam}
 use Rattle.connectivity.specs.Lists.{range, keep}
 use Rattle.connectivity.proofs.Lists.{T-dec, T_true, T_false}
@@ -132,3 +134,17 @@ module _ (f h : ℕ → Bool) where
       ]
     ]
   ]
+
+-- a test of the first numbers of a list, counted
+pub rank-count : (p : ℕ → Bool) (list : List ℕ) (n : ℕ) → n ≤ length list → rank (λ e. p (get_or list e 0)) n ≡ count_by p (take n list)
+rank-count p list zero h = rank-none (λ e. p (get_or list e 0))
+rank-count p list (suc n) h =
+    let here : n < length list = omega arith in
+    let before = rank-count p list n (omega arith) in
+    let next = rank_next (λ e. p (get_or list e 0)) n in
+    let one : suc n ≡ n + 1 = omega arith in
+    rw one (next ∙ ap (λ (x : ℕ). cond (p (get_or list n 0)) 1 0 + x) before ∙ sym (step (p (get_or list n 0)) refl here))
+  where
+    step : (b : Bool) → p (get_or list n 0) ≡ b → n < length list → count_by p (take (n + 1) list) ≡ cond b 1 0 + count_by p (take n list)
+    step true q here = omega (arith, count_by_more_yes p list n 0 here q)
+    step false q here = omega (arith, count_by_more_no p list n 0 here q)

@@ -1,5 +1,5 @@
 // Excluded vertices (02: slugs, which are meant to fall): 18, the lowest vertex that is kept, and the edges that end at an excluded one.
-ghost use Rattle.std.specs.Prelude.{◌≡◌, cond, ◌||◌, List, ℕ, ◌<◌, ◌≤◌, length, set};
+ghost use Rattle.std.specs.Prelude.{◌≡◌, ◌==◌, take, count_by, cond, ◌||◌, List, ℕ, ◌<◌, ◌≤◌, length, set};
 ghost use Rattle.connectivity.specs.Lists.{mem};
 ghost use Rattle.connectivity.specs.Graph.{edges};
 ghost use Rattle.connectivity.specs.Plan.{plan, graph, limits};
@@ -16,9 +16,7 @@ pub(crate) fn judge_excluded(vertices: u16, excluded: &[u16]) -> Answer
     ensures { result ≡ told_by (excluded_answer vertices 0 0 excluded.now) }
 {
     let mut low: u16 = 0;
-    let mut k = 0;
-    while k < excluded.len() {
-        let v = excluded[k];
+    for (k, &v) in excluded.iter().enumerate() {
         if v < low {
             return eighteen(k); // not above the one before
         }
@@ -26,7 +24,6 @@ pub(crate) fn judge_excluded(vertices: u16, excluded: &[u16]) -> Answer
             return eighteen(k);
         }
         low = v + 1;
-        k += 1;
     }
     Answer {
         number: 0,
@@ -48,37 +45,19 @@ fn eighteen(place: usize) -> Answer
 pub fn lowest_kept(excluded: &[u16]) -> usize
     ensures { result ≡ first_gap 0 excluded.now }
 {
-    let mut k = 0;
-    while k < excluded.len() {
-        if differs(excluded[k], k) {
+    for (k, &v) in excluded.iter().enumerate() {
+        if v as usize != k {
             return k;
         }
-        k += 1;
     }
-    k
-}
-
-fn differs(v: u16, k: usize) -> bool
-    ensures { Tells result (v ≡ k → ⊥) }
-{
-    if v as usize == k {
-        return false;
-    }
-    true
+    excluded.len()
 }
 
 // Whether v is excluded.
 pub fn is_excluded(excluded: &[u16], v: u16) -> bool
     ensures { result ≡ mem v excluded.now }
 {
-    let mut k = 0;
-    while k < excluded.len() {
-        if excluded[k] == v {
-            return true;
-        }
-        k += 1;
-    }
-    false
+    excluded.contains(&v)
 }
 
 // Marks each edge that ends at an excluded vertex; every other mark stays.
@@ -97,11 +76,8 @@ pub fn mask(ends: &[u16], excluded: &[u16], dead: &mut [u8])
 fn cover(ends: &[u16], barred: &[u8], dead: &mut [u8])
     ensures { (excluded : List ℕ) → Barring limits excluded barred.now → Masked limits ends.now excluded dead.old dead.new }
 {
-    let edges = ends.len() / 2;
-    let mut e = 0;
-    while e < edges {
+    for e in 0..ends.len() / 2 {
         cover_one(e, ends[2 * e], ends[2 * e + 1], barred, dead);
-        e += 1;
     }
 }
 
@@ -122,10 +98,8 @@ fn cover_one(e: usize, left: u16, right: u16, barred: &[u8], dead: &mut [u8])
 pub fn mark(list: &[u16], marks: &mut [u8])
     ensures { MarkedAll list.now marks.old marks.new }
 {
-    let mut i = 0;
-    while i < list.len() {
-        mark_one(list[i], marks);
-        i += 1;
+    for &v in list {
+        mark_one(v, marks);
     }
 }
 
@@ -171,19 +145,7 @@ pub(crate) fn count_kept(vertices: u16, ends: &[u16], excluded: &[u16]) -> u16
 // How many of the first `edges` edges have no mark.
 fn count_open(edges: usize, dead: &[u8]) -> u16
     requires { (edges ≤ limits.edges) × (edges ≤ length dead.now) }
-    ensures { result ≡ rank (is_open dead.now) edges }
+    ensures { result ≡ count_by (λ mark. mark == 0) (take edges dead.now) }
 {
-    let mut count: u16 = 0;
-    let mut e = 0;
-    while e < edges {
-        count += one_if(dead[e] == 0);
-        e += 1;
-    }
-    count
-}
-
-fn one_if(test: bool) -> u16
-    ensures { result ≡ cond test 1 0 }
-{
-    if test { 1 } else { 0 }
+    dead[..edges].iter().filter(|&&mark| mark == 0).count() as u16
 }

@@ -138,12 +138,9 @@ fn misfits(vertices: u16, ends: &[u16]) -> u16
     requires { length ends.now / 2 ≤ limits.edges }
     ensures { result ≡ 0 → ends_answer vertices 0 ends.now ≡ passed }
 {
-    let edges = ends.len() / 2;
     let mut sum: u16 = 0;
-    let mut e = 0;
-    while e < edges {
+    for e in 0..ends.len() / 2 {
         sum += judge_edge(vertices, ends[2 * e], ends[2 * e + 1]);
-        e += 1;
     }
     sum
 }
@@ -153,9 +150,7 @@ fn first_misfit(vertices: u16, ends: &[u16]) -> Answer
     requires { length ends.now / 2 ≤ limits.edges }
     ensures { result ≡ told_by (ends_answer vertices 0 ends.now) }
 {
-    let edges = ends.len() / 2;
-    let mut e = 0;
-    while e < edges {
+    for e in 0..ends.len() / 2 {
         let number = judge_edge(vertices, ends[2 * e], ends[2 * e + 1]);
         if number != 0 {
             return Answer {
@@ -163,7 +158,6 @@ fn first_misfit(vertices: u16, ends: &[u16]) -> Answer
                 place: e as u16,
             };
         }
-        e += 1;
     }
     Answer {
         number: 0,

@@ -1,6 +1,6 @@
 -- `misfits` meets its contract. The loop's invariant: where the sum is 0, the answer is the one from edge e on.
 use mathlib.Core.Path.{◌≡◌}
-use Prim.Native.Nat.{◌*◌, ◌/◌, ◌-◌, ◌≤◌}
+use Prim.Native.Nat.{◌*◌, ◌/◌, ◌≤◌}
 use lib.ListN.{length, drop}
 use Rattle.connectivity.specs.Plan.{limits}
 use Rattle.connectivity.specs.Admission.{ends_answer}
@@ -8,8 +8,4 @@ use Rattle.graph.proofs.misfits.Given as goal
 
 abbrev pub invariant-loop-e : goal.invariant-loop-e
 invariant-loop-e l =
-    (l.e ≤ l.edges) × (l.edges ≡ length l.ends / 2) × (l.edges ≤ limits.edges) × (l.sum ≤ 5 * l.e)
-    × (l.sum ≡ 0 → ends_answer l.vertices 0 l.ends ≡ ends_answer l.vertices l.e (drop (2 * l.e) l.ends))
-
-abbrev pub decreases-loop-e : goal.decreases-loop-e
-decreases-loop-e l = l.edges - l.e
+    (length l.ends / 2 ≤ limits.edges) × (l.sum ≤ 5 * l.e) × (l.sum ≡ 0 → ends_answer l.vertices 0 l.ends ≡ ends_answer l.vertices l.e (drop (2 * l.e) l.ends))

@@ -8,6 +8,8 @@ use Rattle.connectivity.specs.Plan.{plan, Limits, limits}
 use Rattle.connectivity.specs.Admission.{kept_edges, Admitted}
 use Rattle.connectivity.proofs.Lists.{length-range}
 use Rattle.connectivity.proofs.Kept.{entire-edges}
+use lib.Dec.{eqb}
+use Rattle.graph.proofs.Rank.{rank-count}
 use Rattle.graph.proofs.Tally.{zeros}
 use Rattle.graph.proofs.Barring.{kept_edges_lem}
 use Rattle.graph.proofs.excluded.count_kept.Goals as goal
@@ -30,4 +32,4 @@ count_open-requires c =
 pub returns : goal.returns
 returns c =
     let a = c.requires in
-    c.count_open.ensures ∙ kept_edges_lem a c.mask.ensures (omega (arith, a.edges, length-replicate {A = ℕ} limits.edges 0)) (λ e. zeros limits.edges e)
+    c.count_open.ensures ∙ sym (rank-count (λ mark. eqb mark 0) c.mask.new.dead (length c.args.ends.now / 2) (omega (arith, a.edges, c.mask.ensures.long, length-replicate {A = ℕ} limits.edges 0))) ∙ kept_edges_lem a c.mask.ensures (omega (arith, a.edges, length-replicate {A = ℕ} limits.edges 0)) (λ e. zeros limits.edges e)
