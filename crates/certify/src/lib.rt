@@ -7,7 +7,6 @@ ghost use Rattle.removal.specs.Fallen.{none, removed_by};
 ghost use Rattle.certify.specs.declared.Outcome.TheVariants.{Weak};
 ghost use Rattle.certify.specs.Answered.{Answered, unnamed, named};
 
-use cuts::Lightest;
 use cuts::lowest::Lowest;
 use graph::Answer;
 use removal::Fallen;
@@ -34,9 +33,9 @@ pub fn verdict(vertices: u16, ends: &[u16], excluded: &[u16], rows: &mut [u16]) 
 {
     let found = record::write_record(vertices, ends, excluded, rows);
     match found {
-        Lightest::Refused(answer) => said(Outcome::Refused(answer)),
-        Lightest::Cut(cut) => weak(vertices, ends, excluded, cut),
-        Lightest::NoCut => said(Outcome::Firm),
+        Err(answer) => said(Outcome::Refused(answer)),
+        Ok(Some(cut)) => weak(vertices, ends, excluded, cut),
+        Ok(None) => said(Outcome::Firm),
     }
 }
 

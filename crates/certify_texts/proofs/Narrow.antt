@@ -1,5 +1,6 @@
 -- 01's own texts: the laws that are stated for every width, largest value and limits, cited for columns of five, 65,535 and 01's limits, which the
 -- entries name. Their premises hold for these.
+use Rattle.std.specs.Prelude.{Err, Ok}
 use mathlib.Core.Path.{◌≡◌}
 use mathlib.Core.Bool.{true}
 use mathlib.Core.List.{List}
@@ -12,8 +13,7 @@ use Rattle.connectivity.specs.Judge.{judge}
 use Rattle.text.specs.Column.{worths, five, largest}
 use Rattle.text.specs.Plan.{PlanReading, Writing, plan_text, read_plan, write_plan}
 use Rattle.text.specs.Verdict.{VerdictReading, has_text, verdict_text, read_verdict, write_verdict}
-use Rattle.text_write.specs.declared.Written.{Written}
-use Rattle.text_write.specs.declared.Written.TheVariants as written
+use Rattle.text_write.specs.Entry.{Written}
 use Rattle.text.proofs.RoundTrip as round
 use Rattle.verify_texts.specs.Texts.{plan_in, judge_texts}
 use Rattle.verify_texts.proofs.TwoTexts as two
@@ -38,6 +38,6 @@ judge_written = two.judge_written 5 largest (omega arith) limits (omega arith) (
 
 -- 01, demand 3: of every plan text that is read, the bytes that the verdict entry leaves at the front of the lent buffer pass the check of both texts
 pub left_passes : {plan before after : List ℕ} {r : Written} {p : Plan} {count : ℕ} → WritesFor five largest limits plan before after r
-    → plan_in five largest limits plan ≡ PlanReading.read p → r ≡ written.Bytes count → judge_texts five largest limits plan (take count after) ≡ passed
+    → plan_in five largest limits plan ≡ PlanReading.read p → r ≡ Ok count → judge_texts five largest limits plan (take count after) ≡ passed
 unfolding worths
 left_passes = passing.left_passes 5 largest (omega arith) limits (omega arith) (omega arith)

@@ -1,5 +1,6 @@
 -- The text that is written for a plan text: its verdict has a text form, so that 6 is the only refusal; and of a plan that is read, the
 -- bytes that are left in the lent buffer pass the check of both texts.
+use Rattle.std.specs.Prelude.{Err, Ok}
 use mathlib.Core.Path.{◌≡◌, refl, sym, ap, subst, ◌∙◌}
 use mathlib.Core.Logic.{inl, inr}
 use mathlib.Core.Bool.{true}
@@ -25,8 +26,7 @@ use Rattle.text.specs.Column.{worths, line_size}
 use Rattle.text.specs.Plan.{PlanReading, Writing, filled}
 use Rattle.text.specs.Verdict.{VerdictReading, is_refusal, has_text, verdict_text, write_verdict}
 use Rattle.text_write.specs.Entry.{handed, bytes_handed, after_writing}
-use Rattle.text_write.specs.declared.Written.{Written}
-use Rattle.text_write.specs.declared.Written.TheVariants as written
+use Rattle.text_write.specs.Entry.{Written}
 use Rattle.text.proofs.Writing.{length-verdict, verdict_size, verdict_written}
 use Rattle.text.proofs.RoundTrip.{verdict_kept}
 use Rattle.text_write.proofs.Result.{bytes_told}
@@ -88,10 +88,10 @@ module _ {ws : List ℕ} {most : ℕ} {limits : Limits} where
     longest {kind = kind} {list = list} s = let h = says_text s in omega (arith, length-verdict ws limits kind list 0 h, (verdict_size ws limits high kind list h).1)
 
     pub bytes_fit : {plan before after : List ℕ} {r : Written} {count : ℕ} → WritesFor ws most limits plan before after r
-        → line_size ws 2 + limits.edges * line_size ws 3 ≤ length before → r ≡ written.Bytes count → count ≤ line_size ws 2 + limits.edges * line_size ws 3
+        → line_size ws 2 + limits.edges * line_size ws 3 ≤ length before → r ≡ Ok count → count ≤ line_size ws 2 + limits.edges * line_size ws 3
     bytes_fit {before = before} {count = count} w h q =
         let text = verdict_text ws w.kind w.list in
-        let told : handed (written.Bytes count) ≡ bytes_handed (Writing.written text) = ap handed (sym q) ∙ w.written.answer
+        let told : handed (Ok count) ≡ bytes_handed (Writing.written text) = ap handed (sym q) ∙ w.written.answer
         ∙ ap bytes_handed (verdict_written ws limits w.kind w.list (length before) (says_text w.says) (omega (arith, h, longest w.says))) in
         let same : count ≡ length text = ap (λ (x : Handed). get_or x.values 0 0) told in
         omega (arith, same, longest w.says)
@@ -121,7 +121,7 @@ module _ (w most : ℕ) (digits : most < 10 ^ w) (limits : Limits) (numbers : 2 
   -- 01, demand 3: the bytes that the verdict entry leaves at the front of the lent buffer pass the check of both texts, for every plan text
   -- that is read
   pub left_passes : {plan before after : List ℕ} {r : Written} {p : Plan} {count : ℕ} → WritesFor ws most limits plan before after r
-      → plan_in ws most limits plan ≡ PlanReading.read p → r ≡ written.Bytes count → judge_texts ws most limits plan (take count after) ≡ passed
+      → plan_in ws most limits plan ≡ PlanReading.read p → r ≡ Ok count → judge_texts ws most limits plan (take count after) ≡ passed
   left_passes {plan} {before} {after} {count = count} c q b =
       let (bytes, x, long) = bytes_told (write_verdict ws limits c.kind c.list (length before)) c.written.answer b in
       let text = (two.verdict_written ws limits c.kind c.list (length before) bytes x).1 in

@@ -19,7 +19,7 @@ use Rattle.graph.proofs.Barring.{edges_few}
 use Rattle.text.specs.Plan.{PlanReading}
 use Rattle.text_write.specs.Entry as written
 use Rattle.text_write.specs.Entry.{size_of}
-use Rattle.text_write.specs.declared.Written.{Written}
+use Rattle.text_write.specs.Entry.{Written}
 use Rattle.verify_texts.specs.Texts.{plan_in}
 use Rattle.certify.specs.declared.Finding.{Finding}
 use Rattle.certify.specs.declared.Outcome.TheVariants.{Refused, Weak, Firm}

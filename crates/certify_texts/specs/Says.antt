@@ -6,7 +6,7 @@ use Rattle.connectivity.specs.Judge.{judge}
 use Rattle.connectivity.specs.Verdict as meaning
 use Rattle.text.specs.Plan.{PlanReading}
 use Rattle.text_write.specs.Entry.{WritesVerdict}
-use Rattle.text_write.specs.declared.Written.{Written}
+use Rattle.text_write.specs.Entry.{Written}
 use Rattle.verify_texts.specs.Texts.{plan_in}
 
 -- 01: kind 1 with the tabs of a weak plan, kind 0 with a record that passes of a firm one

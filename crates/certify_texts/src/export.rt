@@ -9,7 +9,7 @@ ghost use Rattle.certify_texts.specs.Packed.{four, packed, Packed, Marks, TextSi
 
 use certify::{Finding, Outcome};
 use removal::Fallen;
-use text_write::Written;
+use graph::Answer;
 
 // The verdict on a plan; a firm one's record stands at the front of `rows`, the pieces that fall with a weak one are marked in `fallen`.
 pub fn hearthtansy_verdict(
@@ -66,11 +66,11 @@ fn join(a: u16, b: u16, c: u16, d: u16) -> u64
     ((a as u64 * 65536 + b as u64) * 65536 + c as u64) * 65536 + d as u64
 }
 
-fn count(written: Written) -> usize
+fn count(written: Result<usize, Answer>) -> usize
     ensures { result ≡ size_of (entry.handed written) }
 {
     match written {
-        Written::Bytes(count) => count,
-        Written::Refused(_) => 0,
+        Ok(count) => count,
+        Err(_) => 0,
     }
 }

@@ -12,24 +12,23 @@ ghost use Rattle.certify_texts.specs.Says.{WritesFor, WritesOf};
 
 use certify::Outcome;
 use cuts::lowest::Lowest;
-use graph::{Admission, Graph};
-use text_write::Written;
+use graph::{Answer, Graph};
 
 pub mod export; // export.rt: the writer as C takes it
 
 // Writes the verdict text of a plan text; kind 2 with the number of its refusal where it is refused. 6 where `bytes` is shorter than that.
-pub fn verdict_text(plan: &[u8], bytes: &mut [u8]) -> Written
+pub fn verdict_text(plan: &[u8], bytes: &mut [u8]) -> Result<usize, Answer>
     ensures { WritesFor five largest limits plan.now bytes.old bytes.new result }
 {
     let mut table = [0u16; 2 * Graph::MAX_EDGES + Graph::MAX_VERTICES];
     let read = text_read::read_plan(plan, &mut table);
     match read {
-        Admission::Refused(answer) => write_refusal(answer.number, bytes),
-        Admission::Admitted(graph) => write_read(graph, &table, bytes),
+        Err(answer) => write_refusal(answer.number, bytes),
+        Ok(graph) => write_read(graph, &table, bytes),
     }
 }
 
-fn write_refusal(number: u16, bytes: &mut [u8]) -> Written
+fn write_refusal(number: u16, bytes: &mut [u8]) -> Result<usize, Answer>
     ensures { WritesVerdict five limits 2 (number ∷ []) bytes.old bytes.new result }
 {
     let list = [number];
@@ -37,7 +36,7 @@ fn write_refusal(number: u16, bytes: &mut [u8]) -> Written
 }
 
 // The verdict text of the plan in a table that was filled.
-fn write_read(counts: Graph, table: &[u16], bytes: &mut [u8]) -> Written
+fn write_read(counts: Graph, table: &[u16], bytes: &mut [u8]) -> Result<usize, Answer>
     requires { Holds counts table.now × Admitted limits (plan_of counts table.now) }
     ensures { WritesOf five limits (plan_of counts table.now) bytes.old bytes.new result }
 {
@@ -59,7 +58,7 @@ fn write_admitted(
     excluded: &[u16],
     kept: u16,
     bytes: &mut [u8],
-) -> Written
+) -> Result<usize, Answer>
     requires { Admitted limits (plan vertices ends.now excluded.now) × (kept ≡ kept_edges (plan vertices ends.now excluded.now)) }
     ensures { WritesOf five limits (plan vertices ends.now excluded.now) bytes.old bytes.new result }
 {
@@ -76,7 +75,7 @@ fn write_admitted(
     }
 }
 
-fn write_weak(cut: Lowest, bytes: &mut [u8]) -> Written
+fn write_weak(cut: Lowest, bytes: &mut [u8]) -> Result<usize, Answer>
     requires { cut.count ≤ 2 }
     ensures { WritesVerdict five limits 1 (named cut) bytes.old bytes.new result }
 {

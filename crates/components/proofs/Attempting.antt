@@ -21,7 +21,7 @@ use Rattle.graph.proofs.Joined.{joins_below}
 use Rattle.incidence.specs.Tables.{Tabled}
 use Rattle.depth.specs.Depth.{Cutting}
 use Rattle.depth.specs.Depth as depth
-use Rattle.depth.specs.declared.Explored.{Explored}
+use Rattle.depth.specs.Depth.{Explored}
 use Rattle.depth.proofs.Left.{fresh_at, seen, marked}
 use Rattle.depth.proofs.Masking.{found_kept}
 use Rattle.depth.proofs.Outcomes.{seen_found, tabled_enough}

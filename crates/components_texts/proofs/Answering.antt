@@ -17,7 +17,7 @@ use Rattle.text.specs.Column.{line}
 use Rattle.text.specs.Plan.{PlanReading, Writing, filled}
 use Rattle.text.specs.Lines.{write_text, write_lines}
 use Rattle.text_write.specs.Entry.{handed, bytes_handed, size_of, after_writing, WritesLines}
-use Rattle.text_write.specs.declared.Written.{Written}
+use Rattle.text_write.specs.Entry.{Written}
 use Rattle.verify_texts.specs.Board.{packed}
 use Rattle.verify_texts.specs.Texts.{plan_in}
 use Rattle.components.specs.Answered.{Answered}

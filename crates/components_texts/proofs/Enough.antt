@@ -1,4 +1,5 @@
 -- How long the text of the groups is: a line of two columns for each vertex that is kept, so that space for these is enough and 6 never occurs.
+use Rattle.std.specs.Prelude.{Err, Ok}
 use mathlib.Core.Path.{◌≡◌, refl, ap, ◌∙◌}
 use mathlib.Core.List.{List, [], ◌∷◌}
 use Prim.Native.Nat.{ℕ, ◌*◌, ◌≤◌}
@@ -15,8 +16,7 @@ use Rattle.text.specs.Plan.{PlanReading, Writing}
 use Rattle.text.proofs.Laws.{length-line}
 use Rattle.text.proofs.Writing.{text_written}
 use Rattle.text_write.specs.Entry.{bytes_handed}
-use Rattle.text_write.specs.declared.Written.{Written}
-use Rattle.text_write.specs.declared.Written.TheVariants as written
+use Rattle.text_write.specs.Entry.{Written}
 use Rattle.text_write.proofs.Result.{bytes_told}
 use Rattle.verify_texts.specs.Texts.{plan_in}
 use Rattle.verify_texts.proofs.Stored.{planned}
@@ -55,7 +55,7 @@ module _ (ws : List ℕ) (most : ℕ) (limits : Limits) (one : 1 ≤ limits.vert
   enough space h = text_written text space (omega (arith, longest))
 
   pub bytes_fit : {before after : List ℕ} {r : Written} {count : ℕ} → WritesGroups ws most limits plan before after r
-      → limits.vertices * line_size ws 2 ≤ length before → r ≡ written.Bytes count → count ≤ limits.vertices * line_size ws 2
+      → limits.vertices * line_size ws 2 ≤ length before → r ≡ Ok count → count ≤ limits.vertices * line_size ws 2
   bytes_fit {before = before} w h q =
       let (bytes, same, long) = bytes_told (Writing.written text) (w.answer ∙ ap bytes_handed (enough (length before) h)) q in
       let is : length bytes ≡ length text = cc in

@@ -7,7 +7,7 @@ use Rattle.text.specs.Column.{line}
 use Rattle.text.specs.Plan.{PlanReading, Writing}
 use Rattle.text.specs.Lines.{write_text}
 use Rattle.text_write.specs.Entry.{handed, bytes_handed, after_writing}
-use Rattle.text_write.specs.declared.Written.{Written}
+use Rattle.text_write.specs.Entry.{Written}
 use Rattle.verify_texts.specs.Texts.{plan_in}
 
 -- In what follows `ws` are the worths of a column's digits and `most` is the largest value.

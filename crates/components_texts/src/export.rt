@@ -8,7 +8,6 @@ ghost use Rattle.verify_texts.specs.Board.{packed};
 ghost use Rattle.components_texts.specs.Export.{Packed, TextSize};
 
 use graph::Answer;
-use text_write::Written;
 
 // The groups of a plan, at the front of `table`.
 pub fn hearthtansy_groups(vertices: u16, ends: &[u16], excluded: &[u16], table: &mut [u16]) -> u32
@@ -31,11 +30,11 @@ fn pack(answer: Answer) -> u32
     answer.number as u32 * 65536 + answer.place as u32
 }
 
-fn count(written: Written) -> usize
+fn count(written: Result<usize, Answer>) -> usize
     ensures { result ≡ size_of (handed written) }
 {
     match written {
-        Written::Bytes(count) => count,
-        Written::Refused(_) => 0,
+        Ok(count) => count,
+        Err(_) => 0,
     }
 }

@@ -13,24 +13,23 @@ ghost use Rattle.verify_texts.specs.Table.{Holds, plan_of};
 ghost use Rattle.components_texts.specs.Groups.{WritesGroups};
 ghost use Rattle.components_texts.specs.Pairs.{group_pairs, pair_unless, others, Paired};
 
-use graph::{Admission, Graph};
-use text_write::Written;
+use graph::{Answer, Graph};
 
 pub mod export; // export.rt: the groups as C takes them
 
 // Writes a line for each piece that a plan text keeps, piece and group; of a refused plan its number alone. 6 where `bytes` is shorter than that.
-pub fn groups_text(plan: &[u8], bytes: &mut [u8]) -> Written
+pub fn groups_text(plan: &[u8], bytes: &mut [u8]) -> Result<usize, Answer>
     ensures { WritesGroups five largest limits plan.now bytes.old bytes.new result }
 {
     let mut table = [0u16; 2 * Graph::MAX_EDGES + Graph::MAX_VERTICES];
     let read = text_read::read_plan(plan, &mut table);
     match read {
-        Admission::Refused(answer) => write_number(answer.number, bytes),
-        Admission::Admitted(graph) => write_read(graph, &table, bytes),
+        Err(answer) => write_number(answer.number, bytes),
+        Ok(graph) => write_read(graph, &table, bytes),
     }
 }
 
-fn write_number(number: u16, bytes: &mut [u8]) -> Written
+fn write_number(number: u16, bytes: &mut [u8]) -> Result<usize, Answer>
     ensures { WritesLines five 1 (number ∷ []) bytes.old bytes.new result }
 {
     let list = [number];
@@ -38,7 +37,7 @@ fn write_number(number: u16, bytes: &mut [u8]) -> Written
 }
 
 // The lines of the plan in a table that was filled.
-fn write_read(counts: Graph, table: &[u16], bytes: &mut [u8]) -> Written
+fn write_read(counts: Graph, table: &[u16], bytes: &mut [u8]) -> Result<usize, Answer>
     requires { Holds counts table.now × Admitted limits (plan_of counts table.now) }
     ensures { WritesLines five 2 (group_pairs (graph (plan_of counts table.now))) bytes.old bytes.new result }
 {
@@ -47,7 +46,7 @@ fn write_read(counts: Graph, table: &[u16], bytes: &mut [u8]) -> Written
     write_admitted(counts.vertices, &table[..size], &table[size..end], bytes)
 }
 
-fn write_admitted(vertices: u16, ends: &[u16], excluded: &[u16], bytes: &mut [u8]) -> Written
+fn write_admitted(vertices: u16, ends: &[u16], excluded: &[u16], bytes: &mut [u8]) -> Result<usize, Answer>
     requires { Admitted limits (plan vertices ends.now excluded.now) }
     ensures { WritesLines five 2 (group_pairs (graph (plan vertices ends.now excluded.now))) bytes.old bytes.new result }
 {

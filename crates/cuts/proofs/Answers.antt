@@ -27,7 +27,7 @@ use Rattle.depth.proofs.Appending.{appended_forest}
 use Rattle.labels.specs.Answered.{ForestOf}
 use Rattle.labels.proofs.Labelled.{labelled_balanced}
 use Rattle.cuts.specs.declared.lowest.Lowest.{Lowest}
-use Rattle.cuts.specs.declared.Lightest.{Lightest}
+use Rattle.cuts.specs.Verdict.{Lightest}
 use Rattle.cuts.specs.Lowest.{Told, parted, one, two, uncut, Whole}
 use Rattle.cuts.specs.Tries.{Tables, Ready, Spaces, SearchedBy, LabelledBy}
 use Rattle.cuts.specs.Verdict.{handed, lightest}

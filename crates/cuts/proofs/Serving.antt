@@ -1,4 +1,5 @@
 -- The whole answer: refused, and all lent tables stay; or served, and what they then hold.
+use Rattle.std.specs.Prelude.{Err, Ok, None}
 use mathlib.Core.Path.{◌≡◌, refl, sym, ap, ◌∙◌}
 use mathlib.Core.Bool.{Bool, not}
 use mathlib.Core.List.{List, [], ◌∷◌}
@@ -24,8 +25,7 @@ use Rattle.incidence.proofs.Filled.{incident_long, begins_long, filled-served, f
 use Rattle.incidence.proofs.Front.{front_kept}
 use Rattle.depth.specs.Depth.{Cutting}
 use Rattle.graph.proofs.Telling.{tells_to, lent-told, told-refused, told_number, told_admitted, told_room}
-use Rattle.cuts.specs.declared.Lightest.{Lightest}
-use Rattle.cuts.specs.declared.Lightest.TheVariants.{Refused, NoCut}
+use Rattle.cuts.specs.Verdict.{Lightest}
 use Rattle.cuts.specs.Tries.{SearchedBy}
 use Rattle.cuts.specs.Verdict.{handed, lowest_handed, lowest_after}
 use Rattle.cuts.specs.Answered.{enough, SearchedFrom, Answered}
@@ -39,7 +39,7 @@ on_passed (some (e ∷ [])) = refl
 on_passed (some (e ∷ (d ∷ l))) = refl
 
 -- so is an answer that there is no cut
-pub uncut_passed : {l : Lightest} → l ≡ NoCut → (handed l).reply ≡ passed
+pub uncut_passed : {l : Lightest} → l ≡ (Ok None) → (handed l).reply ≡ passed
 uncut_passed q = rw q refl
 
 module _ (p : Plan) (incident₀ begins₀ first₀ order₀ : List ℕ) where
@@ -63,18 +63,18 @@ module _ (p : Plan) (incident₀ begins₀ first₀ order₀ : List ℕ) where
       (λ h. record { first_room = h.0; order_room = h.1.0; incident_room = h.1.1.0; begins_room = h.1.1.1 })
       (λ r. (r.first_room, (r.order_room, (r.incident_room, r.begins_room))))
 
-  -- Refused.
+  -- Err.
 
   module _ {incident begins first order : List ℕ} {a : code.Answer} (r : RefusedBy (lent limits p ample) a)
       (i : incident ≡ incident₀) (b : begins ≡ begins₀) (f : first ≡ first₀) (o : order ≡ order₀) where
-    not_passed : (handed (Refused a)).reply ≡ passed → ⊥
+    not_passed : (handed (Err a)).reply ≡ passed → ⊥
     not_passed q = refused_not r (sym (refused-answer r) ∙ q)
 
-    refused_is : handed (Refused a) ≡ lowest_after (lent limits p ample) p
+    refused_is : handed (Err a) ≡ lowest_after (lent limits p ample) p
     unfolding lowest_after
     refused_is = back_refused (lent limits p ample) found r
 
-    answered_refused : Answered limits p incident₀ begins₀ first₀ order₀ incident begins first order (Refused a)
+    answered_refused : Answered limits p incident₀ begins₀ first₀ order₀ incident begins first order (Err a)
     answered_refused = record {
       answer = refused_is;
       incident_front = λ q. absurd (not_passed q);
@@ -90,7 +90,7 @@ module _ (p : Plan) (incident₀ begins₀ first₀ order₀ : List ℕ) where
     lent_is = lent-told limits p (not short) ample_is
         (tells_to (not short) (λ t. record { first_room = t.0; order_room = t.1; incident_room = t.2; begins_room = t.3 }) (λ r. (r.first_room, r.order_room, r.incident_room, r.begins_room)) h) q
 
-    pub answers_refused : (b.number ≡ 0 → ⊥) → Answered limits p incident₀ begins₀ first₀ order₀ incident₀ begins₀ first₀ order₀ (Refused b)
+    pub answers_refused : (b.number ≡ 0 → ⊥) → Answered limits p incident₀ begins₀ first₀ order₀ incident₀ begins₀ first₀ order₀ (Err b)
     answers_refused z = answered_refused (told-refused limits p ample lent_is z) refl refl refl refl
 
     module _ (z : b.number ≡ 0) where

@@ -8,7 +8,7 @@ use Rattle.incidence.specs.Tables.{incident_table, begins_table, Front}
 use Rattle.incidence.specs.Tables as tables
 use Rattle.incidence.specs.Parts.{Cleared}
 use Rattle.depth.specs.Depth.{Cutting}
-use Rattle.cuts.specs.declared.Lightest.{Lightest}
+use Rattle.cuts.specs.Verdict.{Lightest}
 use Rattle.cuts.specs.Tries.{Searched}
 use Rattle.cuts.specs.Verdict.{handed, lowest_after}
 

@@ -20,14 +20,6 @@ pub mod lowest; // lowest.rt: the fewest edges that disconnect, the lowest set
 mod survey; // survey.rt: the first search, and the excluded vertices behind it
 mod tries; // tries.rt: whether one or two edges disconnect
 
-// What is said of a plan's cuts of at most two edges.
-#[derive(Clone, Copy)]
-pub enum Lightest {
-    Refused(Answer),
-    NoCut,
-    Cut(Lowest),
-}
-
 // The plan's own refusals; 6 where a lent table is too short: `incident` wants two places for each edge, the others one for each vertex. Else its
 // lowest cut of at most two edges, if it has one. The tables then hold all that it lists by vertex, and in `first` and `order` what a search from
 // the lowest vertex that is kept finds over them; behind that stand the excluded vertices, each as a root.
@@ -39,7 +31,7 @@ pub fn lowest_cut(
     begins: &mut [u16],
     first: &mut [u16],
     order: &mut [u16],
-) -> Lightest
+) -> Result<Option<Lowest>, Answer>
     ensures { Answered limits (plan vertices ends.now excluded.now) incident.old begins.old first.old order.old incident.new begins.new first.new order.new result }
 {
     let short = is_short(
@@ -52,7 +44,7 @@ pub fn lowest_cut(
     );
     let answer = graph::refusal(vertices, ends, excluded, short);
     if answer.number != 0 {
-        return Lightest::Refused(answer);
+        return Err(answer);
     }
     incidence::fill(vertices, ends, incident, begins);
     lowest_filled(vertices, ends, excluded, incident, begins, first, order)
@@ -86,7 +78,7 @@ fn lowest_filled(
     begins: &[u16],
     first: &mut [u16],
     order: &mut [u16],
-) -> Lightest
+) -> Result<Option<Lowest>, Answer>
     requires { Tabled limits (plan vertices ends.now excluded.now) incident.now begins.now × (vertices ≤ length first.old) × (vertices ≤ length order.old) }
     ensures { (handed result ≡ verdict_handed (verdict_on (lowest_cut (graph (plan vertices ends.now excluded.now))))) × SearchedFrom limits (plan vertices ends.now excluded.now) incident.now begins.now first.old order.old first.new order.new }
 {
@@ -160,11 +152,11 @@ fn label(
 }
 
 // Three edges stand for no cut.
-fn told(cut: Lowest) -> Lightest
+fn told(cut: Lowest) -> Result<Option<Lowest>, Answer>
     ensures { result ≡ lightest cut }
 {
     if cut.count == 3 {
-        return Lightest::NoCut;
+        return Ok(None);
     }
-    Lightest::Cut(cut)
+    Ok(Some(cut))
 }

@@ -8,7 +8,6 @@ ghost use Rattle.graph.specs.Marks.{read};
 ghost use Rattle.depth.specs.Depth.{Crossing, Found, Cutting};
 ghost use Rattle.cuts.specs.Tries.{Tables, Ready, Restored, EndOf, EndsBelow};
 
-use depth::Explored;
 
 // The edges `e` and `d`, which may be the same, disconnect: without them a search does not see all vertices that are kept. It begins at the end of `e` that
 // was found over `e`, if there is one: of an edge that disconnects alone it sees just the part that is cut off.
@@ -104,7 +103,7 @@ pub(crate) fn search(
         vertices, ends, incident, begins, dead, root, 0, marks, order, cursor,
     );
     match found {
-        Explored::Seen(count) => count,
-        Explored::Refused(_) => 0, // never: the plan is admitted, and there is room
+        Ok(count) => count,
+        Err(_) => 0, // never: the plan is admitted, and there is room
     }
 }

@@ -1,4 +1,5 @@
 -- What the answer of a search says, case by case.
+use Rattle.std.specs.Prelude.{Err, Ok}
 use mathlib.Core.Path.{◌≡◌, refl, sym, ap, ◌∙◌}
 use mathlib.Core.Bool.{Bool}
 use mathlib.Core.Logic.{⊎_elim}
@@ -11,8 +12,7 @@ use Rattle.graph.specs.declared.Answer as code
 use Rattle.graph.specs.Admission.{told_by, answer_of}
 use Rattle.graph.proofs.Lent.{RefusedBy}
 use Rattle.incidence.specs.Tables.{Tabled}
-use Rattle.depth.specs.declared.Explored.{Explored}
-use Rattle.depth.specs.declared.Explored.TheVariants.{Refused, Seen}
+use Rattle.depth.specs.Depth.{Explored}
 use Rattle.depth.specs.Depth.{Crossing, Fresh, Found, enough, refused, told, Same, Searched, Answered}
 use Rattle.depth.specs.Parts.{Least, Fit, Rooms}
 use Rattle.depth.proofs.Crosses.{tabled_incident_room, tabled_begins_room}
@@ -67,34 +67,34 @@ module _ (most : Limits) (p : Plan) (incident begins dead : List ℕ) (root seen
   b = told most p incident begins dead first₀ order₀ cursor₀
 
   abbrev pub Cases : Explored → Type 0
-  Cases (Refused a) = RefusedBy b a × Same first₀ order₀ cursor₀ first order cursor
-  Cases (Seen count) = (b ≡ passed) × Searched p incident begins dead root seen first₀ order₀ cursor₀ first order cursor count
+  Cases (Err a) = RefusedBy b a × Same first₀ order₀ cursor₀ first order cursor
+  Cases (Ok count) = (b ≡ passed) × Searched p incident begins dead root seen first₀ order₀ cursor₀ first order cursor count
 
   pub by_cases : (r : Explored) → Tells r → Cases r
-  by_cases (Refused a) c =
+  by_cases (Err a) c =
       let bad : b ≡ passed → ⊥ = λ q. c.found q in
       ((λ z. bad (told_passed most p incident begins dead first₀ order₀ cursor₀ z), ap told_by c.answer), c.unchanged bad)
-  by_cases (Seen count) c = (sym c.answer, c.found (sym c.answer))
+  by_cases (Ok count) c = (sym c.answer, c.found (sym c.answer))
 
   pub from_cases : (r : Explored) → Cases r → Tells r
-  from_cases (Refused a) c = record { answer = ap answer_of c.0.1; found = λ q. absurd (c.0.0 (ap (λ (x : Answer). x.number) q)); unchanged = λ h. c.1 }
-  from_cases (Seen count) c = record { answer = sym c.0; found = λ q. c.1; unchanged = λ h. absurd (h c.0) }
+  from_cases (Err a) c = record { answer = ap answer_of c.0.1; found = λ q. absurd (c.0.0 (ap (λ (x : Answer). x.number) q)); unchanged = λ h. c.1 }
+  from_cases (Ok count) c = record { answer = sym c.0; found = λ q. c.1; unchanged = λ h. absurd (h c.0) }
 
   -- for callers: an admitted plan with tables that are long enough is not refused, and from a root that can be entered it is searched
-  pub not_refused : {a : code.Answer} → Admitted most p → Enough p (length incident) (length begins) (length dead) (length first₀) (length order₀) (length cursor₀) → Tells (Refused a) → ⊥
-  not_refused {a} m h c = (by_cases (Refused a) c).0.0 (ap (λ (x : Answer). x.number) (told-enough most p incident begins dead first₀ order₀ cursor₀ m h))
+  pub not_refused : {a : code.Answer} → Admitted most p → Enough p (length incident) (length begins) (length dead) (length first₀) (length order₀) (length cursor₀) → Tells (Err a) → ⊥
+  not_refused {a} m h c = (by_cases (Err a) c).0.0 (ap (λ (x : Answer). x.number) (told-enough most p incident begins dead first₀ order₀ cursor₀ m h))
 
-  pub searched : {count : ℕ} → Tells (Seen count) → Searched p incident begins dead root seen first₀ order₀ cursor₀ first order cursor count
-  searched {count} c = (by_cases (Seen count) c).1
+  pub searched : {count : ℕ} → Tells (Ok count) → Searched p incident begins dead root seen first₀ order₀ cursor₀ first order cursor count
+  searched {count} c = (by_cases (Ok count) c).1
 
-  pub found_from : {count : ℕ} → Fresh p.vertices root seen first₀ → Tells (Seen count)
+  pub found_from : {count : ℕ} → Fresh p.vertices root seen first₀ → Tells (Ok count)
       → Found (Crossing p incident begins dead) p.vertices root seen first₀ order₀ cursor₀ first order cursor count
   found_from h c = ⊎_elim (λ f. f.1) (λ n. absurd (n.0 h)) (searched c)
 
   pub seen_found : (r : Explored) → Admitted most p → Enough p (length incident) (length begins) (length dead) (length first₀) (length order₀) (length cursor₀) → Fresh p.vertices root seen first₀
-      → Tells r → (count : ℕ) × (r ≡ Seen count) × Found (Crossing p incident begins dead) p.vertices root seen first₀ order₀ cursor₀ first order cursor count
-  seen_found (Refused a) m e h c = absurd (not_refused m e c)
-  seen_found (Seen count) m e h c = (count, refl, found_from h c)
+      → Tells r → (count : ℕ) × (r ≡ Ok count) × Found (Crossing p incident begins dead) p.vertices root seen first₀ order₀ cursor₀ first order cursor count
+  seen_found (Err a) m e h c = absurd (not_refused m e c)
+  seen_found (Ok count) m e h c = (count, refl, found_from h c)
 
 -- filled tables are long enough, so that only the others are asked about
 pub tabled_enough : {most : Limits} {p : Plan} {incident begins : List ℕ} {dead first order cursor : ℕ} → Tabled most p incident begins → length p.ends / 2 ≤ dead → p.vertices ≤ first → p.vertices ≤ order

@@ -1,13 +1,12 @@
 -- What a depth-first search over tables of edges by vertex finds, whatever the tables hold.
-use Rattle.std.specs.Prelude.{◌≡◌, Bool, cond, ◌&&◌, ◌||◌, ◌⊎◌, ℕ, ◌+◌, ◌-◌, ◌/◌, ◌%◌, ◌≤◌, ◌<◌, eqb, ltb, leb, length, get_or}
+use Rattle.std.specs.Prelude.{◌≡◌, Bool, cond, ◌&&◌, ◌||◌, ◌⊎◌, ℕ, ◌+◌, ◌-◌, ◌/◌, ◌%◌, ◌≤◌, ◌<◌, eqb, ltb, leb, length, get_or, Result, Err, Ok}
 use mathlib.Core.List.{List, [], ◌∷◌, Memᴰ as In}
 use Rattle.connectivity.specs.Plan.{Plan, graph, Limits}
 use Rattle.connectivity.specs.Graph.{Edge, Joins}
 use Rattle.connectivity.specs.Admission.{Answer, answer, passed, and_then, Handed, served, refusal}
 use Rattle.graph.specs.Admission.{answer_of}
 use Rattle.graph.specs.Marks.{read, Live, Marked, tally}
-use Rattle.depth.specs.declared.Explored.{Explored}
-use Rattle.depth.specs.declared.Explored.TheVariants.{Refused, Seen}
+use Rattle.graph.specs.declared.Answer as code
 
 -- Marks.
 
@@ -150,10 +149,14 @@ enough p incident begins dead first order cursor =
 unfoldable pub refused : Limits → Plan → Bool → Answer
 refused most p room = and_then (counted most p) (cond room passed (answer 6 0))
 
+-- what a search gives: how many vertices stand in the order, or why there was none
+abbrev pub Explored : Type 0
+Explored = Result ℕ code.Answer
+
 -- 01's number, place and values for each case; the value of a search is how many vertices stand in the order
 abbrev pub handed : Explored → Handed
-handed (Refused a) = refusal (answer_of a)
-handed (Seen count) = served (count ∷ [])
+handed (Err a) = refusal (answer_of a)
+handed (Ok count) = served (count ∷ [])
 
 -- the answer to a plan and these tables
 abbrev pub told : Limits → Plan → List ℕ → List ℕ → List ℕ → List ℕ → List ℕ → List ℕ → Answer

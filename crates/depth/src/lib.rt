@@ -9,13 +9,6 @@ ghost use Rattle.depth.specs.Parts.{Least, Fit, Rooms, EndsAt, Leads, LeadsOn, S
 
 use graph::{Answer, Graph};
 
-// What a search answers: refused, or how many vertices stand in the order.
-#[derive(Clone, Copy)]
-pub enum Explored {
-    Refused(Answer),
-    Seen(u16),
-}
-
 // Where a search is: at which vertex, how many vertices stand in the order, and how many are on the way up from here, this one included.
 #[derive(Drop)]
 struct State {
@@ -41,13 +34,13 @@ pub fn explore(
     first: &mut [u16],
     order: &mut [u16],
     cursor: &mut [u16],
-) -> Explored
+) -> Result<u16, Answer>
     ensures { Answered limits (entire vertices ends.now) incident.now begins.now dead.now root seen first.old order.old cursor.old first.new order.new cursor.new result }
 {
     let places = least(begins.len(), first.len(), order.len(), cursor.len());
     let number = refusal(vertices, ends, incident.len(), dead.len(), places);
     if number != 0 {
-        return Explored::Refused(Answer {
+        return Err(Answer {
             number: number,
             place: 0,
         });
@@ -56,9 +49,9 @@ pub fn explore(
         let count = dig(
             vertices, ends, incident, begins, dead, root, seen, first, order, cursor,
         );
-        return Explored::Seen(count);
+        return Ok(count);
     }
-    Explored::Seen(seen)
+    Ok(seen)
 }
 
 // 1 to 3 by the counts, then 6 where a lent table is too short; else 0. Of the tables by vertex the shortest has `places`.

@@ -13,7 +13,7 @@ use Rattle.connectivity.specs.Admission.{Answer, answer, passed, edge_number, en
 use Rattle.connectivity.proofs.Admission.{both_passed, passed_then, ends_told, told_zero, admission_number}
 use Rattle.connectivity.proofs.Kept.{entire-admission}
 use Rattle.graph.specs.Admission as admission
-use Rattle.graph.specs.declared.Admission.{Admission}
+use Rattle.graph.specs.Admission.{Admission}
 use Rattle.text.specs.Plan.{filled}
 use Rattle.text.proofs.Reading.{sets_filled}
 use Rattle.drawn.specs.Drawing.{Drawn, all_ends, wide_ones, wide_numbers, least_gap, taken_plan, taken_numbers}

@@ -3,7 +3,7 @@ use Rattle.std.specs.Prelude.{◌≡◌, List, ℕ, length}
 use Rattle.connectivity.specs.Plan.{Limits}
 use Rattle.connectivity.specs.Admission.{Handed, served, refusal}
 use Rattle.graph.specs.Admission as admission
-use Rattle.graph.specs.declared.Admission.{Admission}
+use Rattle.graph.specs.Admission.{Admission}
 use Rattle.text.specs.Plan.{filled}
 use Rattle.drawn.specs.Drawing.{taken_plan, taken_numbers}
 use Rattle.drawn.specs.Text.{Form, Reading, refused, read, read_drawn}

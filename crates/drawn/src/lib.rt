@@ -12,25 +12,25 @@ ghost use Rattle.graph.specs.Admission.{handed, constructed};
 ghost use Rattle.drawn.specs.Text.{form};
 ghost use Rattle.drawn.specs.Entry.{ReadsDrawn};
 
-use graph::{Admission, Graph};
+use graph::{Answer, Graph};
 
 // The bytes of the longest drawn list in the form.
 pub const DRAWN_SIZE: usize = line::HEADER + Graph::MAX_EDGES * line::LINE;
 
 // Reads a drawn list: the ends of the tabs that are taken into `ends`, their drawn numbers into `numbers`. The header's 20, 21, 2, 3, 6, the lines' 20,
 // then the first drawn tab with 4 or 5.
-pub fn read_drawn(text: &[u8], ends: &mut [u16], numbers: &mut [u16]) -> Admission
+pub fn read_drawn(text: &[u8], ends: &mut [u16], numbers: &mut [u16]) -> Result<Graph, Answer>
     ensures { ReadsDrawn form limits text.now ends.old numbers.old ends.new numbers.new result }
 {
     let header = line::read_header(text);
     let fits = header.fits;
     if !fits {
-        return Admission::Refused(judge::number_alone(20));
+        return Err(judge::number_alone(20));
     }
     let answer = judge::judge(text, header, ends.len(), numbers.len());
     let number = answer.number;
     if number != 0 {
-        return Admission::Refused(answer);
+        return Err(answer);
     }
     let count = take::store(
         text,
@@ -43,7 +43,7 @@ pub fn read_drawn(text: &[u8], ends: &mut [u16], numbers: &mut [u16]) -> Admissi
 }
 
 // The plan of so many tabs in a filled table, with its counts.
-fn counted(vertices: u16, ends: &[u16], count: usize) -> Admission
+fn counted(vertices: u16, ends: &[u16], count: usize) -> Result<Graph, Answer>
     requires { (2 * count ≤ length ends.now) × (count ≤ limits.edges) }
     ensures { handed result ≡ constructed limits (entire vertices (take (2 * count) ends.now)) }
 {

@@ -132,10 +132,10 @@ fn narrow(list: &[u16], table: &mut [u8]) {
     }
 }
 
-fn explored(rt: &impl Print, told: Explored) -> io::Result<()> {
+fn explored(rt: &impl Print, told: Result<u16, Answer>) -> io::Result<()> {
     match told {
-        Explored::Refused(answer) => show::answer(rt, answer),
-        Explored::Seen(count) => {
+        Err(answer) => show::answer(rt, answer),
+        Ok(count) => {
             show::say(rt, b": seen")?;
             show::short(rt, count)
         }
@@ -279,11 +279,11 @@ pub(crate) fn cut(rt: &impl Print, line: &[u8], numbers: &[u16]) -> io::Result<(
 }
 
 // How many tabs, and which; unused ones are 0.
-fn weighed(rt: &impl Print, told: Lightest) -> io::Result<()> {
+fn weighed(rt: &impl Print, told: Result<Option<Lowest>, Answer>) -> io::Result<()> {
     match told {
-        Lightest::Refused(answer) => show::answer(rt, answer),
-        Lightest::NoCut => show::say(rt, b": no cut"),
-        Lightest::Cut(cut) => {
+        Err(answer) => show::answer(rt, answer),
+        Ok(None) => show::say(rt, b": no cut"),
+        Ok(Some(cut)) => {
             show::say(rt, b": cut")?;
             show::short(rt, cut.count)?;
             show::short(rt, cut.first)?;

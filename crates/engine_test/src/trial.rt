@@ -223,10 +223,10 @@ fn compared(
     undone(run, walk, n, listed, &mut first);
 }
 
-fn is_seen(told: Explored, count: u16) -> bool {
+fn is_seen(told: Result<u16, Answer>, count: u16) -> bool {
     match told {
-        Explored::Refused(_) => false,
-        Explored::Seen(n) => n == count,
+        Err(_) => false,
+        Ok(n) => n == count,
     }
 }
 

@@ -4,7 +4,6 @@
 
 use std::io;
 use std::io::Write;
-use text_write::Written;
 
 fn main(rt: HostRuntime) -> io::Result<()> {
     // One byte more than the longest text in the form: a longer text is read as its front is (proofs/Longer of `verify_texts`).
@@ -13,8 +12,8 @@ fn main(rt: HostRuntime) -> io::Result<()> {
     let mut fallen = [0u8; fallen_texts::FALLEN_SIZE];
     let written = fallen_texts::fallen_text(&plan[..length], &mut fallen);
     match written {
-        Written::Bytes(count) => io::writer(&rt).write_all(&fallen[..count]),
+        Ok(count) => io::writer(&rt).write_all(&fallen[..count]),
         // never: there is room for every text (proofs/Enough of `fallen_texts`)
-        Written::Refused(_) => Ok(()),
+        Err(_) => Ok(()),
     }
 }

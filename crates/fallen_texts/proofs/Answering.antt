@@ -14,7 +14,7 @@ use Rattle.graph.specs.Admission.{told_by}
 use Rattle.graph.specs.declared.Answer as declared
 use Rattle.text.specs.Plan.{PlanReading}
 use Rattle.text_write.specs.Entry.{handed, size_of, WritesLines}
-use Rattle.text_write.specs.declared.Written.{Written}
+use Rattle.text_write.specs.Entry.{Written}
 use Rattle.verify_texts.specs.Texts.{plan_in}
 use Rattle.certify.specs.declared.Finding.{Finding}
 use Rattle.certify.specs.Answered.{Answered}

@@ -1,5 +1,6 @@
 -- How long the text of what falls is: a line for their number and one for each vertex but the lowest at most, so that space for these is enough
 -- and 6 never occurs.
+use Rattle.std.specs.Prelude.{Err, Ok}
 use mathlib.Core.Path.{◌≡◌, refl, ap, ◌∙◌}
 use mathlib.Core.Bool.{not}
 use mathlib.Core.List.{List, Memᴰ as In}
@@ -25,8 +26,7 @@ use Rattle.text.specs.Column.{line_size, lines}
 use Rattle.text.specs.Plan.{PlanReading, Writing}
 use Rattle.text.proofs.Writing.{length_whole, in_columns, text_written}
 use Rattle.text_write.specs.Entry.{bytes_handed}
-use Rattle.text_write.specs.declared.Written.{Written}
-use Rattle.text_write.specs.declared.Written.TheVariants as written
+use Rattle.text_write.specs.Entry.{Written}
 use Rattle.text_write.proofs.Result.{bytes_told}
 use Rattle.verify_texts.specs.Texts.{plan_in}
 use Rattle.verify_texts.proofs.Stored.{planned}
@@ -81,7 +81,7 @@ module _ (ws : List ℕ) (most : ℕ) (limits : Limits) (one : 1 ≤ limits.vert
   enough space h = in_columns ws 1 list space (omega arith) (omega arith) ∙ text_written text space (omega (arith, longest))
 
   pub bytes_fit : {before after : List ℕ} {r : Written} {count : ℕ} → WritesFallen ws most limits plan before after r
-      → limits.vertices * line_size ws 1 ≤ length before → r ≡ written.Bytes count → count ≤ limits.vertices * line_size ws 1
+      → limits.vertices * line_size ws 1 ≤ length before → r ≡ Ok count → count ≤ limits.vertices * line_size ws 1
   bytes_fit {before = before} w h q =
       let (bytes, same, long) = bytes_told (Writing.written text) (w.answer ∙ ap bytes_handed (enough (length before) h)) q in
       let is : length bytes ≡ length text = cc in

@@ -7,7 +7,7 @@ use Rattle.connectivity.specs.Fallen.{fall_with}
 use Rattle.text.specs.Plan.{PlanReading, Writing}
 use Rattle.text.specs.Lines.{write_lines}
 use Rattle.text_write.specs.Entry.{handed, bytes_handed, size_of, after_writing}
-use Rattle.text_write.specs.declared.Written.{Written}
+use Rattle.text_write.specs.Entry.{Written}
 use Rattle.verify_texts.specs.Texts.{plan_in}
 
 -- 02: the pieces that fall with the verdict on a plan; there is space for a record

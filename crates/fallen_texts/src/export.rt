@@ -5,7 +5,7 @@ ghost use Rattle.text.specs.Column.{five, largest};
 ghost use Rattle.text_write.specs.Entry.{handed, size_of};
 ghost use Rattle.fallen_texts.specs.Falls.{TextSize};
 
-use text_write::Written;
+use graph::Answer;
 
 // The text of the pieces of a plan text that would fall; how many bytes it has, or 0 where `text` is shorter.
 pub fn hearthtansy_fallen_text(plan: &[u8], text: &mut [u8]) -> usize
@@ -14,11 +14,11 @@ pub fn hearthtansy_fallen_text(plan: &[u8], text: &mut [u8]) -> usize
     count(crate::fallen_text(plan, text))
 }
 
-fn count(written: Written) -> usize
+fn count(written: Result<usize, Answer>) -> usize
     ensures { result ≡ size_of (handed written) }
 {
     match written {
-        Written::Bytes(count) => count,
-        Written::Refused(_) => 0,
+        Ok(count) => count,
+        Err(_) => 0,
     }
 }

@@ -11,9 +11,8 @@ ghost use Rattle.verify_texts.specs.Texts.{plan_in};
 ghost use Rattle.fallen_texts.specs.Falls.{numbers_of, falls, WritesFallen};
 ghost use Rattle.fallen_texts.specs.Listing.{Begins, marked_below, one_more};
 
-use graph::{Admission, Graph};
+use graph::{Answer, Graph};
 use removal::Fallen;
-use text_write::Written;
 
 pub mod export; // export.rt: the same as C takes it
 
@@ -22,7 +21,7 @@ pub const FALLEN_SIZE: usize = 6 * Graph::MAX_VERTICES;
 
 // Writes how many pieces of a plan text would fall, then a line for each; of a refused plan its number alone. 6 where `bytes` is shorter than
 // that.
-pub fn fallen_text(plan: &[u8], bytes: &mut [u8]) -> Written
+pub fn fallen_text(plan: &[u8], bytes: &mut [u8]) -> Result<usize, Answer>
     ensures { WritesFallen five largest limits plan.now bytes.old bytes.new result }
 {
     let mut list = [0u16; 1 + Graph::MAX_VERTICES];
@@ -38,11 +37,11 @@ fn list_text(plan: &[u8], list: &mut [u16]) -> usize
     let mut table = [0u16; 2 * Graph::MAX_EDGES + Graph::MAX_VERTICES];
     let read = text_read::read_plan(plan, &mut table);
     match read {
-        Admission::Refused(answer) => {
+        Err(answer) => {
             list[0] = answer.number;
             1
         }
-        Admission::Admitted(graph) => list_read(graph, &table, list),
+        Ok(graph) => list_read(graph, &table, list),
     }
 }
 

@@ -1,4 +1,5 @@
 -- What the constructor says of a plan, and the refusal that follows from it and from the lent space.
+use Rattle.std.specs.Prelude.{Err, Ok}
 use mathlib.Core.Path.{◌≡◌, refl, sym, ap, ◌∙◌}
 use mathlib.Core.Bool.{Bool, true, false, cond}
 use mathlib.Core.List.{List, ◌∷◌}
@@ -14,8 +15,7 @@ use Rattle.connectivity.proofs.Lists.{T_true, T_false}
 use Rattle.connectivity.proofs.Admission.{passed_then, failed_then, admission_number}
 use Rattle.graph.specs.declared.Answer as code
 use Rattle.graph.specs.declared.Graph.{Graph}
-use Rattle.graph.specs.declared.Admission.{Admission}
-use Rattle.graph.specs.declared.Admission.TheVariants as made
+use Rattle.graph.specs.Admission.{Admission}
 use Rattle.graph.specs.Admission.{told_by, answer_of, handed, counts, constructed, lent}
 
 -- a refusal is not a success with values, and it tells its answer
@@ -31,7 +31,7 @@ module _ (most : Limits) (p : Plan) where
   abbrev back : Bool → Handed
   back t = cond t (served (counts p)) (refusal (admission most p))
 
-  pub constructed-refused : {r : Admission} {a : code.Answer} → handed r ≡ constructed most p → r ≡ made.Refused a → (Admitted most p → ⊥) × (a ≡ told_by (admission most p))
+  pub constructed-refused : {r : Admission} {a : code.Answer} → handed r ≡ constructed most p → r ≡ Err a → (Admitted most p → ⊥) × (a ≡ told_by (admission most p))
   unfolding constructed
   constructed-refused {a = a} h q = go (eqb (admission most p).number 0) refl (rw q at h)
     where
@@ -47,11 +47,11 @@ module _ (most : Limits) (p : Plan) where
     pub kept_vertices_lem : g.kept_vertices ≡ kept_vertices p
     pub kept_edges_lem : g.kept_edges ≡ kept_edges p
 
-  pub constructed_admitted : {r : Admission} {g : Graph} → handed r ≡ constructed most p → r ≡ made.Admitted g → Made g
+  pub constructed_admitted : {r : Admission} {g : Graph} → handed r ≡ constructed most p → r ≡ Ok g → Made g
   unfolding constructed
   constructed_admitted {g = g} h q = go (eqb (admission most p).number 0) refl (rw q at h)
     where
-      go : (t : Bool) → eqb (admission most p).number 0 ≡ t → handed (made.Admitted g) ≡ back t → Made g
+      go : (t : Bool) → eqb (admission most p).number 0 ≡ t → handed (Ok g) ≡ back t → Made g
       go true z h = record {
         admitted = (admission_number most p).0 (eqb-true (admission most p).number 0 z);
         vertices = ap (λ (x : Handed). get_or x.values 0 0) h;

@@ -1,10 +1,9 @@
 -- What the constructor of a graph answers.
-use Rattle.std.specs.Prelude.{◌≡◌, Bool, cond, List, [], ◌∷◌, ℕ, ◌/◌, ◌%◌, ◌≤◌, eqb, length}
+use Rattle.std.specs.Prelude.{◌≡◌, Bool, cond, List, [], ◌∷◌, ℕ, ◌/◌, ◌%◌, ◌≤◌, eqb, length, Result, Err, Ok}
 use Rattle.connectivity.specs.Plan.{Plan, Limits}
 use Rattle.connectivity.specs.Admission as meaning
 use Rattle.graph.specs.declared.Answer.{Answer}
-use Rattle.graph.specs.declared.Admission.{Admission}
-use Rattle.graph.specs.declared.Admission.TheVariants.{Admitted, Refused}
+use Rattle.graph.specs.declared.Graph.{Graph}
 
 -- an answer of the definitions as the code's type has it, and the other way
 abbrev pub told_by : meaning.Answer → Answer
@@ -13,11 +12,15 @@ told_by a = record { number = a.number; place = a.place }
 abbrev pub answer_of : Answer → meaning.Answer
 answer_of a = meaning.answer a.number a.place
 
+-- what the constructor gives: a graph, or why there is none
+abbrev pub Admission : Type 0
+Admission = Result Graph Answer
+
 -- 01's number, place and values for each case; the values of an admitted plan are how many vertices and edges it lists, and how many of them it
 -- keeps
 abbrev pub handed : Admission → meaning.Handed
-handed (Admitted g) = meaning.served (g.vertices ∷ (g.edges ∷ (g.kept_vertices ∷ (g.kept_edges ∷ []))))
-handed (Refused a) = meaning.refusal (answer_of a)
+handed (Ok g) = meaning.served (g.vertices ∷ (g.edges ∷ (g.kept_vertices ∷ (g.kept_edges ∷ []))))
+handed (Err a) = meaning.refusal (answer_of a)
 
 -- the counts of a plan: vertices and edges as it lists them (01), and those that it keeps (02)
 abbrev pub counts : Plan → List ℕ

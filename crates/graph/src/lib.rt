@@ -25,12 +25,6 @@ pub struct Graph {
     pub kept_edges: u16,
 }
 
-#[derive(Clone, Copy)]
-pub enum Admission {
-    Admitted(Graph),
-    Refused(Answer),
-}
-
 impl Graph {
     pub const MAX_VERTICES: usize = 1000;
 
@@ -38,7 +32,7 @@ impl Graph {
 
     // The graph with `vertices` vertices, of which those of `excluded` are not kept, and whose edges have the ends `ends`; or the first refusal
     // in order: 1, 2, 3, the first edge with 4 or 5, 18, 19.
-    pub fn new(vertices: u16, ends: &[u16], excluded: &[u16]) -> Admission
+    pub fn new(vertices: u16, ends: &[u16], excluded: &[u16]) -> Result<Graph, Answer>
         ensures { handed result ≡ constructed limits (plan vertices ends.now excluded.now) }
     {
         if ends.len() % 2 != 0 {
@@ -56,27 +50,27 @@ impl Graph {
         let fit = judge_ends(vertices, ends);
         let first = fit.number;
         if first != 0 {
-            return Admission::Refused(fit);
+            return Err(fit);
         }
         admit(vertices, ends, excluded)
     }
 }
 
 // The same of a plan that 1 to 5 do not refuse: 18 and 19 are left.
-fn admit(vertices: u16, ends: &[u16], excluded: &[u16]) -> Admission
+fn admit(vertices: u16, ends: &[u16], excluded: &[u16]) -> Result<Graph, Answer>
     requires { Listed limits (plan vertices ends.now excluded.now) }
     ensures { handed result ≡ constructed limits (plan vertices ends.now excluded.now) }
 {
     let rising = excluded::judge_excluded(vertices, excluded);
     let number = rising.number;
     if number != 0 {
-        return Admission::Refused(rising);
+        return Err(rising);
     }
     let kept = vertices - excluded.len() as u16;
     if kept < 2 {
         return refused(19, 0);
     }
-    Admission::Admitted(Graph {
+    Ok(Graph {
         vertices: vertices,
         edges: (ends.len() / 2) as u16,
         kept_vertices: kept,
@@ -84,10 +78,10 @@ fn admit(vertices: u16, ends: &[u16], excluded: &[u16]) -> Admission
     })
 }
 
-fn refused(number: u16, place: u16) -> Admission
-    ensures { result ≡ Admission.Refused (record { number = number; place = place }) }
+fn refused(number: u16, place: u16) -> Result<Graph, Answer>
+    ensures { result ≡ Err (record { number = number; place = place }) }
 {
-    Admission::Refused(Answer {
+    Err(Answer {
         number: number,
         place: place,
     })
@@ -99,8 +93,8 @@ pub fn refusal(vertices: u16, ends: &[u16], excluded: &[u16], short: bool) -> An
 {
     let made = Graph::new(vertices, ends, excluded);
     match made {
-        Admission::Refused(answer) => answer,
-        Admission::Admitted(_) => space(short),
+        Err(answer) => answer,
+        Ok(_) => space(short),
     }
 }
 

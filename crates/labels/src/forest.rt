@@ -8,7 +8,6 @@ ghost use Rattle.depth.specs.Parts.{Rooms};
 ghost use Rattle.labels.specs.Answered.{Spanned};
 ghost use Rattle.labels.specs.Planting.{Spacious, Open, Prepared, Planted};
 
-use depth::Explored;
 
 // Fills the tables by vertex of an admitted plan, marks the edges of excluded vertices, and searches from one vertex after the other until each
 // has been seen.
@@ -96,7 +95,7 @@ fn search_from(
     let found = depth::explore(
         vertices, ends, incident, begins, dead, root, seen, first, order, cursor,
     );
-    let Explored::Seen(count) = found else {
+    let Ok(count) = found else {
         return seen;
     };
     count

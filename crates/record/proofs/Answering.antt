@@ -1,4 +1,5 @@
 -- The answer about a plan and its record: refused, weak or firm as the definition has it, and what the lent list then holds.
+use Rattle.std.specs.Prelude.{Err, Ok, None, Some}
 use Rattle.std.proofs.Common.{◌≡◌, ℕ, ◌*◌, ◌<◌, ◌≤◌, List, [], ◌∷◌, length, take, drop, sym, refl, ap, ◌∙◌, subst, arith, take_at, drop_at}
 use mathlib.Core.Option.{Option, none, some}
 use Rattle.connectivity.specs.Plan.{Plan, graph, limits}
@@ -15,8 +16,7 @@ use Rattle.graph.specs.Admission.{told_by}
 use Rattle.graph.proofs.Handed.{back_served}
 use Rattle.graph.specs.declared.Answer.{Answer}
 use Rattle.cuts.specs.declared.lowest.Lowest.{Lowest}
-use Rattle.cuts.specs.declared.Lightest.{Lightest}
-use Rattle.cuts.specs.declared.Lightest.TheVariants as light
+use Rattle.cuts.specs.Verdict.{Lightest}
 use Rattle.cuts.specs.Verdict.{handed, lowest_handed}
 use Rattle.cuts.proofs.Handing.{told_of, handed-told, told_back}
 use Rattle.record.specs.Recording.{Sturdy, Recorded}
@@ -38,24 +38,24 @@ weak_firm p = let z : ◌≡◌ {A = ℕ} 0 1 = cc in omega arith
 
 -- what the lowest cut is called
 
-none_cut : {c : Lowest} → light.NoCut ≡ light.Cut c → ⊥
+none_cut : {c : Lowest} → (Ok None) ≡ Ok (Some c) → ⊥
 none_cut p = let z : ◌≡◌ {A = ℕ} 0 1 = cc in omega arith
 
-no_cut : (o : Option (List ℕ)) → light.NoCut ≡ told_of (meaning.verdict_on o) → o ≡ none
+no_cut : (o : Option (List ℕ)) → (Ok None) ≡ told_of (meaning.verdict_on o) → o ≡ none
 unfolding meaning.verdict_on
 no_cut none p = refl
 no_cut (some []) p = absurd (none_cut p)
 no_cut (some (e ∷ [])) p = absurd (none_cut p)
 no_cut (some (e ∷ (d ∷ l))) p = absurd (none_cut p)
 
-refused_cut : {x : Answer} (o : Option (List ℕ)) → light.Refused x ≡ told_of (meaning.verdict_on o) → ⊥
+refused_cut : {x : Answer} (o : Option (List ℕ)) → Err x ≡ told_of (meaning.verdict_on o) → ⊥
 unfolding meaning.verdict_on
 refused_cut none p = let z : ◌≡◌ {A = ℕ} 0 1 = cc in omega arith
 refused_cut (some []) p = let z : ◌≡◌ {A = ℕ} 0 1 = cc in omega arith
 refused_cut (some (e ∷ [])) p = let z : ◌≡◌ {A = ℕ} 0 1 = cc in omega arith
 refused_cut (some (e ∷ (d ∷ l))) p = let z : ◌≡◌ {A = ℕ} 0 1 = cc in omega arith
 
-some_cut : {c : Lowest} (o : Option (List ℕ)) → light.Cut c ≡ told_of (meaning.verdict_on o) → (l : List ℕ) × (o ≡ some l) × (light.Cut c ≡ told_of (meaning.weak l))
+some_cut : {c : Lowest} (o : Option (List ℕ)) → Ok (Some c) ≡ told_of (meaning.verdict_on o) → (l : List ℕ) × (o ≡ some l) × (Ok (Some c) ≡ told_of (meaning.weak l))
 unfolding meaning.verdict_on
 some_cut none p = absurd (none_cut (sym p))
 some_cut (some []) p = ([], refl, p)
@@ -64,12 +64,12 @@ some_cut (some (e ∷ (d ∷ l))) p = (e ∷ (d ∷ l), refl, p)
 
 module _ (p : Plan) (lent : List ℕ) where
   -- the plan's own refusal
-  pub answers_refused : {a : Answer} → (Admitted limits p → ⊥) × (a ≡ told_by (admission limits p)) → Answered limits p lent lent (light.Refused a)
-  answers_refused (h, q) = still (meaning.refused (admission limits p)) (verdict-refused limits p (length lent) h) refused_firm (ap light.Refused q)
+  pub answers_refused : {a : Answer} → (Admitted limits p → ⊥) × (a ≡ told_by (admission limits p)) → Answered limits p lent lent (Err a)
+  answers_refused (h, q) = still (meaning.refused (admission limits p)) (verdict-refused limits p (length lent) h) refused_firm (ap Err q)
 
   module _ (a : Admitted limits p) where
     -- too little space
-    pub answers_short : length lent < 3 * kept_edges p → Answered limits p lent lent (light.Refused (record { number = 6; place = 0 }))
+    pub answers_short : length lent < 3 * kept_edges p → Answered limits p lent lent (Err (record { number = 6; place = 0 }))
     answers_short h = still (meaning.refused (answer 6 0)) (verdict_short a (length lent) h) refused_firm refl
 
     module _ (h : 3 * kept_edges p ≤ length lent) where
@@ -82,14 +82,14 @@ module _ (p : Plan) (lent : List ℕ) where
         found = told_back l _ (s ∙ sym (back_served (admission limits p) _ ((admission_number limits p).1 a)))
 
         -- where there is a cut, it is the answer
-        on_weak : (c : Lowest) → l ≡ light.Cut c → Answered limits p lent lent (light.Cut c)
+        on_weak : (c : Lowest) → l ≡ Ok (Some c) → Answered limits p lent lent (Ok (Some c))
         unfolding meaning.verdict_on
         on_weak c q =
             let (list, at, same) = some_cut (lowest_cut (graph p)) (sym q ∙ found) in
             still (meaning.weak list) (on_cut ∙ ap meaning.verdict_on at) weak_firm same
 
         -- where there is none
-        module _ (q : l ≡ light.NoCut) where
+        module _ (q : l ≡ (Ok None)) where
           uncut : lowest_cut (graph p) ≡ none
           uncut = no_cut (lowest_cut (graph p)) (sym q ∙ found)
 
@@ -100,7 +100,7 @@ module _ (p : Plan) (lent : List ℕ) where
             fits = h;
           }
 
-          pub answers_firm : {after : List ℕ} {r : Lightest} → Recorded p lent after → r ≡ light.NoCut → Answered limits p lent after r
+          pub answers_firm : {after : List ℕ} {r : Lightest} → Recorded p lent after → r ≡ (Ok None) → Answered limits p lent after r
           unfolding meaning.verdict_on
           answers_firm {after} c e = record {
             answer = ap handed e ∙ handed-told meaning.firm ∙ ap meaning.verdict_handed (sym firm);
@@ -118,7 +118,7 @@ module _ (p : Plan) (lent : List ℕ) where
               front = ap (take (3 * kept_edges p)) c.written ∙ take_at c.list (drop (length c.list) lent) (3 * kept_edges p) c.long
 
       -- an admitted plan is not refused
-      pub answers_cut : (l : Lightest) → handed l ≡ lowest_handed limits p → (l ≡ light.NoCut → ⊥) → Answered limits p lent lent l
-      answers_cut (light.Refused x) s k = absurd (refused_cut (lowest_cut (graph p)) (found (light.Refused x) s))
-      answers_cut (light.Cut c) s k = on_weak (light.Cut c) s c refl
-      answers_cut light.NoCut s k = absurd (k refl)
+      pub answers_cut : (l : Lightest) → handed l ≡ lowest_handed limits p → (l ≡ (Ok None) → ⊥) → Answered limits p lent lent l
+      answers_cut (Err x) s k = absurd (refused_cut (lowest_cut (graph p)) (found (Err x) s))
+      answers_cut (Ok (Some c)) s k = on_weak (Ok (Some c)) s c refl
+      answers_cut (Ok None) s k = absurd (k refl)

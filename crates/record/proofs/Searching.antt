@@ -1,4 +1,5 @@
 -- What the search for the lowest cut leaves, where there is none, is what the tables of the tree are made from.
+use Rattle.std.specs.Prelude.{Err, Ok, None, Some}
 use Rattle.std.proofs.Common.{◌≡◌, ℕ, ◌+◌, ◌*◌, ◌<◌, ◌≤◌, T, List, [], length, set, replicate, sym, ◌∙◌, subst, arith, lt-ltb}
 use native.Mathlib.Decide.{dec_lt}
 use Rattle.connectivity.specs.Plan.{Plan, plan, graph, Limits, limits}
@@ -10,8 +11,7 @@ use Rattle.graph.specs.Marks.{read}
 use Rattle.incidence.specs.Tables.{Tabled}
 use Rattle.depth.specs.Depth.{Crossing, Found, Cutting}
 use Rattle.depth.proofs.Left.{fewer}
-use Rattle.cuts.specs.declared.Lightest.{Lightest}
-use Rattle.cuts.specs.declared.Lightest.TheVariants as light
+use Rattle.cuts.specs.Verdict.{Lightest}
 use Rattle.cuts.specs.Answered.{Answered}
 use Rattle.cuts.specs.Verdict.{handed, lowest_handed}
 use Rattle.cuts.proofs.Serving.{answered_own, uncut_passed, served_tabled, served-tables}
@@ -44,7 +44,7 @@ whole {p = p} {count = count} t three f c clear start = elim (dec_lt count (kept
 ]
 
 -- the tables by vertex, and its first search
-pub searched : {p : Plan} {room : ℕ} {incident begins first order : List ℕ} {l : Lightest} → CutAnswer p incident begins first order l → l ≡ light.NoCut → Sturdy limits p room
+pub searched : {p : Plan} {room : ℕ} {incident begins first order : List ℕ} {l : Lightest} → CutAnswer p incident begins first order l → l ≡ (Ok None) → Sturdy limits p room
     → Searched limits p incident (set begins p.vertices (length p.ends)) first order
 searched {p} {room} {incident} {begins} {first} {order} {l} a q u =
     let y = uncut_passed q in
@@ -74,6 +74,6 @@ searched {p} {room} {incident} {begins} {first} {order} {l} a q u =
       order_long = omega (arith, s.order_long, u.admitted.vertices, long limits.vertices);
     }
 
-abbrev pub prepared : {n edges room : ℕ} {ends excluded incident begins first order : List ℕ} {l : Lightest} → CutAnswer (plan n ends excluded) incident begins first order l → l ≡ light.NoCut
+abbrev pub prepared : {n edges room : ℕ} {ends excluded incident begins first order : List ℕ} {l : Lightest} → CutAnswer (plan n ends excluded) incident begins first order l → l ≡ (Ok None)
     → Sturdy limits (plan n ends excluded) room → edges ≡ kept_edges (plan n ends excluded) → Prepared limits n ends edges incident (set begins n (length ends)) first order room
 prepared {excluded = excluded} a q u e = record { excluded = excluded; sturdy = u; all = e; searched = searched a q u }

@@ -4,7 +4,7 @@ use Rattle.connectivity.specs.Plan.{Plan, Limits}
 use Rattle.connectivity.specs.Admission.{kept_edges, passed}
 use Rattle.connectivity.specs.Verdict.{firm, verdict, verdict_handed}
 use Rattle.connectivity.specs.Judge.{judge}
-use Rattle.cuts.specs.declared.Lightest.{Lightest}
+use Rattle.cuts.specs.Verdict.{Lightest}
 use Rattle.cuts.specs.Verdict.{handed}
 
 -- 01: the lent list after a verdict: firm: the record at its front, three numbers for each edge of the graph, passes and the numbers behind it

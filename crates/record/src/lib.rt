@@ -5,8 +5,7 @@ ghost use Rattle.connectivity.specs.Plan.{plan, limits};
 ghost use Rattle.record.specs.Answered.{Answered};
 ghost use Rattle.record.specs.Standing.{Counted};
 
-use cuts::Lightest;
-use graph::{Admission, Answer, Graph};
+use graph::{Answer, Graph};
 
 mod build; // build.rt: the tables, and walk after walk, until every edge is built
 mod exit; // exit.rt: a way out of a link
@@ -18,13 +17,13 @@ mod walk; // walk.rt: the ways up along first edges
 
 // The plan's own 1 to 5, 18 and 19; 6 unless `rows` has three numbers for each edge that is kept; then its lowest cut of at most two edges, or that it
 // has none, with the record at the front of `rows`.
-pub fn write_record(vertices: u16, ends: &[u16], excluded: &[u16], rows: &mut [u16]) -> Lightest
+pub fn write_record(vertices: u16, ends: &[u16], excluded: &[u16], rows: &mut [u16]) -> Result<Option<Lowest>, Answer>
     ensures { Answered limits (plan vertices ends.now excluded.now) rows.old rows.new result }
 {
     let made = Graph::new(vertices, ends, excluded);
     match made {
-        Admission::Refused(answer) => Lightest::Refused(answer),
-        Admission::Admitted(graph) => write_admitted(
+        Err(answer) => Err(answer),
+        Ok(graph) => write_admitted(
             vertices,
             ends,
             excluded,
@@ -41,12 +40,12 @@ fn write_admitted(
     excluded: &[u16],
     edges: u16,
     rows: &mut [u16],
-) -> Lightest
+) -> Result<Option<Lowest>, Answer>
     requires { Counted limits (plan vertices ends.now excluded.now) edges }
     ensures { Answered limits (plan vertices ends.now excluded.now) rows.old rows.new result }
 {
     if rows.len() / 3 < edges as usize {
-        return Lightest::Refused(Answer {
+        return Err(Answer {
             number: 6,
             place: 0,
         });
@@ -64,7 +63,7 @@ fn write_admitted(
         &mut first,
         &mut order,
     );
-    let Lightest::NoCut = found else {
+    let Ok(None) = found else {
         return found;
     };
     // The last group ends where the table does.
@@ -72,5 +71,5 @@ fn write_admitted(
     build::build_record(
         vertices, ends, edges, &incident, &begins, &first, &order, rows,
     );
-    Lightest::NoCut
+    Ok(None)
 }

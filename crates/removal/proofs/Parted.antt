@@ -1,4 +1,5 @@
 -- What a search from the lowest vertex over the edges that are left says of a cut.
+use Rattle.std.specs.Prelude.{Err, Ok}
 use mathlib.Core.Path.{◌≡◌, sym, ap, ◌∙◌}
 use mathlib.Core.Bool.{true, not}
 use mathlib.Core.List.{List}
@@ -25,8 +26,7 @@ use Rattle.graph.proofs.Barring.{lowest_is, masked_out, masked_in}
 use Rattle.incidence.specs.Tables.{Filled, Tabled}
 use Rattle.incidence.specs.Tables as tables
 use Rattle.incidence.proofs.Filled.{filled_for, tabled_room}
-use Rattle.depth.specs.declared.Explored.{Explored}
-use Rattle.depth.specs.declared.Explored.TheVariants.{Refused, Seen}
+use Rattle.depth.specs.Depth.{Explored}
 use Rattle.depth.specs.Depth as search
 use Rattle.depth.specs.Depth.{Crossing, Found, Cutting}
 use Rattle.depth.proofs.Counts.{Enough}
@@ -117,8 +117,8 @@ module _ {most : Limits} {p : Plan} (d : Admitted most p) {incident₀ begins₀
     ]
 
     pub searched : (x : Explored) → search.Answered most whole incident begins dead root 0 first₀ order₀ cursor₀ first order cursor x → Searched most p cut first x
-    searched (Refused b) x = absurd (not_refused most whole incident begins dead root 0 first₀ order₀ cursor₀ first order cursor (admitted_entire d) room x)
-    searched (Seen count) x =
+    searched (Err b) x = absurd (not_refused most whole incident begins dead root 0 first₀ order₀ cursor₀ first order cursor (admitted_entire d) room x)
+    searched (Ok count) x =
         let fresh = fresh_at p.vertices root first₀ (vertex_size p low.vertex) clear in
         let f = found_kept p c.masking (found_from most whole incident begins dead root 0 first₀ order₀ cursor₀ first order cursor fresh x) in
         record { admitted = d; marks = marks f }

@@ -1,5 +1,5 @@
 -- What is said of a set of edges: which vertices fall when it is removed.
-use Rattle.std.specs.Prelude.{◌≡◌, Bool, cond, not, ◌&&◌, List, ℕ, ◌+◌, ◌*◌, ◌≤◌, ◌<◌, eqb, ltb, length, get_or, replicate}
+use Rattle.std.specs.Prelude.{◌≡◌, Bool, cond, not, ◌&&◌, List, ℕ, ◌+◌, ◌*◌, ◌≤◌, ◌<◌, eqb, ltb, length, get_or, replicate, Err, Ok}
 use Rattle.connectivity.specs.Lists.{mem}
 use Rattle.connectivity.specs.Plan.{Plan, graph, Limits}
 use Rattle.connectivity.specs.Graph.{is_vertex}
@@ -9,8 +9,7 @@ use Rattle.connectivity.specs.Admission.{Answer, Admitted, admission}
 use Rattle.removal.specs.declared.Fallen.{Fallen}
 use Rattle.removal.specs.declared.Removed.{Removed}
 use Rattle.graph.specs.Admission.{told_by}
-use Rattle.depth.specs.declared.Explored.{Explored}
-use Rattle.depth.specs.declared.Explored.TheVariants as found
+use Rattle.depth.specs.Depth.{Explored}
 
 -- 02: the marks of some pieces, and how many they are
 abbrev pub fallen_of : Limits → List ℕ → Fallen
@@ -54,8 +53,8 @@ pub record Left (most : Limits) (p : Plan) (cut first : List ℕ) : Type 0 where
 
 -- `without`: the plan's own refusal, or what is left
 abbrev pub Searched : Limits → Plan → List ℕ → List ℕ → Explored → Type 0
-Searched most p cut first (found.Refused a) = (Admitted most p → ⊥) × (a ≡ told_by (admission most p))
-Searched most p cut first (found.Seen count) = Left most p cut first
+Searched most p cut first (Err a) = (Admitted most p → ⊥) × (a ≡ told_by (admission most p))
+Searched most p cut first (Ok count) = Left most p cut first
 
 -- `top`: behind the last number of a word that is below n
 pub record Topmost (n from r : ℕ) : Type 0 where

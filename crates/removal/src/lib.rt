@@ -7,7 +7,6 @@ ghost use Rattle.connectivity.specs.Fallen.{per_word, marked, word_from, words_f
 ghost use Rattle.graph.specs.Admission.{told_by, lent};
 ghost use Rattle.removal.specs.Fallen.{none, removed_by, is_unseen, Topmost, Packed, Ready, Searched};
 
-use depth::Explored;
 use graph::{Answer, Graph};
 
 // 02: the vertices that fall, sixty-four marks to a word, the lowest vertex in the lowest bit; and how many are marked.
@@ -63,11 +62,11 @@ pub fn remove(vertices: u16, ends: &[u16], excluded: &[u16], cut: &[u16]) -> Rem
         &mut cursor,
     );
     match found {
-        Explored::Refused(answer) => Removed {
+        Err(answer) => Removed {
             answer: answer,
             fallen: Fallen::none(),
         },
-        Explored::Seen(_) => Removed {
+        Ok(_) => Removed {
             answer: Answer {
                 number: 0,
                 place: 0,
@@ -89,7 +88,7 @@ fn without(
     first: &mut [u16],
     order: &mut [u16],
     cursor: &mut [u16],
-) -> Explored
+) -> Result<u16, Answer>
     requires { Ready limits incident.old begins.old dead.old first.old order.old cursor.old }
     ensures { Searched limits (plan vertices ends.now excluded.now) cut.now first.new result }
 {
@@ -97,7 +96,7 @@ fn without(
     let answer = own(vertices, ends, excluded, filled);
     let number = answer.number;
     if number != 0 {
-        return Explored::Refused(answer);
+        return Err(answer);
     }
     graph::excluded::mark(cut, dead);
     graph::excluded::mask(ends, excluded, dead);

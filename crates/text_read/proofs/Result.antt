@@ -1,4 +1,5 @@
 -- A result of reading, met by the code's answer and memory; and what the code's answer tells of the result.
+use Rattle.std.specs.Prelude.{Err, Ok}
 use mathlib.Core.Path.{◌≡◌, refl, sym, ap, ◌∙◌}
 use mathlib.Core.List.{List, ◌++◌, append_assoc}
 use Prim.Native.Nat.{ℕ, ◌+◌, ◌*◌, ◌-◌, ◌/◌, ◌≤◌}
@@ -14,20 +15,19 @@ use Rattle.connectivity.proofs.Kept.{admitted_count}
 use Rattle.graph.specs.Admission as admission
 use Rattle.graph.specs.declared.Answer as code
 use Rattle.graph.specs.declared.Graph.{Graph}
-use Rattle.graph.specs.declared.Admission.{Admission}
+use Rattle.graph.specs.Admission.{Admission}
 use Rattle.graph.proofs.Lent.{not_served, told_by_lem}
 use Rattle.text.specs.Plan.{PlanReading, filled, read_plan}
 use Rattle.text.specs.Verdict.{VerdictReading, read_verdict}
 use Rattle.text.proofs.RoundTrip.{plan_admitted}
-use Rattle.text_read.specs.declared.VerdictRead.{VerdictRead}
-use Rattle.text_read.specs.Entry.{handed, plan_handed, list_handed, after_plan, after_verdict, ReadsPlan, ReadsVerdict}
+use Rattle.text_read.specs.Entry.{ListRead, handed, plan_handed, list_handed, after_plan, after_verdict, ReadsPlan, ReadsVerdict}
 
 module _ {ws : List ℕ} {most : ℕ} {limits : Limits} {text lent after : List ℕ} where
   pub reads_plan : {r : Admission} (x : PlanReading)
       → read_plan ws most limits text (length lent) ≡ x → admission.handed r ≡ plan_handed x → after ≡ after_plan x lent → ReadsPlan ws most limits text lent after r
   reads_plan x p q m = record { answer = q ∙ sym (ap plan_handed p); memory = m ∙ sym (ap (λ (y : PlanReading). after_plan y lent) p) }
 
-  pub reads_verdict : {r : VerdictRead} (x : VerdictReading)
+  pub reads_verdict : {r : ListRead} (x : VerdictReading)
       → read_verdict ws most limits text (length lent) ≡ x → handed r ≡ list_handed x → after ≡ after_verdict x lent → ReadsVerdict ws most limits text lent after r
   reads_verdict x p q m = record { answer = q ∙ sym (ap list_handed p); memory = m ∙ sym (ap (λ (y : VerdictReading). after_verdict y lent) p) }
 
@@ -57,7 +57,7 @@ pub record Told (x : PlanReading) (g : Graph) : Type 0 where
   pub kept_vertices_lem : g.kept_vertices ≡ kept_vertices drawn
   pub kept_edges_lem : g.kept_edges ≡ length (all_edges (graph drawn))
 
-pub plan-told : (x : PlanReading) {r : Admission} {g : Graph} → admission.handed r ≡ plan_handed x → r ≡ Admission.Admitted g → Told x g
+pub plan-told : (x : PlanReading) {r : Admission} {g : Graph} → admission.handed r ≡ plan_handed x → r ≡ Ok g → Told x g
 plan-told (PlanReading.refused b) h q = absurd (not_served (sym (rw q at h)))
 plan-told (PlanReading.read p) h q =
     let k = rw q at h in
@@ -70,7 +70,7 @@ pub record Stored (ws : List ℕ) (most : ℕ) (limits : Limits) (text lent afte
       ≡ PlanReading.read (plan g.vertices (take (2 * g.edges) after) (take (g.vertices - g.kept_vertices) (drop (2 * g.edges) after)))
 
 pub plan_stored : {ws : List ℕ} {most : ℕ} {limits : Limits} {text lent after : List ℕ} {r : Admission} {g : Graph}
-    → ReadsPlan ws most limits text lent after r → r ≡ Admission.Admitted g → Stored ws most limits text lent after g
+    → ReadsPlan ws most limits text lent after r → r ≡ Ok g → Stored ws most limits text lent after g
 plan_stored {ws} {most} {limits} {text} {lent} {after} {r} {g} reads q =
     let t = plan-told (read_plan ws most limits text (length lent)) reads.answer q in
     go t.drawn t.is t.vertices t.edges t.kept_vertices_lem
@@ -88,17 +88,17 @@ plan_stored {ws} {most} {limits} {text} {lent} {after} {r} {g} reads q =
           is = x ∙ ap PlanReading.read (sym (rw (m, v) (parts p lent (2 * g.edges) (p.vertices - g.kept_vertices) edges excluded)));
         }
 
-pub plan-refusal : (x : PlanReading) {r : Admission} {a : code.Answer} → admission.handed r ≡ plan_handed x → r ≡ Admission.Refused a
+pub plan-refusal : (x : PlanReading) {r : Admission} {a : code.Answer} → admission.handed r ≡ plan_handed x → r ≡ Err a
     → (b : Answer) × (x ≡ PlanReading.refused b) × (a ≡ admission.told_by b)
 plan-refusal (PlanReading.refused b) h q = (b, refl, told_by_lem (rw q at h))
 plan-refusal (PlanReading.read p) h q = absurd (not_served (rw q at h))
 
-pub verdict-told : (x : VerdictReading) {r : VerdictRead} {kind count : ℕ} → handed r ≡ list_handed x → r ≡ VerdictRead.Read kind count
+pub verdict-told : (x : VerdictReading) {r : ListRead} {kind count : ℕ} → handed r ≡ list_handed x → r ≡ Ok (record { kind = kind; count = count })
     → (list : List ℕ) × (x ≡ VerdictReading.read kind list) × (count ≡ length list)
 verdict-told (VerdictReading.refused b) h q = absurd (not_served (sym (rw q at h)))
 verdict-told (VerdictReading.read k list) h q = let z = rw q at h in (list, ap (λ (n : ℕ). VerdictReading.read n list) (sym (ap (value 0) z)), ap (value 1) z)
 
-pub verdict-refusal : (x : VerdictReading) {r : VerdictRead} {a : code.Answer} → handed r ≡ list_handed x → r ≡ VerdictRead.Refused a
+pub verdict-refusal : (x : VerdictReading) {r : ListRead} {a : code.Answer} → handed r ≡ list_handed x → r ≡ Err a
     → (b : Answer) × (x ≡ VerdictReading.refused b) × (a ≡ admission.told_by b)
 verdict-refusal (VerdictReading.refused b) h q = (b, refl, told_by_lem (rw q at h))
 verdict-refusal (VerdictReading.read k list) h q = absurd (not_served (rw q at h))

@@ -1,17 +1,22 @@
 -- What the two entries that read answer, and what the lent memory holds afterwards.
-use Rattle.std.specs.Prelude.{◌≡◌, List, [], ◌∷◌, ◌++◌, ℕ, length}
+use Rattle.std.specs.Prelude.{◌≡◌, List, [], ◌∷◌, ◌++◌, ℕ, length, Result, Err, Ok}
 use Rattle.connectivity.specs.Plan.{Limits}
 use Rattle.connectivity.specs.Admission.{Handed, served, refusal}
 use Rattle.graph.specs.Admission as admission
-use Rattle.graph.specs.declared.Admission.{Admission}
+use Rattle.graph.specs.Admission.{Admission}
+use Rattle.graph.specs.declared.Answer.{Answer}
 use Rattle.text_read.specs.declared.VerdictRead.{VerdictRead}
 use Rattle.text.specs.Plan.{PlanReading, filled, read_plan}
 use Rattle.text.specs.Verdict.{VerdictReading, read_verdict}
 
+-- what reading a verdict gives: its kind and how many numbers its list has, or why there is none
+abbrev pub ListRead : Type 0
+ListRead = Result VerdictRead Answer
+
 -- 01's number, place and values for each case; the values of a verdict are its kind and how many numbers its list has
-abbrev pub handed : VerdictRead → Handed
-handed (VerdictRead.Refused a) = refusal (admission.answer_of a)
-handed (VerdictRead.Read kind count) = served (kind ∷ (count ∷ []))
+abbrev pub handed : ListRead → Handed
+handed (Err a) = refusal (admission.answer_of a)
+handed (Ok v) = served (v.kind ∷ (v.count ∷ []))
 
 -- what is handed back of a plan text: the plan's counts, or the refusal
 abbrev pub plan_handed : PlanReading → Handed
@@ -38,6 +43,6 @@ pub record ReadsPlan (ws : List ℕ) (most : ℕ) (limits : Limits) (text lent a
   pub answer : admission.handed r ≡ plan_handed (read_plan ws most limits text (length lent))
   pub memory : after ≡ after_plan (read_plan ws most limits text (length lent)) lent
 
-pub record ReadsVerdict (ws : List ℕ) (most : ℕ) (limits : Limits) (text lent after : List ℕ) (r : VerdictRead) : Type 0 where
+pub record ReadsVerdict (ws : List ℕ) (most : ℕ) (limits : Limits) (text lent after : List ℕ) (r : ListRead) : Type 0 where
   pub answer : handed r ≡ list_handed (read_verdict ws most limits text (length lent))
   pub memory : after ≡ after_verdict (read_verdict ws most limits text (length lent)) lent

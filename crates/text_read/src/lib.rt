@@ -11,19 +11,18 @@ ghost use Rattle.connectivity.specs.Plan.{limits};
 ghost use Rattle.text.specs.Column.{five, largest};
 ghost use Rattle.text_read.specs.Entry.{ReadsPlan, ReadsVerdict};
 
-use graph::{Admission, Answer};
+use graph::{Answer, Graph};
 use text::HEADER;
 
 #[derive(Clone, Copy)]
-pub enum VerdictRead {
-    // the verdict's kind, and how many numbers its list has
-    Read { kind: u16, count: usize },
-    Refused(Answer),
+pub struct VerdictRead {
+    pub kind: u16,
+    pub count: usize,
 }
 
 // Reads a plan text into `table`, the ends and directly behind them the excluded vertices: 7 for the header, 2, 3, 6, 7 for the lines, then the
 // first edge with 4 or 5, 18 and 19.
-pub fn read_plan(text: &[u8], table: &mut [u16]) -> Admission
+pub fn read_plan(text: &[u8], table: &mut [u16]) -> Result<Graph, Answer>
     ensures { ReadsPlan five largest limits text.now table.old table.new result }
 {
     let header = plan::read_header(text);
@@ -34,23 +33,23 @@ pub fn read_plan(text: &[u8], table: &mut [u16]) -> Admission
     let answer = plan::judge(text, header, table.len());
     let number = answer.number;
     if number != 0 {
-        return Admission::Refused(answer);
+        return Err(answer);
     }
     plan::store(text, header, table);
     plan::counted(header, table)
 }
 
-fn refused_plan(number: u16) -> Admission
-    ensures { result ≡ Admission.Refused (record { number = number; place = 0 }) }
+fn refused_plan(number: u16) -> Result<Graph, Answer>
+    ensures { result ≡ Err (record { number = number; place = 0 }) }
 {
-    Admission::Refused(Answer {
+    Err(Answer {
         number: number,
         place: 0,
     })
 }
 
 // Reads a verdict text into `list`: 8 for the header, 6, then 8 for the lines.
-pub fn read_verdict(text: &[u8], list: &mut [u16]) -> VerdictRead
+pub fn read_verdict(text: &[u8], list: &mut [u16]) -> Result<VerdictRead, Answer>
     ensures { ReadsVerdict five largest limits text.now list.old list.new result }
 {
     let header = line::first_line(text, 2);
@@ -73,22 +72,22 @@ pub fn read_verdict(text: &[u8], list: &mut [u16]) -> VerdictRead
     }
     if kind == 2 {
         list[0] = header.second;
-        return VerdictRead::Read {
-            kind: kind,
+        return Ok(VerdictRead {
+            kind,
             count: 1,
-        };
+        });
     }
     line::store_lines(text, HEADER, columns, count, list, 0);
-    VerdictRead::Read {
-        kind: kind,
+    Ok(VerdictRead {
+        kind,
         count: size,
-    }
+    })
 }
 
-fn refused_verdict(number: u16) -> VerdictRead
-    ensures { result ≡ VerdictRead.Refused (record { number = number; place = 0 }) }
+fn refused_verdict(number: u16) -> Result<VerdictRead, Answer>
+    ensures { result ≡ Err (record { number = number; place = 0 }) }
 {
-    VerdictRead::Refused(Answer {
+    Err(Answer {
         number: number,
         place: 0,
     })

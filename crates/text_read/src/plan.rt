@@ -8,7 +8,7 @@ ghost use Rattle.text.specs.Plan.{filled, read_answer};
 ghost use Rattle.text_read.specs.Header.{HeaderRead, Headed, ends_at, excluded_at, Fitting, if_fits, edge_lines_answer, excluded_lines_answer, lines_answer};
 
 use crate::line;
-use graph::{Admission, Answer, Graph};
+use graph::{Answer, Graph};
 use text::{HEADER, LONGEST, SHORTEST};
 
 // The header of a plan text: whether it is in the form, its counts, and the place behind it.
@@ -210,7 +210,7 @@ pub(crate) fn store(text: &[u8], header: Header, table: &mut [u16])
 }
 
 // The plan in a filled table, with its counts.
-pub(crate) fn counted(header: Header, table: &[u16]) -> Admission
+pub(crate) fn counted(header: Header, table: &[u16]) -> Result<Graph, Answer>
     requires { 2 * header.edges + header.excluded ≤ length table.now }
     ensures { handed result ≡ constructed limits (plan header.vertices (take (2 * header.edges) table.now) (take header.excluded (drop (2 * header.edges) table.now))) }
 {

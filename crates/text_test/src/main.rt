@@ -66,10 +66,10 @@ fn plan(rt: &impl Print, text: &[u8], space: usize) -> io::Result<()> {
     memory(rt, &table)
 }
 
-fn admission(rt: &impl Print, answer: Admission) -> io::Result<()> {
+fn admission(rt: &impl Print, answer: Result<Graph, Answer>) -> io::Result<()> {
     match answer {
-        Admission::Refused(a) => refused(rt, a),
-        Admission::Admitted(g) => {
+        Err(a) => refused(rt, a),
+        Ok(g) => {
             row(rt, b"plan", g.vertices, g.edges)?;
             row(rt, b"kept", g.kept_vertices, g.kept_edges)
         }
@@ -84,10 +84,10 @@ fn verdict(rt: &impl Print, text: &[u8], space: usize) -> io::Result<()> {
     memory(rt, &list)
 }
 
-fn verdict_read(rt: &impl Print, answer: VerdictRead) -> io::Result<()> {
+fn verdict_read(rt: &impl Print, answer: Result<VerdictRead, Answer>) -> io::Result<()> {
     match answer {
-        VerdictRead::Refused(a) => refused(rt, a),
-        VerdictRead::Read { kind, count } => row(rt, b"verdict", kind, (count % 10) as u16),
+        Err(a) => refused(rt, a),
+        Ok(VerdictRead { kind, count }) => row(rt, b"verdict", kind, (count % 10) as u16),
     }
 }
 
@@ -124,7 +124,7 @@ fn put(list: &mut [u16], at: usize, byte: u8) {
 }
 
 // Calls the entry that writes a plan, or the one that writes a verdict.
-fn entry(letter: u8, first: u16, list: &[u16], text: &mut [u8]) -> Written {
+fn entry(letter: u8, first: u16, list: &[u16], text: &mut [u8]) -> Result<usize, Answer> {
     if letter == b'P' {
         return write_plan(first, list, text);
     }
@@ -132,7 +132,7 @@ fn entry(letter: u8, first: u16, list: &[u16], text: &mut [u8]) -> Written {
 }
 
 // The list has how many ends there are, the ends, and behind them the slugs.
-fn write_plan(pieces: u16, list: &[u16], text: &mut [u8]) -> Written {
+fn write_plan(pieces: u16, list: &[u16], text: &mut [u8]) -> Result<usize, Answer> {
     let slugs = behind_ends(list);
     text_write::write_plan(
         pieces,
@@ -154,10 +154,10 @@ fn one_more(count: u16) -> usize {
     1 + count as usize
 }
 
-fn written(rt: &impl Print, w: Written) -> io::Result<()> {
+fn written(rt: &impl Print, w: Result<usize, Answer>) -> io::Result<()> {
     match w {
-        Written::Refused(a) => refused(rt, a),
-        Written::Bytes(n) => {
+        Err(a) => refused(rt, a),
+        Ok(n) => {
             say(rt, b"bytes")?;
             number(rt, (n % 65536) as u16)?;
             show(rt, b'\n')

@@ -1,4 +1,5 @@
 -- A result of writing, met by the code's answer and memory; and what the code's answer tells of the result.
+use Rattle.std.specs.Prelude.{Err, Ok}
 use mathlib.Core.Path.{◌≡◌, refl, sym, ap, ◌∙◌}
 use mathlib.Core.List.{List}
 use Prim.Native.Nat.{ℕ}
@@ -11,7 +12,7 @@ use Rattle.graph.proofs.Lent.{not_served, told_by_lem}
 use Rattle.text.specs.Plan.{Writing, write_plan}
 use Rattle.text.specs.Verdict.{write_verdict}
 use Rattle.text.specs.Lines.{write_lines}
-use Rattle.text_write.specs.declared.Written.{Written}
+use Rattle.text_write.specs.Entry.{Written}
 use Rattle.text_write.specs.Entry.{handed, bytes_handed, after_writing, WritesPlan, WritesVerdict, WritesLines}
 
 module _ {ws lent after : List ℕ} {r : Written} (x : Writing) where
@@ -28,12 +29,12 @@ module _ {ws lent after : List ℕ} {r : Written} (x : Writing) where
 
 -- For callers: the case of the answer tells the case of the result.
 
-pub bytes_told : (x : Writing) {r : Written} {count : ℕ} → handed r ≡ bytes_handed x → r ≡ Written.Bytes count
+pub bytes_told : (x : Writing) {r : Written} {count : ℕ} → handed r ≡ bytes_handed x → r ≡ Ok count
     → (bytes : List ℕ) × (x ≡ Writing.written bytes) × (count ≡ length bytes)
 bytes_told (Writing.refused b) h q = absurd (not_served (sym (rw q at h)))
 bytes_told (Writing.written bytes) h q = (bytes, refl, ap (λ (z : Handed). get_or z.values 0 0) (rw q at h))
 
-pub bytes_refusal : (x : Writing) {r : Written} {a : code.Answer} → handed r ≡ bytes_handed x → r ≡ Written.Refused a
+pub bytes_refusal : (x : Writing) {r : Written} {a : code.Answer} → handed r ≡ bytes_handed x → r ≡ Err a
     → (b : Answer) × (x ≡ Writing.refused b) × (a ≡ told_by b)
 bytes_refusal (Writing.refused b) h q = (b, refl, told_by_lem (rw q at h))
 bytes_refusal (Writing.written bytes) h q = absurd (not_served (rw q at h))

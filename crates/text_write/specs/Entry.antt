@@ -1,19 +1,22 @@
 -- What the three entries that write answer, and what the lent memory holds afterwards; and an answer's line.
-use Rattle.std.specs.Prelude.{◌≡◌, List, [], ◌∷◌, ℕ, length, get_or}
+use Rattle.std.specs.Prelude.{◌≡◌, List, [], ◌∷◌, ℕ, length, get_or, Result, Err, Ok}
 use Rattle.connectivity.specs.Plan.{Plan, Limits}
 use Rattle.connectivity.specs.Admission.{Handed, served, refusal}
 use Rattle.graph.specs.Admission.{answer_of}
 use Rattle.graph.specs.declared.Answer.{Answer}
-use Rattle.text_write.specs.declared.Written.{Written}
 use Rattle.text.specs.Column.{line}
 use Rattle.text.specs.Plan.{Writing, filled, write_plan}
 use Rattle.text.specs.Verdict.{write_verdict}
 use Rattle.text.specs.Lines.{write_lines}
 
+-- what writing gives: how many bytes, or why there are none
+abbrev pub Written : Type 0
+Written = Result ℕ Answer
+
 -- 01's number, place and values for each case; the value of a text is how many bytes it has
 abbrev pub handed : Written → Handed
-handed (Written.Refused a) = refusal (answer_of a)
-handed (Written.Bytes count) = served (count ∷ [])
+handed (Err a) = refusal (answer_of a)
+handed (Ok count) = served (count ∷ [])
 
 -- what is handed back of writing: how many bytes the text has, or the refusal
 abbrev pub bytes_handed : Writing → Handed

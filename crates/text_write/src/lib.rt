@@ -10,29 +10,22 @@ ghost use Rattle.text.specs.Column.{five};
 ghost use Rattle.text.specs.Verdict.{count_of, has_text};
 ghost use Rattle.text_write.specs.Entry.{WritesPlan, WritesVerdict, WritesLines, answer_text};
 
-use graph::{Admission, Answer, Graph};
+use graph::{Answer, Graph};
 use text::{ANSWER_SIZE, HEADER, SHORTEST, WIDTH};
 
-#[derive(Clone, Copy)]
-pub enum Written {
-    // how many bytes
-    Bytes(usize),
-    Refused(Answer),
-}
-
 // Writes the text of a plan: the plan's own 1 to 5, 18 and 19, then 6.
-pub fn write_plan(vertices: u16, ends: &[u16], excluded: &[u16], text: &mut [u8]) -> Written
+pub fn write_plan(vertices: u16, ends: &[u16], excluded: &[u16], text: &mut [u8]) -> Result<usize, Answer>
     ensures { WritesPlan five limits (plan vertices ends.now excluded.now) text.old text.new result }
 {
     let admission = Graph::new(vertices, ends, excluded);
     match admission {
-        Admission::Refused(answer) => Written::Refused(answer),
-        Admission::Admitted(_) => write_admitted(vertices, ends, excluded, text),
+        Err(answer) => Err(answer),
+        Ok(_) => write_admitted(vertices, ends, excluded, text),
     }
 }
 
 // The same of an admitted plan.
-fn write_admitted(vertices: u16, ends: &[u16], excluded: &[u16], text: &mut [u8]) -> Written
+fn write_admitted(vertices: u16, ends: &[u16], excluded: &[u16], text: &mut [u8]) -> Result<usize, Answer>
     requires { Admitted limits (plan vertices ends.now excluded.now) }
     ensures { WritesPlan five limits (plan vertices ends.now excluded.now) text.old text.new result }
 {
@@ -46,7 +39,7 @@ fn write_admitted(vertices: u16, ends: &[u16], excluded: &[u16], text: &mut [u8]
     let header = [vertices, edges as u16, excluded.len() as u16];
     line::write_text(&header, columns, ends, 2, edges, text);
     line::write_lines(excluded, 1, excluded.len(), text, next);
-    Written::Bytes(size)
+    Ok(size)
 }
 
 // How many columns the header has: a third where there are excluded vertices.
@@ -56,17 +49,17 @@ fn header_columns(excluded: usize) -> usize
     if excluded == 0 { 2 } else { 3 }
 }
 
-fn refused_writing(number: u16) -> Written
-    ensures { result ≡ Written.Refused (record { number = number; place = 0 }) }
+fn refused_writing(number: u16) -> Result<usize, Answer>
+    ensures { result ≡ Err (record { number = number; place = 0 }) }
 {
-    Written::Refused(Answer {
+    Err(Answer {
         number: number,
         place: 0,
     })
 }
 
 // Writes the text of a verdict: 8 where it has no text form, then 6.
-pub fn write_verdict(kind: u16, list: &[u16], text: &mut [u8]) -> Written
+pub fn write_verdict(kind: u16, list: &[u16], text: &mut [u8]) -> Result<usize, Answer>
     ensures { WritesVerdict five limits kind list.now text.old text.new result }
 {
     if !has_text(kind, list) {
@@ -81,7 +74,7 @@ pub fn write_verdict(kind: u16, list: &[u16], text: &mut [u8]) -> Written
     }
     let header = [kind, count as u16];
     line::write_text(&header, 2, list, columns, lines, text);
-    Written::Bytes(size)
+    Ok(size)
 }
 
 // The verdict has a text form.
@@ -112,7 +105,7 @@ fn count_of(kind: u16, list: &[u16]) -> usize
 }
 
 // Writes as many lines of `columns` numbers each as the list has whole ones: 8 unless there are one to three columns, then 6.
-pub fn write_lines(columns: usize, list: &[u16], text: &mut [u8]) -> Written
+pub fn write_lines(columns: usize, list: &[u16], text: &mut [u8]) -> Result<usize, Answer>
     ensures { WritesLines five columns list.now text.old text.new result }
 {
     if columns < 1 {
@@ -128,7 +121,7 @@ pub fn write_lines(columns: usize, list: &[u16], text: &mut [u8]) -> Written
         return refused_writing(6);
     }
     line::write_lines(list, columns, lines, text, 0);
-    Written::Bytes(lines * size)
+    Ok(lines * size)
 }
 
 // The line of an answer: number and place in two columns.

@@ -3,7 +3,6 @@
 
 use std::io;
 use std::io::Write;
-use text_write::Written;
 
 fn main(rt: HostRuntime) -> io::Result<()> {
     // One byte more than the longest text in the form: a longer text is read as its front is (proofs/Longer of `verify_texts`).
@@ -12,8 +11,8 @@ fn main(rt: HostRuntime) -> io::Result<()> {
     let mut verdict = [0u8; text::VERDICT_SIZE];
     let written = certify_texts::verdict_text(&plan[..length], &mut verdict);
     match written {
-        Written::Bytes(count) => io::writer(&rt).write_all(&verdict[..count]),
+        Ok(count) => io::writer(&rt).write_all(&verdict[..count]),
         // never: there is room for every verdict text (proofs/Passing of `certify_texts`)
-        Written::Refused(_) => Ok(()),
+        Err(_) => Ok(()),
     }
 }

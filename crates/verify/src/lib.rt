@@ -7,7 +7,7 @@ ghost use Rattle.connectivity.specs.Admission.{admission, and_then, answer};
 ghost use Rattle.connectivity.specs.Judge.{judge};
 ghost use Rattle.graph.specs.Admission.{told_by};
 
-use graph::{Admission, Answer, Graph};
+use graph::{Answer, Graph};
 
 // A verdict of the kind `kind` with the numbers `list` about a plan: 0 and 0 if it passes, else the plan's own refusal or the first of 9
 // to 17 in 01's order. Kind 0 is firm, 1 is weak, any other is 9. It only reads.
@@ -29,8 +29,8 @@ fn unknown(vertices: u16, ends: &[u16], excluded: &[u16]) -> Answer
 {
     let made = Graph::new(vertices, ends, excluded);
     match made {
-        Admission::Refused(answer) => answer,
-        Admission::Admitted(_) => Answer {
+        Err(answer) => answer,
+        Ok(_) => Answer {
             number: 9,
             place: 0,
         },

@@ -6,7 +6,7 @@ ghost use Rattle.connectivity.specs.Plan.{plan, graph, limits};
 ghost use Rattle.connectivity.specs.Judge.{judge};
 ghost use Rattle.graph.specs.Admission.{told_by};
 
-use graph::{Admission, Answer, Graph};
+use graph::{Answer, Graph};
 
 mod state; // state.rt: the build state
 mod firm; // firm.rt: the rows in turn
@@ -18,8 +18,8 @@ pub fn check_firm(vertices: u16, ends: &[u16], excluded: &[u16], list: &[u16]) -
 {
     let made = Graph::new(vertices, ends, excluded);
     match made {
-        Admission::Refused(answer) => answer,
-        Admission::Admitted(graph) => firm::firm_admitted(graph, ends, excluded, list),
+        Err(answer) => answer,
+        Ok(graph) => firm::firm_admitted(graph, ends, excluded, list),
     }
 }
 

@@ -9,7 +9,7 @@ ghost use Rattle.text.specs.Plan.{PlanReading};
 ghost use Rattle.verify_texts.specs.Texts.{verdict_in, judge_read, judge_texts};
 ghost use Rattle.verify_texts.specs.Table.{Holds, plan_of};
 
-use graph::{Admission, Answer, Graph};
+use graph::{Answer, Graph};
 use text_read::VerdictRead;
 
 pub mod board; // board.rt: the check as C takes it, for a board's firmware
@@ -21,8 +21,8 @@ pub fn check_texts(plan: &[u8], verdict: &[u8]) -> Answer
     let mut table = [0u16; 2 * Graph::MAX_EDGES + Graph::MAX_VERTICES];
     let read = text_read::read_plan(plan, &mut table);
     match read {
-        Admission::Refused(answer) => answer,
-        Admission::Admitted(graph) => check_read(graph, &table, verdict),
+        Err(answer) => answer,
+        Ok(graph) => check_read(graph, &table, verdict),
     }
 }
 
@@ -43,8 +43,8 @@ fn check_verdict(vertices: u16, ends: &[u16], excluded: &[u16], verdict: &[u8]) 
     let mut list = [0u16; 3 * Graph::MAX_EDGES];
     let read = text_read::read_verdict(verdict, &mut list);
     match read {
-        VerdictRead::Refused(answer) => answer,
-        VerdictRead::Read { kind, count } => {
+        Err(answer) => answer,
+        Ok(VerdictRead { kind, count }) => {
             verify::check(vertices, ends, excluded, kind, &list[..count])
         }
     }

@@ -8,7 +8,7 @@ ghost use Rattle.connectivity.specs.Judge.{judge_weak, judge};
 ghost use Rattle.graph.specs.Admission.{told_by};
 ghost use Rattle.verify_weak.specs.Weak.{is_missing, InTurn};
 
-use graph::{Admission, Answer, Graph};
+use graph::{Answer, Graph};
 
 // A verdict of kind 1 with the numbers `list` about a plan: 0 and 0 if it passes, else the plan's own refusal, or 9, 11 or 17. It only
 // reads.
@@ -17,8 +17,8 @@ pub fn check_weak(vertices: u16, ends: &[u16], excluded: &[u16], list: &[u16]) -
 {
     let made = Graph::new(vertices, ends, excluded);
     match made {
-        Admission::Refused(answer) => answer,
-        Admission::Admitted(_) => weak_admitted(vertices, ends, excluded, list),
+        Err(answer) => answer,
+        Ok(_) => weak_admitted(vertices, ends, excluded, list),
     }
 }
 

@@ -7,16 +7,16 @@ use Rattle.certify.proofs.verdict.Goals as goal
 
 pub weak-requires : goal.weak-requires
 weak-requires c =
-    (weak_told limits (plan _ _ _) _ c.in-Cut.cut (rw c.in-Cut.is at c.write_record-found.ensures.answer)).0
+    (weak_told limits (plan _ _ _) _ c.in-Ok-Some.cut (rw c.in-Ok-Some.is at c.write_record-found.ensures.answer)).0
 
-pub returns-in-Refused : goal.returns-in-Refused
-returns-in-Refused c =
-    answers _ c.write_record-found.ensures (c.said.ensures ∙ ap (finding limits (plan _ _ _)) (sym c.in-Refused.is))
+pub returns-in-Err : goal.returns-in-Err
+returns-in-Err c =
+    answers _ c.write_record-found.ensures (c.said.ensures ∙ ap (finding limits (plan _ _ _)) (sym c.in-Err.is))
 
-pub returns-in-Cut : goal.returns-in-Cut
-returns-in-Cut c =
-    answers _ c.write_record-found.ensures (c.weak.ensures ∙ ap (finding limits (plan _ _ _)) (sym c.in-Cut.is))
+pub returns-in-Ok-Some : goal.returns-in-Ok-Some
+returns-in-Ok-Some c =
+    answers _ c.write_record-found.ensures (c.weak.ensures ∙ ap (finding limits (plan _ _ _)) (sym c.in-Ok-Some.is))
 
-pub returns-in-NoCut : goal.returns-in-NoCut
-returns-in-NoCut c =
-    answers _ c.write_record-found.ensures (c.said-in-NoCut.ensures ∙ ap (finding limits (plan _ _ _)) (sym c.in-NoCut.is))
+pub returns-in-Ok-None : goal.returns-in-Ok-None
+returns-in-Ok-None c =
+    answers _ c.write_record-found.ensures (c.said-in-Ok-None.ensures ∙ ap (finding limits (plan _ _ _)) (sym c.in-Ok-None.is))

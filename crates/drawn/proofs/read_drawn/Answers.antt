@@ -1,4 +1,5 @@
 -- `read_drawn` meets its contract: a refusal is told before anything is stored, and what is stored are the tabs of the drawn list that are taken.
+use Rattle.std.specs.Prelude.{Err}
 use mathlib.Core.Path.{◌≡◌, refl, sym, ap, ◌∙◌}
 use mathlib.Core.Bool.{true}
 use mathlib.Core.List.{List}
@@ -9,7 +10,7 @@ use Rattle.connectivity.specs.Plan.{limits}
 use Rattle.connectivity.specs.Admission.{answer}
 use Rattle.graph.specs.Admission.{handed, constructed}
 use Rattle.graph.specs.declared.Answer.{Answer}
-use Rattle.graph.specs.declared.Admission.{Admission}
+use Rattle.graph.specs.Admission.{Admission}
 use Rattle.text_read.proofs.Result.{admitted_served}
 use Rattle.drawn.specs.Length.{eight}
 use Rattle.drawn.specs.Text.{form, at₂, at₃, part, length_in, letter_in, header_size, edges_fit, spelled, Reading, read_answer}
@@ -37,7 +38,7 @@ returns-then-not-fits c =
     reads_drawn (Reading.refused (answer 20 0))
     (read-refused form limits a.text.now (length a.ends.now) (length a.numbers.now) (answer 20 0)
     (no_header form limits a.text.now (length a.ends.now) (length a.numbers.now) (sym c.read_header-header.ensures.fits ∙ c.if-not-fits.true)) (λ z. omega arith))
-    (ap (λ (x : Answer). handed (Admission.Refused x)) c.number_alone.ensures) refl refl
+    (ap (λ (x : Answer). handed (Err x)) c.number_alone.ensures) refl refl
 
 pub returns-then-number-ne0 : goal.returns-then-number-ne0
 returns-then-number-ne0 c =
@@ -46,7 +47,7 @@ returns-then-number-ne0 c =
     let x = read_answer form limits a.text.now (length a.ends.now) (length a.numbers.now) in
     reads_drawn (Reading.refused x)
     (read-refused form limits a.text.now (length a.ends.now) (length a.numbers.now) x refl (λ z. c.if-number-ne0.true (number e ∙ z)))
-    (ap (λ (y : Answer). handed (Admission.Refused y)) e) refl refl
+    (ap (λ (y : Answer). handed (Err y)) e) refl refl
 
 pub overflow_add-header : goal.overflow_add-header
 overflow_add-header c =

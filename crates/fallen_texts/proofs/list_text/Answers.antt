@@ -17,16 +17,16 @@ room = omega (arith, length-replicate {A = ℕ} (2 * limits.edges + limits.verti
 
 pub list_read-requires : goal.list_read-requires
 list_read-requires c =
-    let stored : let table = c.read_plan-read.new.table in let graph = c.in-Admitted.graph in Holds graph table × (plan_in five largest limits c.args.plan.now ≡ PlanReading.read (plan_of graph table)) = plan_stored five largest limits _ _ _ _ c.read_plan-read.ensures room _ c.in-Admitted.is in
+    let stored : let table = c.read_plan-read.new.table in let graph = c.in-Ok.graph in Holds graph table × (plan_in five largest limits c.args.plan.now ≡ PlanReading.read (plan_of graph table)) = plan_stored five largest limits _ _ _ _ c.read_plan-read.ensures room _ c.in-Ok.is in
     let s = stored in
     (s.0, planned five largest limits _ s.1, c.requires)
 
-pub returns-in-Refused : goal.returns-in-Refused
-returns-in-Refused c =
-    let (b, q, e) = plan-told five largest limits _ _ _ _ c.read_plan-read.ensures room _ c.in-Refused.is in
+pub returns-in-Err : goal.returns-in-Err
+returns-in-Err c =
+    let (b, q, e) = plan-told five largest limits _ _ _ _ c.read_plan-read.ensures room _ c.in-Err.is in
     number_begins limits b c.args.list.now q e (omega (arith, c.requires))
 
-pub returns-in-Admitted : goal.returns-in-Admitted
-returns-in-Admitted c =
-    let stored : let table = c.read_plan-read.new.table in let graph = c.in-Admitted.graph in Holds graph table × (plan_in five largest limits c.args.plan.now ≡ PlanReading.read (plan_of graph table)) = plan_stored five largest limits _ _ _ _ c.read_plan-read.ensures room _ c.in-Admitted.is in
+pub returns-in-Ok : goal.returns-in-Ok
+returns-in-Ok c =
+    let stored : let table = c.read_plan-read.new.table in let graph = c.in-Ok.graph in Holds graph table × (plan_in five largest limits c.args.plan.now ≡ PlanReading.read (plan_of graph table)) = plan_stored five largest limits _ _ _ _ c.read_plan-read.ensures room _ c.in-Ok.is in
     read_begins limits _ stored.1 c.list_read.ensures

@@ -1,4 +1,5 @@
 -- `admit` meets its contract: 18, then 19, and the counts of what is kept.
+use Rattle.std.specs.Prelude.{Err, Ok}
 use mathlib.Core.Path.{◌≡◌, sym, ap, ◌∙◌}
 use mathlib.Core.List.{[], ◌∷◌}
 use Prim.Native.Nat.{ℕ, ◌-◌, ◌/◌}
@@ -6,14 +7,13 @@ use lib.ListN.{length}
 use Rattle.connectivity.specs.Plan.{plan, limits}
 use Rattle.connectivity.specs.Admission.{served, kept_vertices}
 use Rattle.graph.specs.declared.Answer.{Answer}
-use Rattle.graph.specs.declared.Admission.TheVariants.{Refused}
 use Rattle.graph.specs.Admission.{handed}
 use Rattle.graph.proofs.Laws.{fallen, kept_left, too_bare, is_admitted, fits}
 use native.Mathlib.Omega.{arith}
 use Rattle.graph.proofs.admit.Goals as goal
 
 pub returns-then-number-ne0 : goal.returns-then-number-ne0
-returns-then-number-ne0 c = let e = c.judge_excluded-rising.ensures in let same = ap (λ (a : Answer). a.number) e in ap (λ (a : Answer). handed (Refused a)) e ∙ sym (fallen limits _ c.requires (omega arith))
+returns-then-number-ne0 c = let e = c.judge_excluded-rising.ensures in let same = ap (λ (a : Answer). a.number) e in ap (λ (a : Answer). handed (Err a)) e ∙ sym (fallen limits _ c.requires (omega arith))
 
 pub overflow_cast-kept : goal.overflow_cast-kept
 overflow_cast-kept c =

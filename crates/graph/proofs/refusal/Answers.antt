@@ -6,11 +6,11 @@ use Rattle.graph.proofs.Lent.{constructed-refused, constructed_admitted, lent-re
 use Rattle.graph.proofs.Telling.{lent_space}
 use Rattle.graph.proofs.refusal.Goals as goal
 
-pub returns-in-Refused : goal.returns-in-Refused
-returns-in-Refused c =
-    let p = constructed-refused _ _ c.new-made.ensures c.in-Refused.is in
+pub returns-in-Err : goal.returns-in-Err
+returns-in-Err c =
+    let p = constructed-refused _ _ c.new-made.ensures c.in-Err.is in
     (lent-refused (not c.args.short) p.0 p.1).1
 
-pub returns-in-Admitted : goal.returns-in-Admitted
-returns-in-Admitted c =
-    c.space.ensures ∙ ap told_by (sym (lent_space c.args.short (constructed_admitted _ _ c.new-made.ensures c.in-Admitted.is).admitted))
+pub returns-in-Ok : goal.returns-in-Ok
+returns-in-Ok c =
+    c.space.ensures ∙ ap told_by (sym (lent_space c.args.short (constructed_admitted _ _ c.new-made.ensures c.in-Ok.is).admitted))

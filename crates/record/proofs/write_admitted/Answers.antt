@@ -29,14 +29,14 @@ build_record-requires c =
     let enough : let a = c.args in 3 * kept_edges (plan a.vertices a.ends.now a.excluded.now) ≤ length a.rows.now = omega (arith, c.if-rows-edges.false, c.requires.all) in
     let told : let a = c.args in handed c.lowest_cut-found.result ≡ lowest_handed limits (plan a.vertices a.ends.now a.excluded.now) = cut_own c.lowest_cut-found.result c.lowest_cut-found.ensures in
     let strong : let a = c.args in Sturdy limits (plan a.vertices a.ends.now a.excluded.now) (length a.rows.now) = let a = c.args in
-    sturdy (plan a.vertices a.ends.now a.excluded.now) a.rows.now c.requires.admitted enough c.lowest_cut-found.result told c.in-NoCut.is in
-    prepared c.lowest_cut-found.ensures c.in-NoCut.is strong c.requires.all
+    sturdy (plan a.vertices a.ends.now a.excluded.now) a.rows.now c.requires.admitted enough c.lowest_cut-found.result told c.in-Ok-None.is in
+    prepared c.lowest_cut-found.ensures c.in-Ok-None.is strong c.requires.all
 
 pub returns : goal.returns
 returns c =
     let enough : let a = c.args in 3 * kept_edges (plan a.vertices a.ends.now a.excluded.now) ≤ length a.rows.now = omega (arith, c.if-rows-edges.false, c.requires.all) in
     let told : let a = c.args in handed c.lowest_cut-found.result ≡ lowest_handed limits (plan a.vertices a.ends.now a.excluded.now) = cut_own c.lowest_cut-found.result c.lowest_cut-found.ensures in
     let strong : let a = c.args in Sturdy limits (plan a.vertices a.ends.now a.excluded.now) (length a.rows.now) = let a = c.args in
-    sturdy (plan a.vertices a.ends.now a.excluded.now) a.rows.now c.requires.admitted enough c.lowest_cut-found.result told c.in-NoCut.is in
-    answers_firm _ _ c.requires.admitted enough c.lowest_cut-found.result told c.in-NoCut.is
-    (c.build_record.ensures (prepared c.lowest_cut-found.ensures c.in-NoCut.is strong c.requires.all)) refl
+    sturdy (plan a.vertices a.ends.now a.excluded.now) a.rows.now c.requires.admitted enough c.lowest_cut-found.result told c.in-Ok-None.is in
+    answers_firm _ _ c.requires.admitted enough c.lowest_cut-found.result told c.in-Ok-None.is
+    (c.build_record.ensures (prepared c.lowest_cut-found.ensures c.in-Ok-None.is strong c.requires.all)) refl

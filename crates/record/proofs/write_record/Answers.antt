@@ -5,8 +5,8 @@ use Rattle.record.proofs.write_record.Goals as goal
 
 pub write_admitted-requires : goal.write_admitted-requires
 write_admitted-requires c =
-    let m = constructed_admitted _ _ c.new-made.ensures c.in-Admitted.is in
+    let m = constructed_admitted _ _ c.new-made.ensures c.in-Ok.is in
     record { admitted = m.admitted; all = m.kept_edges_lem }
 
-pub returns-in-Refused : goal.returns-in-Refused
-returns-in-Refused c = answers_refused _ _ (constructed-refused _ _ c.new-made.ensures c.in-Refused.is)
+pub returns-in-Err : goal.returns-in-Err
+returns-in-Err c = answers_refused _ _ (constructed-refused _ _ c.new-made.ensures c.in-Err.is)

@@ -10,15 +10,15 @@ without-found-requires c = ready limits
 
 pub pack-requires : goal.pack-requires
 pack-requires c =
-    let e = rw c.in-Seen.is at c.without-found.ensures in
+    let e = rw c.in-Ok.is at c.without-found.ensures in
     (e.admitted.vertices, omega (arith, e.admitted.vertices))
 
-pub returns-in-Refused : goal.returns-in-Refused
-returns-in-Refused c =
-    let e = rw c.in-Refused.is at c.without-found.ensures in
+pub returns-in-Err : goal.returns-in-Err
+returns-in-Err c =
+    let e = rw c.in-Err.is at c.without-found.ensures in
     removed_refused limits (plan _ _ _) _ e.0 e.1 c.none.ensures
 
-pub returns-in-Seen : goal.returns-in-Seen
-returns-in-Seen c =
-    let e = rw c.in-Seen.is at c.without-found.ensures in
+pub returns-in-Ok : goal.returns-in-Ok
+returns-in-Ok c =
+    let e = rw c.in-Ok.is at c.without-found.ensures in
     removed_served limits (plan _ _ _) _ e.admitted (packed-falls e c.pack.result c.pack.ensures)

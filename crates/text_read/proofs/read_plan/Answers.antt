@@ -1,4 +1,5 @@
 -- `read_plan` meets its contract: a refusal is told before anything is stored, and what is stored is the plan that the text lists.
+use Rattle.std.specs.Prelude.{Err}
 use mathlib.Core.Path.{◌≡◌, refl, sym, ap, ◌∙◌}
 use mathlib.Core.List.{List}
 use Prim.Native.Nat.{ℕ, ◌+◌, ◌*◌, ◌≤◌}
@@ -8,7 +9,7 @@ use Rattle.connectivity.specs.Plan.{limits}
 use Rattle.connectivity.specs.Admission.{answer}
 use Rattle.graph.specs.Admission.{handed, constructed}
 use Rattle.graph.specs.declared.Answer.{Answer}
-use Rattle.graph.specs.declared.Admission.{Admission}
+use Rattle.graph.specs.Admission.{Admission}
 use Rattle.text.specs.Column.{five, largest}
 use Rattle.text.specs.Plan.{PlanReading, header_second, header_third, edge_lines, excluded_lines, spelled, read_answer}
 use Rattle.text.proofs.Reading.{length-lines-numbers, no_header, Met, met, read-refused, read-listed}
@@ -44,7 +45,7 @@ returns-then-number-ne0 c =
     let a = read_answer five largest limits txt (length lent) in
     reads_plan (PlanReading.refused a)
     (read-refused five largest limits txt (length lent) a refl (λ z. c.if-number-ne0.true (number e ∙ z)))
-    (ap (λ (x : Answer). handed (Admission.Refused x)) e) refl
+    (ap (λ (x : Answer). handed (Err x)) e) refl
 
 pub store-requires : goal.store-requires
 store-requires c =

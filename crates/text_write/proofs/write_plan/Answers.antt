@@ -1,11 +1,12 @@
 -- `write_plan` meets its contract: what the constructor refuses, and what it admits.
+use Rattle.std.specs.Prelude.{Err}
 use mathlib.Core.Path.{refl, ap}
 use lib.ListN.{length}
 use Rattle.connectivity.specs.Plan.{plan, limits}
 use Rattle.connectivity.specs.Admission.{admission}
 use Rattle.graph.specs.declared.Answer.{Answer}
 use Rattle.graph.proofs.Lent.{constructed-refused, constructed_admitted}
-use Rattle.text_write.specs.declared.Written.{Written}
+use Rattle.text_write.specs.Entry.{Written}
 use Rattle.text_write.specs.Entry.{handed}
 use Rattle.text.specs.Column.{five}
 use Rattle.text.specs.Plan.{Writing}
@@ -16,11 +17,11 @@ use Rattle.text_write.proofs.write_plan.Goals as goal
 pub write_admitted-requires : goal.write_admitted-requires
 write_admitted-requires c =
     let a = c.args in
-    (constructed_admitted limits (plan a.vertices a.ends.now a.excluded.now) c.new-admission.ensures c.in-Admitted.is).admitted
+    (constructed_admitted limits (plan a.vertices a.ends.now a.excluded.now) c.new-admission.ensures c.in-Ok.is).admitted
 
-pub returns-in-Refused : goal.returns-in-Refused
-returns-in-Refused c =
+pub returns-in-Err : goal.returns-in-Err
+returns-in-Err c =
     let a = c.args in
     let q = plan a.vertices a.ends.now a.excluded.now in
-    let p = constructed-refused limits q c.new-admission.ensures c.in-Refused.is in
-    writes_plan (Writing.refused (admission limits q)) (plan-refused five limits q (length a.text.now) p.0) (ap (λ (x : Answer). handed (Written.Refused x)) p.1) refl
+    let p = constructed-refused limits q c.new-admission.ensures c.in-Err.is in
+    writes_plan (Writing.refused (admission limits q)) (plan-refused five limits q (length a.text.now) p.0) (ap (λ (x : Answer). handed (Err x)) p.1) refl

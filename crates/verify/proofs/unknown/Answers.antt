@@ -6,12 +6,12 @@ use Rattle.graph.specs.Admission.{told_by}
 use Rattle.graph.proofs.Lent.{constructed-refused, constructed_admitted}
 use Rattle.verify.proofs.unknown.Goals as goal
 
-pub returns-in-Refused : goal.returns-in-Refused
-returns-in-Refused c =
-    let p = constructed-refused _ _ c.new-made.ensures c.in-Refused.is in
+pub returns-in-Err : goal.returns-in-Err
+returns-in-Err c =
+    let p = constructed-refused _ _ c.new-made.ensures c.in-Err.is in
     p.1 ∙ sym (ap told_by (failed_then _ _ (λ z. p.0 ((admission_number _ (plan _ _ _)).0 z))))
 
-pub returns-in-Admitted : goal.returns-in-Admitted
-returns-in-Admitted c =
-    let p = constructed_admitted _ _ c.new-made.ensures c.in-Admitted.is in
+pub returns-in-Ok : goal.returns-in-Ok
+returns-in-Ok c =
+    let p = constructed_admitted _ _ c.new-made.ensures c.in-Ok.is in
     sym (ap told_by (passed_then _ _ ((admission_number _ (plan _ _ _)).1 p.admitted)))

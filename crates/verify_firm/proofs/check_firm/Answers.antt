@@ -9,15 +9,15 @@ use Rattle.verify_firm.proofs.check_firm.Goals as goal
 
 pub firm_admitted-requires : goal.firm_admitted-requires
 firm_admitted-requires c =
-    let p = constructed_admitted _ _ c.new-made.ensures c.in-Admitted.is in
+    let p = constructed_admitted _ _ c.new-made.ensures c.in-Ok.is in
     own_counts p
 
-pub returns-in-Refused : goal.returns-in-Refused
-returns-in-Refused c =
-    let p = constructed-refused _ _ c.new-made.ensures c.in-Refused.is in
+pub returns-in-Err : goal.returns-in-Err
+returns-in-Err c =
+    let p = constructed-refused _ _ c.new-made.ensures c.in-Err.is in
     p.1 ∙ sym (ap told_by (judge-refused limits (plan _ _ _) _ _ p.0))
 
-pub returns-in-Admitted : goal.returns-in-Admitted
-returns-in-Admitted c =
-    let p = constructed_admitted _ _ c.new-made.ensures c.in-Admitted.is in
+pub returns-in-Ok : goal.returns-in-Ok
+returns-in-Ok c =
+    let p = constructed_admitted _ _ c.new-made.ensures c.in-Ok.is in
     c.firm_admitted.ensures ∙ rw p.vertices (sym (ap told_by (judge_firm_lem p.admitted _)))

@@ -18,17 +18,17 @@ room = omega (arith, length-replicate {A = ℕ} (2 * limits.edges + limits.verti
 
 pub check_read-requires : goal.check_read-requires
 check_read-requires c =
-    let stored : let table = c.read_plan-read.new.table in let graph = c.in-Admitted.graph in Holds graph table × (plan_in five largest limits c.args.plan.now ≡ PlanReading.read (plan_of graph table)) = plan_stored five largest limits _ _ _ _ c.read_plan-read.ensures room _ c.in-Admitted.is in
+    let stored : let table = c.read_plan-read.new.table in let graph = c.in-Ok.graph in Holds graph table × (plan_in five largest limits c.args.plan.now ≡ PlanReading.read (plan_of graph table)) = plan_stored five largest limits _ _ _ _ c.read_plan-read.ensures room _ c.in-Ok.is in
     stored.0
 
-pub returns-in-Refused : goal.returns-in-Refused
+pub returns-in-Err : goal.returns-in-Err
 unfolding judge_texts
-returns-in-Refused c =
-    plan-refused five largest limits _ _ _ _ c.read_plan-read.ensures room _ _ c.in-Refused.is
+returns-in-Err c =
+    plan-refused five largest limits _ _ _ _ c.read_plan-read.ensures room _ _ c.in-Err.is
 
-pub returns-in-Admitted : goal.returns-in-Admitted
+pub returns-in-Ok : goal.returns-in-Ok
 unfolding judge_texts
-returns-in-Admitted c =
-    let stored : let table = c.read_plan-read.new.table in let graph = c.in-Admitted.graph in Holds graph table × (plan_in five largest limits c.args.plan.now ≡ PlanReading.read (plan_of graph table)) = plan_stored five largest limits _ _ _ _ c.read_plan-read.ensures room _ c.in-Admitted.is in
+returns-in-Ok c =
+    let stored : let table = c.read_plan-read.new.table in let graph = c.in-Ok.graph in Holds graph table × (plan_in five largest limits c.args.plan.now ≡ PlanReading.read (plan_of graph table)) = plan_stored five largest limits _ _ _ _ c.read_plan-read.ensures room _ c.in-Ok.is in
     let verdict = verdict_in five largest limits c.args.verdict.now in
     c.check_read.ensures ∙ sym (ap (λ (x : PlanReading). told_by (judge_read limits x verdict)) stored.1)

@@ -8,14 +8,14 @@ use Rattle.verify_weak.proofs.Weak.{judge_weak_lem}
 use Rattle.verify_weak.proofs.check_weak.Goals as goal
 
 pub weak_admitted-requires : goal.weak_admitted-requires
-weak_admitted-requires c = (constructed_admitted _ _ c.new-made.ensures c.in-Admitted.is).admitted
+weak_admitted-requires c = (constructed_admitted _ _ c.new-made.ensures c.in-Ok.is).admitted
 
-pub returns-in-Refused : goal.returns-in-Refused
-returns-in-Refused c =
-    let p = constructed-refused _ _ c.new-made.ensures c.in-Refused.is in
+pub returns-in-Err : goal.returns-in-Err
+returns-in-Err c =
+    let p = constructed-refused _ _ c.new-made.ensures c.in-Err.is in
     p.1 ∙ sym (ap told_by (judge-refused limits (plan _ _ _) _ _ p.0))
 
-pub returns-in-Admitted : goal.returns-in-Admitted
-returns-in-Admitted c =
-    let p = constructed_admitted _ _ c.new-made.ensures c.in-Admitted.is in
+pub returns-in-Ok : goal.returns-in-Ok
+returns-in-Ok c =
+    let p = constructed_admitted _ _ c.new-made.ensures c.in-Ok.is in
     c.weak_admitted.ensures ∙ sym (ap told_by (judge_weak_lem limits _ _ p.admitted))

@@ -1,10 +1,10 @@
 -- `Graph::new` meets its contract: each way out cites the law for its tests.
+use Rattle.std.specs.Prelude.{Err, Ok}
 use mathlib.Core.Path.{sym, ap, ◌∙◌}
 use native.Mathlib.Omega.{arith}
 use Rattle.connectivity.specs.Plan.{limits}
 use Rattle.connectivity.proofs.Admission.{told_zero, ends_told}
 use Rattle.graph.specs.declared.Answer.{Answer}
-use Rattle.graph.specs.declared.Admission.TheVariants.{Refused}
 use Rattle.graph.specs.Admission.{handed}
 use Rattle.graph.proofs.Laws.{odd, too_few, too_many, too_long, misfit}
 use Rattle.graph.proofs.Graph.new.Goals as goal
@@ -25,7 +25,7 @@ pub returns-then-first-ne0 : goal.returns-then-first-ne0
 returns-then-first-ne0 c =
     let e = c.judge_ends-fit.ensures in
     let same = ap (λ (a : Answer). a.number) e in
-    ap (λ (a : Answer). handed (Refused a)) e ∙ sym (misfit limits _ (omega arith) (omega arith) (omega arith) (omega arith) (omega arith))
+    ap (λ (a : Answer). handed (Err a)) e ∙ sym (misfit limits _ (omega arith) (omega arith) (omega arith) (omega arith) (omega arith))
 
 pub admit-requires : goal.admit-requires
 admit-requires c =

@@ -16,4 +16,4 @@ returns-in_default c =
 pub returns : goal.returns
 returns c =
     let a = c.args in
-    searched_kept (plan a.vertices a.ends.now a.excluded.now) (masks_masking c.requires.0.masks) (searched _ _ _ _ _ _ _ _ _ _ _ _ _ (rw c.in-Seen.is at c.explore-found.ensures))
+    searched_kept (plan a.vertices a.ends.now a.excluded.now) (masks_masking c.requires.0.masks) (searched _ _ _ _ _ _ _ _ _ _ _ _ _ (rw c.in-Ok.is at c.explore-found.ensures))
