@@ -113,16 +113,7 @@ fn is_short(n: usize, ends: usize, incident: usize, dead: usize, places: usize) 
 fn least(a: usize, b: usize, c: usize, d: usize) -> usize
     ensures { Least a b c d result }
 {
-    lower(lower(a, b), lower(c, d))
-}
-
-fn lower(a: usize, b: usize) -> usize
-    ensures { (result ≤ a) × (result ≤ b) × ((k : ℕ) → k ≤ a → k ≤ b → k ≤ result) }
-{
-    if b < a {
-        return b;
-    }
-    a
+    a.min(b).min(c).min(d)
 }
 
 // Whether the search can begin: there is room for the root, and it is a vertex that has no mark.
@@ -258,12 +249,10 @@ fn seek(
     requires { SeekStart (entire vertices ends.now) incident.now dead.now first.now v to }
     ensures { Sought (entire vertices ends.now) incident.now dead.now first.now v from to result }
 {
-    let mut i = from;
-    while i < to {
+    for i in from..to {
         if leads_on(vertices, ends, dead, first, v, incident[i]) {
             return i;
         }
-        i += 1;
     }
     to
 }
@@ -355,11 +344,9 @@ fn ascend(vertices: u16, ends: &[u16], dead: &[u8], s: State, first: &[u16]) -> 
 pub fn undo(order: &[u16], from: u16, to: u16, first: &mut [u16])
     ensures { Undone order.now from to first.old first.new }
 {
-    let last = lower(to as usize, order.len());
-    let mut i = from as usize;
-    while i < last {
+    let last = order.len().min(to as usize);
+    for i in from as usize..last {
         unmark(order[i], first);
-        i += 1;
     }
 }
 
