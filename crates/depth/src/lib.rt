@@ -1,7 +1,7 @@
 // A depth-first search over the tables of edges by vertex: it costs what it visits, and asks nothing of the tables.
 #![tactic(auto)]
 
-ghost use Rattle.std.specs.Prelude.{◌≡◌, not, ℕ, ◌+◌, ◌/◌, ◌<◌, ◌≤◌, length, set};
+ghost use Rattle.std.specs.Prelude.{◌≡◌, not, ◌/◌, ◌<◌, ◌≤◌, length, set};
 ghost use Rattle.connectivity.specs.Plan.{entire, limits};
 ghost use Rattle.graph.specs.Tells.{Tells};
 ghost use Rattle.depth.specs.Depth.{Crossing, Found, Fresh, counted, enough, refused, Answered, Undone};

@@ -4,15 +4,6 @@ use native.Mathlib.Omega.{arith}
 use borrow.Author.Count.{below_more}
 use Rattle.depth.proofs.seek.Goals as goal
 
-pub loop-i-init : goal.loop-i-init
-loop-i-init c = λ k a b. absurd (omega arith)
-
-pub bounds-incident-i : goal.bounds-incident-i
-bounds-incident-i c = omega (arith, c.requires.inside)
-
-pub leads_on-requires : goal.leads_on-requires
-leads_on-requires c = let p = c.requires in (p.vertex, p.dead_room, p.first_room)
-
 pub returns-then-leads_on : goal.returns-then-leads_on
 returns-then-leads_on c =
     let i = c.loop-i.invariant in

@@ -16,9 +16,6 @@ loop-i-preserved c =
       rw c.unmark.ensures (undoing_step a.order.now a.from c.loop-i.i (omega arith) (omega arith) i.1),
     )
 
-pub shape_of-first : goal.shape_of-first
-shape_of-first c = c.loop-i.invariant.1.long
-
 pub returns : goal.returns
 returns c =
     let i = c.loop-i.invariant in

@@ -38,18 +38,6 @@ loop-k-preserved c =
       overs_next a.vertices a.ends.now a.first.now a.order.now c.loop-k.k w.0 (omega arith) a.number.now a.over.now c.loop-k.over _ w.2 c.lower_one.ensures.1,
     )
 
-pub shape_of-last : goal.shape_of-last
-shape_of-last c =
-    let last_long : length c.loop-k.last ≡ length c.args.last.now = let a = c.args in
-    ap length c.loop-k.invariant.1 ∙ lasts_long a.vertices a.ends.now a.first.now a.order.now a.last.now (a.vertices - c.loop-k.k) in
-    last_long
-
-pub shape_of-over : goal.shape_of-over
-shape_of-over c =
-    let over_long : length c.loop-k.over ≡ length c.args.over.now = let a = c.args in
-    ap length c.loop-k.invariant.2 ∙ overs_long a.vertices a.ends.now a.first.now a.order.now a.number.now a.over.now (a.vertices - c.loop-k.k) in
-    over_long
-
 pub returns : goal.returns
 returns c =
     let a = c.args in

@@ -7,9 +7,6 @@ use Rattle.numbers.proofs.Lengths.{owns_long}
 use Rattle.numbers.proofs.Steps.{owns_start, owns_next}
 use Rattle.numbers.proofs.below.own_all.Goals as goal
 
-pub overflow_cast-edges : goal.overflow_cast-edges
-overflow_cast-edges c = omega (arith, c.requires.admitted.edges)
-
 pub loop-e-init : goal.loop-e-init
 loop-e-init c = let a = c.args in owns_start a.vertices a.ends.now a.first.now a.number.now a.over.now
 
@@ -23,11 +20,6 @@ pub loop-e-preserved : goal.loop-e-preserved
 loop-e-preserved c =
     let a = c.args in
     owns_next a.vertices a.ends.now a.first.now a.number.now a.over.now c.loop-e.over _ c.loop-e.e c.loop-e.invariant c.own_one.ensures
-
-pub shape_of-over : goal.shape_of-over
-shape_of-over c =
-    let long : length c.loop-e.over ≡ length c.args.over.now = let a = c.args in ap length c.loop-e.invariant ∙ owns_long a.vertices a.ends.now a.first.now a.number.now a.over.now c.loop-e.e in
-    long
 
 pub returns : goal.returns
 returns c =
