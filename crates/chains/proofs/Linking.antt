@@ -15,10 +15,6 @@ use Rattle.chains.specs.Chains.{lowest_from, head_of, next_of, keys, enough, Cha
 use Rattle.chains.specs.Parts.{Linking, Linked}
 use Rattle.chains.proofs.Lowest.{lowest_none, lowest_yes, lowest_no}
 
--- a list of zeros, number by number
-pub all_zero : (l : List ℕ) (n : ℕ) → length l ≡ n → ((k : ℕ) → k < n → get_or l k 0 ≡ 0) → l ≡ replicate n 0
-all_zero l n p h = ext_get_or 0 l (replicate n 0) (p ∙ sym (length-replicate {A = ℕ} n 0)) (λ k b. let d : k < n = omega arith in h k d ∙ sym (get_or-replicate n k 0 0 d))
-
 module _ (m : ℕ) (labels : List ℕ) where
   pub linked_start : {next heads : List ℕ} → Linking m labels next heads → Linked m m (length heads) labels next next heads
   linked_start {next} {heads} l = record {

@@ -2,7 +2,7 @@
 // without a look at the others.
 #![tactic(auto)]
 
-ghost use Rattle.std.specs.Prelude.{◌≡◌, not, ◌<◌, ◌≤◌, length, replicate};
+ghost use Rattle.std.specs.Prelude.{◌≡◌, not, ◌<◌, ◌≤◌, length};
 ghost use Rattle.graph.specs.Tells.{Tells};
 ghost use Rattle.chains.specs.Chains.{key_of, Chained};
 ghost use Rattle.chains.specs.Parts.{Linked, Linking};
@@ -20,7 +20,7 @@ pub fn chain(edges: u16, labels: &[u64], next: &mut [u16], heads: &mut [u16]) ->
             place: 0,
         };
     }
-    clear(heads);
+    heads.fill(0); // every chain is empty
     link(edges, labels, next, heads);
     Answer {
         number: 0,
@@ -45,25 +45,12 @@ fn is_short(edges: u16, labels: usize, next: usize, heads: usize) -> bool
     false
 }
 
-// Every chain is empty.
-fn clear(heads: &mut [u16])
-    ensures { heads.new ≡ replicate (length heads.old) 0 }
-{
-    let mut i = 0;
-    while i < heads.len() {
-        heads[i] = 0;
-        i += 1;
-    }
-}
-
 // Puts each edge before those of its chain, from the last edge to the first.
 fn link(edges: u16, labels: &[u64], next: &mut [u16], heads: &mut [u16])
     requires { Linking edges labels.now next.old heads.old }
     ensures { Linked edges 0 (length heads.old) labels.now next.old next.new heads.new }
 {
-    let mut e = edges;
-    while 0 < e {
-        e -= 1;
+    for e in (0..edges).rev() {
         let at = e as usize;
         let i = key(labels[at], heads.len());
         next[at] = heads[i];

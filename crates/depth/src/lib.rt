@@ -1,7 +1,7 @@
 // A depth-first search over the tables of edges by vertex: it costs what it visits, and asks nothing of the tables.
 #![tactic(auto)]
 
-ghost use Rattle.std.specs.Prelude.{◌≡◌, not, ℕ, ◌+◌, ◌/◌, ◌<◌, ◌≤◌, length, set};
+ghost use Rattle.std.specs.Prelude.{◌≡◌, not, ◌/◌, ◌<◌, ◌≤◌, length, set};
 ghost use Rattle.connectivity.specs.Plan.{entire, limits};
 ghost use Rattle.graph.specs.Tells.{Tells};
 ghost use Rattle.depth.specs.Depth.{Crossing, Found, Fresh, counted, enough, refused, Answered, Undone};
@@ -106,16 +106,7 @@ fn is_short(n: usize, ends: usize, incident: usize, dead: usize, places: usize) 
 fn least(a: usize, b: usize, c: usize, d: usize) -> usize
     ensures { Least a b c d result }
 {
-    lower(lower(a, b), lower(c, d))
-}
-
-fn lower(a: usize, b: usize) -> usize
-    ensures { (result ≤ a) × (result ≤ b) × ((k : ℕ) → k ≤ a → k ≤ b → k ≤ result) }
-{
-    if b < a {
-        return b;
-    }
-    a
+    a.min(b).min(c).min(d)
 }
 
 // Whether the search can begin: there is room for the root, and it is a vertex that has no mark.
@@ -251,12 +242,10 @@ fn seek(
     requires { SeekStart (entire vertices ends.now) incident.now dead.now first.now v to }
     ensures { Sought (entire vertices ends.now) incident.now dead.now first.now v from to result }
 {
-    let mut i = from;
-    while i < to {
+    for i in from..to {
         if leads_on(vertices, ends, dead, first, v, incident[i]) {
             return i;
         }
-        i += 1;
     }
     to
 }
@@ -348,11 +337,9 @@ fn ascend(vertices: u16, ends: &[u16], dead: &[u8], s: State, first: &[u16]) -> 
 pub fn undo(order: &[u16], from: u16, to: u16, first: &mut [u16])
     ensures { Undone order.now from to first.old first.new }
 {
-    let last = lower(to as usize, order.len());
-    let mut i = from as usize;
-    while i < last {
+    let last = order.len().min(to as usize);
+    for i in from as usize..last {
         unmark(order[i], first);
-        i += 1;
     }
 }
 

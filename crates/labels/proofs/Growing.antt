@@ -83,9 +83,9 @@ module _ {p : Plan} {first₀ order₀ cursor₀ first order cursor : List ℕ} 
     cursor_kept = rw s.2.2 t.cursor_kept;
   }
 
-  -- as long as not all vertices stand in the order, there is a root to try
-  pub growing_more : v ≤ p.vertices → count < p.vertices → v < p.vertices
-  growing_more l h = elim (ℕ_discrete v p.vertices) [ yes q ↦ omega (arith, grown_full t.grown q) | no o ↦ omega (arith, o) ]
+  -- when every root has been tried, all vertices stand in the order
+  pub growing_all : v ≡ p.vertices → p.vertices ≤ count
+  growing_all q = omega (arith, grown_full t.grown q)
 
   -- all of them do
   pub growing_end : p.vertices ≤ count → p.vertices ≤ length cursor₀ → Spanned p first₀ order₀ cursor₀ first order cursor

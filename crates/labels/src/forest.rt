@@ -2,7 +2,6 @@
 ghost use Rattle.std.specs.Prelude.{◌≡◌, ℕ, ◌/◌, ◌≤◌, ◌<◌, length, get_or};
 ghost use Rattle.connectivity.specs.Plan.{plan, limits};
 ghost use Rattle.connectivity.specs.Admission.{Admitted};
-ghost use Rattle.incidence.specs.Parts.{Cleared};
 ghost use Rattle.depth.specs.Depth.{Searched};
 ghost use Rattle.depth.specs.Parts.{Rooms};
 ghost use Rattle.labels.specs.Answered.{Spanned};
@@ -45,7 +44,7 @@ fn prepare(
     ensures { Prepared limits (plan vertices ends.now excluded.now) incident.old begins.old dead.old first.old incident.new begins.new dead.new first.new }
 {
     incidence::fill(vertices, ends, incident, begins);
-    clear_edges(ends.len() / 2, dead);
+    dead[..ends.len() / 2].fill(0);
     graph::excluded::mask(ends, excluded, dead);
     incidence::clear(vertices as usize, first);
 }
@@ -66,12 +65,13 @@ fn search_all(
     ensures { Spanned (plan vertices ends.now excluded.now) first.old order.old cursor.old first.new order.new cursor.new }
 {
     let mut seen = 0;
-    let mut v = 0;
-    while seen < vertices {
+    for v in 0..vertices {
+        if vertices <= seen {
+            return;
+        }
         seen = search_from(
             vertices, ends, excluded, incident, begins, dead, v, seen, first, order, cursor,
         );
-        v += 1;
     }
 }
 
@@ -99,16 +99,4 @@ fn search_from(
         return seen;
     };
     count
-}
-
-// No edge has a mark.
-fn clear_edges(edges: usize, dead: &mut [u8])
-    requires { edges ≤ length dead.old }
-    ensures { Cleared edges dead.old dead.new }
-{
-    let mut e = 0;
-    while e < edges {
-        dead[e] = 0;
-        e += 1;
-    }
 }

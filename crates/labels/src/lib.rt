@@ -6,7 +6,6 @@ ghost use Rattle.std.specs.Prelude.{not, ◌/◌, ◌≤◌, length};
 ghost use Rattle.connectivity.specs.Plan.{plan, limits};
 ghost use Rattle.connectivity.specs.Admission.{Admitted};
 ghost use Rattle.graph.specs.Tells.{Tells};
-ghost use Rattle.incidence.specs.Parts.{Cleared};
 ghost use Rattle.labels.specs.Answered.{Labelled, tables, Answered};
 ghost use Rattle.labels.specs.Labels.{Ample, Room, Summed, Masks, Silent, OpenAt, Ready, Toggled, Named, Settled, Scattered, Settling};
 
@@ -152,22 +151,10 @@ fn distribute(
     requires { Admitted limits (plan vertices ends.now excluded.now) × Masks (plan vertices ends.now excluded.now) dead.now × Room vertices (length ends.now / 2) (length first.now) (length order.now) (length labels.old) (length sums.old) }
     ensures { Settling (plan vertices ends.now excluded.now) first.now order.now labels.old sums.old labels.new sums.new 0 }
 {
-    clear(ends.len() / 2, labels);
-    clear(vertices as usize, sums);
+    labels[..ends.len() / 2].fill(0);
+    sums[..vertices as usize].fill(0);
     scatter(vertices, ends, excluded, dead, labels, sums);
     settle(vertices, ends, excluded, dead, first, order, labels, sums);
-}
-
-// The first `count` numbers become 0.
-fn clear(count: usize, table: &mut [u64])
-    requires { count ≤ length table.old }
-    ensures { Cleared count table.old table.new }
-{
-    let mut k = 0;
-    while k < count {
-        table[k] = 0;
-        k += 1;
-    }
 }
 
 // Xors a number into the label of each edge that has no mark.
@@ -182,11 +169,8 @@ fn scatter(
     requires { Admitted limits (plan vertices ends.now excluded.now) × Masks (plan vertices ends.now excluded.now) dead.now × Summed (plan vertices ends.now excluded.now) labels.old sums.old }
     ensures { Scattered (plan vertices ends.now excluded.now) labels.old sums.old labels.new sums.new }
 {
-    let edges = ends.len() / 2;
-    let mut e = 0;
-    while e < edges {
+    for e in 0..ends.len() / 2 {
         toggle(ends, e, noise(dead[e], e), labels, sums);
-        e += 1;
     }
 }
 
@@ -205,9 +189,7 @@ fn settle(
     requires { Admitted limits (plan vertices ends.now excluded.now) × Masks (plan vertices ends.now excluded.now) dead.now × (vertices ≤ length first.now) × (vertices ≤ length order.now) × Summed (plan vertices ends.now excluded.now) labels.old sums.old }
     ensures { Settling (plan vertices ends.now excluded.now) first.now order.now labels.old sums.old labels.new sums.new 0 }
 {
-    let mut k = vertices as usize;
-    while 0 < k {
-        k -= 1;
+    for k in (0..vertices as usize).rev() {
         settle_one(
             vertices, ends, excluded, dead, order[k], first, labels, sums,
         );

@@ -12,10 +12,8 @@ pub(crate) fn own_all(vertices: u16, ends: &[u16], first: &[u16], number: &[u16]
     ensures { over.new ≡ owns_to vertices ends.now first.now number.now over.old (length ends.now / 2) }
 {
     let edges = (ends.len() / 2) as u16;
-    let mut e: u16 = 0;
-    while e < edges {
+    for e in 0..edges {
         own_one(vertices, ends, first, number, e, over);
-        e += 1;
     }
 }
 
@@ -59,9 +57,7 @@ pub(crate) fn lower_all(
     requires { Lowering limits (entire vertices ends.now) (length first.now) (length number.now) (length last.old) (length over.old) × (vertices ≤ length order.now) }
     ensures { (last.new ≡ lasts_down vertices ends.now first.now order.now last.old (vertices - 1)) × (over.new ≡ overs_down vertices ends.now first.now order.now number.now over.old (vertices - 1)) }
 {
-    let mut k = vertices;
-    while 1 < k {
-        k -= 1;
+    for k in (1..vertices).rev() {
         lower_one(vertices, ends, first, number, order[k as usize], last, over);
     }
 }

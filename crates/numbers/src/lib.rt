@@ -101,13 +101,11 @@ fn number_all(vertices: u16, order: &[u16], number: &mut [u16], last: &mut [u16]
     requires { (vertices ≤ length order.now) × (vertices ≤ length number.old) × (vertices ≤ length last.old) }
     ensures { (number.new ≡ numbers_to vertices order.now number.old vertices) × (last.new ≡ numbers_to vertices order.now last.old vertices) }
 {
-    let mut k: u16 = 0;
-    while k < vertices {
+    for k in 0..vertices {
         let v = order[k as usize];
         if v < vertices {
             number[v as usize] = k;
             last[v as usize] = k;
         }
-        k += 1;
     }
 }

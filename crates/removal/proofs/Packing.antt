@@ -1,14 +1,16 @@
 -- Marks packed into words: one vertex, one word, all of them, and how many are set.
 use mathlib.Core.Path.{◌≡◌, refl, sym, ap, ◌∙◌}
 use mathlib.Core.Bool.{Bool, true, false, cond}
-use mathlib.Core.List.{List, ◌∷◌}
+use mathlib.Core.List.{List, [], ◌∷◌}
 use Prim.Native.Nat.{ℕ, zero, suc, ◌+◌, ◌-◌, ◌*◌, ◌^◌, ◌≤◌, ◌<◌}
 use native.Mathlib.Omega.{arith}
 use borrow.Author.Tests.{lt-ltb, le-ltb, eq-eqb, ne_eqb}
-use lib.Count.{ones, ones-le}
+use lib.Count.{ones}
+use Rattle.std.proofs.Common.{sum, map}
+use Rattle.std.proofs.lemmas.Grind.{common_steps}
 use lib.ListN.{length, get_or, set, drop}
 use lib.Pow.{pow_mono}
-use lib.Seq.{drop-cons, drop-length, ext_get_or, get_or-set_same, get_or-set_other}
+use lib.Seq.{drop-cons, ext_get_or, get_or-set_same, get_or-set_other}
 use borrow.Author.Count.{below_more}
 use Rattle.connectivity.specs.Fallen.{per_word, marked, word_from, words_from}
 use Rattle.connectivity.proofs.Fallen.{word_bound, words_length, words_at, words_bound}
@@ -70,18 +72,15 @@ module _ (f : ℕ → Bool) where
   pub filled_room : {words : List ℕ} (k : ℕ) → words ≡ words_from f 0 k → (length words ≤ k) × ((i : ℕ) → get_or words i 0 < 2 ^ per_word)
   filled_room k q = rw q (omega (arith, words_length f 0 k), words_bound f 0 k)
 
--- How many are set.
+-- How many are set: the sum of each word's ones.
+
+pub marked_sum : (words : List ℕ) → marked words ≡ sum (map ones words)
+unfolding marked
+marked_sum [] = refl
+marked_sum (w ∷ rest) = grind (arith, common_steps, marked_sum rest)
 
 pub sum_next : (words : List ℕ) (i : ℕ) → i < length words → marked (drop i words) ≡ ones (get_or words i 0) + marked (drop (i + 1) words)
 unfolding marked
 sum_next words i l =
     let p : suc i ≡ i + 1 = omega arith in
     ap marked (drop-cons words i 0 l ∙ ap (λ (j : ℕ). get_or words i 0 ∷ drop j words) p)
-
-pub sum_over : (words : List ℕ) → marked (drop (length words) words) ≡ 0
-unfolding marked
-sum_over words = rw (drop-length words)
-
--- a word has sixty-four bits
-pub ones_few : {w : ℕ} → w < 2 ^ per_word → ones w ≤ per_word
-ones_few h = ones-le per_word _ h

@@ -139,10 +139,8 @@ fn fill(n: usize, first: &[u16], barred: &[u8], words: &mut [u64])
     requires { (n ≤ length first.now) × (n ≤ length barred.now) × (length words.old ≤ words_for limits) }
     ensures { words.new ≡ words_from (is_unseen n first.now barred.now) 0 (length words.old) }
 {
-    let mut i = 0;
-    while i < words.len() {
-        words[i] = word(n, first, barred, 64 * i);
-        i += 1;
+    for (i, slot) in words.iter_mut().enumerate() {
+        *slot = word(n, first, barred, 64 * i);
     }
 }
 
@@ -151,10 +149,8 @@ fn word(n: usize, first: &[u16], barred: &[u8], from: usize) -> u64
     requires { (n ≤ length first.now) × (n ≤ length barred.now) × (from ≤ per_word * words_for limits) }
     ensures { result ≡ word_from (is_unseen n first.now barred.now) from per_word }
 {
-    let mut word: u64 = 0;
-    let mut v = top(n, from);
-    while from < v {
-        v -= 1;
+    let mut word = 0;
+    for v in (from..top(n, from)).rev() {
         word = 2 * word + mark(n, first, barred, v);
     }
     word
@@ -194,11 +190,5 @@ fn total(words: &[u64]) -> u16
     requires { (length words.now ≤ words_for limits) × ((i : ℕ) → get_or words.now i 0 < 2 ^ per_word) }
     ensures { result ≡ marked words.now }
 {
-    let mut count: u16 = 0;
-    let mut i = 0;
-    while i < words.len() {
-        count += u64::count_ones(words[i]) as u16;
-        i += 1;
-    }
-    count
+    words.iter().map(|word| word.count_ones() as u16).sum()
 }

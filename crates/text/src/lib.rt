@@ -41,10 +41,8 @@ pub fn column(x: u16) -> [u8; WIDTH]
     ensures { result ≡ column five x }
 {
     let mut bytes = [0u8; WIDTH];
-    let mut i = 0;
-    while i < WIDTH {
-        bytes[i] = byte_at(WORTHS[i], x as u32);
-        i += 1;
+    for (i, &worth) in WORTHS.iter().enumerate() {
+        bytes[i] = byte_at(worth, x as u32);
     }
     bytes
 }

@@ -11,9 +11,9 @@ returns-then-is_short c = chained_short _ _ _ _ (rw c.if-is_short.true at c.is_s
 pub link-requires : goal.link-requires
 link-requires c =
     let room : let a = c.args in (a.edges ≤ length a.labels.now) × ((a.edges ≤ length a.next.now) × (0 < length a.heads.now)) = rw c.if-is_short.false at c.is_short.ensures in
-    link_ready _ _ _ c.args.heads.now (room) c.clear.ensures
+    link_ready _ _ _ c.args.heads.now (room) (c.fill.ensures.after (λ _ h. h))
 
 pub returns : goal.returns
 returns c =
     let room : let a = c.args in (a.edges ≤ length a.labels.now) × ((a.edges ≤ length a.next.now) × (0 < length a.heads.now)) = rw c.if-is_short.false at c.is_short.ensures in
-    chained_linked _ _ _ _ (room) (ap length c.clear.ensures ∙ length-replicate {A = ℕ} _ 0) c.link.ensures
+    chained_linked _ _ _ _ (room) (ap length (c.fill.ensures.after (λ _ h. h)) ∙ length-replicate {A = ℕ} _ 0) c.link.ensures

@@ -1,11 +1,7 @@
 -- `link` meets its contract. The loop's invariant: the edges from e on stand on their chains.
-use Prim.Native.Nat.{◌≤◌}
 use lib.ListN.{length}
 use Rattle.chains.specs.Parts.{Linked}
 use Rattle.chains.proofs.link.Given as goal
 
 abbrev pub invariant-loop-e : goal.invariant-loop-e
-invariant-loop-e l = (l.e ≤ l.edges) × Linked l.edges l.e (length l.initial.heads) l.labels l.initial.next l.next l.heads
-
-abbrev pub decreases-loop-e : goal.decreases-loop-e
-decreases-loop-e l = l.e
+invariant-loop-e l = Linked l.edges l.e (length l.initial.heads) l.labels l.initial.next l.next l.heads

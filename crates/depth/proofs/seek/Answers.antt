@@ -4,30 +4,21 @@ use native.Mathlib.Omega.{arith}
 use borrow.Author.Count.{below_more}
 use Rattle.depth.proofs.seek.Goals as goal
 
-pub loop-i-init : goal.loop-i-init
-loop-i-init c = (omega arith, λ k a b. absurd (omega arith))
-
-pub bounds-incident-i : goal.bounds-incident-i
-bounds-incident-i c = omega (arith, c.requires.inside)
-
-pub leads_on-requires : goal.leads_on-requires
-leads_on-requires c = let p = c.requires in (p.vertex, p.dead_room, p.first_room)
-
 pub returns-then-leads_on : goal.returns-then-leads_on
 returns-then-leads_on c =
     let i = c.loop-i.invariant in
     record {
-      passed = λ k a b. i.1 k b a;
-      found = λ l. (i.0, c.leads_on.ensures.yes c.if-leads_on.true);
+      passed = λ k a b. i k b a;
+      found = λ l. (omega arith, c.leads_on.ensures.yes c.if-leads_on.true);
       inside = λ h. absurd (omega (arith, c.loop-i-test.true));
     }
 
 pub loop-i-preserved : goal.loop-i-preserved
 loop-i-preserved c =
     let i = c.loop-i.invariant in
-    (omega (arith, i.0), below_more _ _ i.1 (λ h. c.leads_on.ensures.no c.if-leads_on.false))
+    below_more _ _ i (λ h. c.leads_on.ensures.no c.if-leads_on.false)
 
 pub returns : goal.returns
 returns c =
     let i = c.loop-i.invariant in
-    record { passed = λ k a b. i.1 k (omega (arith, c.loop-i-test.false)) a; found = λ l. absurd (omega arith); inside = λ h. refl }
+    record { passed = λ k a b. i k (omega (arith, c.loop-i-test.false)) a; found = λ l. absurd (omega arith); inside = λ h. refl }

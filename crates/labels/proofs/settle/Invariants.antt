@@ -5,6 +5,3 @@ use Rattle.labels.proofs.settle.Given as goal
 
 abbrev pub invariant-loop-k : goal.invariant-loop-k
 invariant-loop-k l = Settling (plan l.vertices l.ends l.excluded) l.first l.order l.initial.labels l.initial.sums l.labels l.sums l.k
-
-abbrev pub decreases-loop-k : goal.decreases-loop-k
-decreases-loop-k l = l.k

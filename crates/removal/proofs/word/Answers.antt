@@ -27,10 +27,6 @@ overflow_mul-word c =
     let room : c.loop-v.word < 2 ^ 63 = omega (arith, c.loop-v.invariant.3, word_room test c.loop-v.v end 63 (omega (arith, c.loop-v.invariant.1))) in
     omega (arith, room)
 
-pub mark-requires : goal.mark-requires
-mark-requires c =
-    (c.requires.0, c.requires.1, omega (arith, c.loop-v.invariant.2 c.loop-v-test.true, c.loop-v-test.true))
-
 pub overflow_add-word : goal.overflow_add-word
 overflow_add-word c =
     let end : ℕ = c.args.from + per_word in

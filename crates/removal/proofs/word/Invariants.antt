@@ -7,6 +7,3 @@ use Rattle.removal.proofs.word.Given as goal
 
 abbrev pub invariant-loop-v : goal.invariant-loop-v
 invariant-loop-v l = (l.from ≤ l.v) × (l.v ≤ l.from + per_word) × (l.from < l.v → l.v ≤ l.n) × (l.word ≡ word_from (is_unseen l.n l.first l.barred) l.v (l.from + per_word - l.v))
-
-abbrev pub decreases-loop-v : goal.decreases-loop-v
-decreases-loop-v l = l.v - l.from

@@ -1,6 +1,5 @@
 -- `count_fits` meets its contract, by its tests.
 use native.Mathlib.Omega.{arith}
-use borrow.Author.Rules.{rules}
 use borrow.Author.Tests.{eq-eqb, ne_eqb}
 use Rattle.text.specs.Verdict.{count_fits}
 use Rattle.text.proofs.count_fits.Goals as goal

@@ -1,6 +1,5 @@
 -- `numbers_needed` meets its contract, by its tests.
 use native.Mathlib.Omega.{arith}
-use borrow.Author.Rules.{rules}
 use borrow.Author.Tests.{eq-eqb, ne_eqb}
 use Rattle.text.specs.Verdict.{per_line, needed}
 use Rattle.text.proofs.numbers_needed.Goals as goal

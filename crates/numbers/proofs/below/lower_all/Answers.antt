@@ -12,7 +12,6 @@ pub loop-k-init : goal.loop-k-init
 loop-k-init c =
     let a = c.args in (
       omega (arith, c.requires.0.owning.admitted.two),
-      omega arith,
       lasts_start a.vertices a.ends.now a.first.now a.order.now a.last.now,
       overs_start a.vertices a.ends.now a.first.now a.order.now a.number.now a.over.now,
     )
@@ -20,9 +19,9 @@ loop-k-init c =
 pub lower_one-requires : goal.lower_one-requires
 lower_one-requires c =
     let last_long : length c.loop-k.last ≡ length c.args.last.now = let a = c.args in
-    ap length c.loop-k.invariant.2 ∙ lasts_long a.vertices a.ends.now a.first.now a.order.now a.last.now (a.vertices - c.loop-k.k) in
+    ap length c.loop-k.invariant.1 ∙ lasts_long a.vertices a.ends.now a.first.now a.order.now a.last.now (a.vertices - c.loop-k.k) in
     let over_long : length c.loop-k.over ≡ length c.args.over.now = let a = c.args in
-    ap length c.loop-k.invariant.3 ∙ overs_long a.vertices a.ends.now a.first.now a.order.now a.number.now a.over.now (a.vertices - c.loop-k.k) in
+    ap length c.loop-k.invariant.2 ∙ overs_long a.vertices a.ends.now a.first.now a.order.now a.number.now a.over.now (a.vertices - c.loop-k.k) in
     let pre = c.requires.0 in
     let o = pre.owning in
     record {
@@ -34,29 +33,16 @@ pub loop-k-preserved : goal.loop-k-preserved
 loop-k-preserved c =
     let a = c.args in
     let w = c.loop-k.invariant in (
-      omega (arith, c.loop-k-test.true),
-      omega (arith, w.1),
-      lasts_next a.vertices a.ends.now a.first.now a.order.now c.loop-k.k w.0 w.1 a.last.now c.loop-k.last _ w.2 c.lower_one.ensures.0,
-      overs_next a.vertices a.ends.now a.first.now a.order.now c.loop-k.k w.0 w.1 a.number.now a.over.now c.loop-k.over _ w.3 c.lower_one.ensures.1,
+      omega arith,
+      lasts_next a.vertices a.ends.now a.first.now a.order.now c.loop-k.k w.0 (omega arith) a.last.now c.loop-k.last _ w.1 c.lower_one.ensures.0,
+      overs_next a.vertices a.ends.now a.first.now a.order.now c.loop-k.k w.0 (omega arith) a.number.now a.over.now c.loop-k.over _ w.2 c.lower_one.ensures.1,
     )
-
-pub shape_of-last : goal.shape_of-last
-shape_of-last c =
-    let last_long : length c.loop-k.last ≡ length c.args.last.now = let a = c.args in
-    ap length c.loop-k.invariant.2 ∙ lasts_long a.vertices a.ends.now a.first.now a.order.now a.last.now (a.vertices - c.loop-k.k) in
-    last_long
-
-pub shape_of-over : goal.shape_of-over
-shape_of-over c =
-    let over_long : length c.loop-k.over ≡ length c.args.over.now = let a = c.args in
-    ap length c.loop-k.invariant.3 ∙ overs_long a.vertices a.ends.now a.first.now a.order.now a.number.now a.over.now (a.vertices - c.loop-k.k) in
-    over_long
 
 pub returns : goal.returns
 returns c =
     let a = c.args in
     let w = c.loop-k.invariant in
-    let end : a.vertices - c.loop-k.k ≡ a.vertices - 1 = omega (arith, w.0, c.loop-k-test.false) in (
-      w.2 ∙ ap (lasts_down a.vertices a.ends.now a.first.now a.order.now a.last.now) end,
-      w.3 ∙ ap (overs_down a.vertices a.ends.now a.first.now a.order.now a.number.now a.over.now) end,
+    let end : a.vertices - c.loop-k.k ≡ a.vertices - 1 = omega (arith, w.0) in (
+      w.1 ∙ ap (lasts_down a.vertices a.ends.now a.first.now a.order.now a.last.now) end,
+      w.2 ∙ ap (overs_down a.vertices a.ends.now a.first.now a.order.now a.number.now a.over.now) end,
     )

@@ -6,7 +6,4 @@ use Rattle.numbers.proofs.below.lower_all.Given as goal
 
 abbrev pub invariant-loop-k : goal.invariant-loop-k
 invariant-loop-k l =
-    (1 ≤ l.k) × (l.k ≤ l.vertices) × (l.last ≡ lasts_down l.vertices l.ends l.first l.order l.initial.last (l.vertices - l.k)) × (l.over ≡ overs_down l.vertices l.ends l.first l.order l.number l.initial.over (l.vertices - l.k))
-
-abbrev pub decreases-loop-k : goal.decreases-loop-k
-decreases-loop-k l = l.k
+    (1 ≤ l.k) × (l.last ≡ lasts_down l.vertices l.ends l.first l.order l.initial.last (l.vertices - l.k)) × (l.over ≡ overs_down l.vertices l.ends l.first l.order l.number l.initial.over (l.vertices - l.k))

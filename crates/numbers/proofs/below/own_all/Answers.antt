@@ -7,31 +7,21 @@ use Rattle.numbers.proofs.Lengths.{owns_long}
 use Rattle.numbers.proofs.Steps.{owns_start, owns_next}
 use Rattle.numbers.proofs.below.own_all.Goals as goal
 
-pub overflow_cast-edges : goal.overflow_cast-edges
-overflow_cast-edges c = omega (arith, c.requires.admitted.edges)
-
 pub loop-e-init : goal.loop-e-init
-loop-e-init c = let a = c.args in (omega arith, owns_start a.vertices a.ends.now a.first.now a.number.now a.over.now)
+loop-e-init c = let a = c.args in owns_start a.vertices a.ends.now a.first.now a.number.now a.over.now
 
 pub own_one-requires : goal.own_one-requires
 own_one-requires c =
-    let long : length c.loop-e.over ≡ length c.args.over.now = let a = c.args in ap length c.loop-e.invariant.1 ∙ owns_long a.vertices a.ends.now a.first.now a.number.now a.over.now c.loop-e.e in
+    let long : length c.loop-e.over ≡ length c.args.over.now = let a = c.args in ap length c.loop-e.invariant ∙ owns_long a.vertices a.ends.now a.first.now a.number.now a.over.now c.loop-e.e in
     let pre = c.requires in
-    (record { admitted = pre.admitted; marks = pre.marks; numbers = pre.numbers; edges = omega (arith, pre.edges, long) }, c.loop-e-test.true)
+    (record { admitted = pre.admitted; marks = pre.marks; numbers = pre.numbers; edges = omega (arith, pre.edges, long) }, omega arith)
 
 pub loop-e-preserved : goal.loop-e-preserved
 loop-e-preserved c =
-    let a = c.args in (
-      omega (arith, c.loop-e-test.true),
-      owns_next a.vertices a.ends.now a.first.now a.number.now a.over.now c.loop-e.over _ c.loop-e.e c.loop-e.invariant.1 c.own_one.ensures,
-    )
-
-pub shape_of-over : goal.shape_of-over
-shape_of-over c =
-    let long : length c.loop-e.over ≡ length c.args.over.now = let a = c.args in ap length c.loop-e.invariant.1 ∙ owns_long a.vertices a.ends.now a.first.now a.number.now a.over.now c.loop-e.e in
-    long
+    let a = c.args in
+    owns_next a.vertices a.ends.now a.first.now a.number.now a.over.now c.loop-e.over _ c.loop-e.e c.loop-e.invariant c.own_one.ensures
 
 pub returns : goal.returns
 returns c =
     let a = c.args in
-    c.loop-e.invariant.1 ∙ ap (owns_to a.vertices a.ends.now a.first.now a.number.now a.over.now) (omega (arith, c.loop-e.invariant.0, c.loop-e-test.false))
+    c.loop-e.invariant ∙ ap (owns_to a.vertices a.ends.now a.first.now a.number.now a.over.now) (omega arith)

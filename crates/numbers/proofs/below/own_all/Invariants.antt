@@ -1,11 +1,7 @@
 -- `own_all` meets its contract. The loop's invariant: the edges below e are done.
 use mathlib.Core.Path.{◌≡◌}
-use Prim.Native.Nat.{◌-◌, ◌≤◌}
 use Rattle.numbers.specs.Tables.{owns_to}
 use Rattle.numbers.proofs.below.own_all.Given as goal
 
 abbrev pub invariant-loop-e : goal.invariant-loop-e
-invariant-loop-e l = (l.e ≤ l.edges) × (l.over ≡ owns_to l.vertices l.ends l.first l.number l.initial.over l.e)
-
-abbrev pub decreases-loop-e : goal.decreases-loop-e
-decreases-loop-e l = l.edges - l.e
+invariant-loop-e l = l.over ≡ owns_to l.vertices l.ends l.first l.number l.initial.over l.e
