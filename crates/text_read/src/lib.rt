@@ -43,10 +43,7 @@ pub fn read_plan(text: &[u8], table: &mut [u16]) -> Admission
 fn refused_plan(number: u16) -> Admission
     ensures { result ≡ Admission.Refused (record { number = number; place = 0 }) }
 {
-    Admission::Refused(Answer {
-        number: number,
-        place: 0,
-    })
+    Admission::Refused(Answer { number, place: 0 })
 }
 
 // Reads a verdict text into `list`: 8 for the header, 6, then 8 for the lines.
@@ -73,23 +70,14 @@ pub fn read_verdict(text: &[u8], list: &mut [u16]) -> VerdictRead
     }
     if kind == 2 {
         list[0] = header.second;
-        return VerdictRead::Read {
-            kind: kind,
-            count: 1,
-        };
+        return VerdictRead::Read { kind, count: 1 };
     }
     line::store_lines(text, HEADER, columns, count, list, 0);
-    VerdictRead::Read {
-        kind: kind,
-        count: size,
-    }
+    VerdictRead::Read { kind, count: size }
 }
 
 fn refused_verdict(number: u16) -> VerdictRead
     ensures { result ≡ VerdictRead.Refused (record { number = number; place = 0 }) }
 {
-    VerdictRead::Refused(Answer {
-        number: number,
-        place: 0,
-    })
+    VerdictRead::Refused(Answer { number, place: 0 })
 }
