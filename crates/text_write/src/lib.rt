@@ -59,10 +59,7 @@ fn header_columns(excluded: usize) -> usize
 fn refused_writing(number: u16) -> Written
     ensures { result ≡ Written.Refused (record { number = number; place = 0 }) }
 {
-    Written::Refused(Answer {
-        number: number,
-        place: 0,
-    })
+    Written::Refused(Answer { number, place: 0 })
 }
 
 // Writes the text of a verdict: 8 where it has no text form, then 6.
