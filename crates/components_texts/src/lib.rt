@@ -73,10 +73,8 @@ fn pair_open(vertices: u16, marks: &[u8], table: &[u16], list: &mut [u16]) -> us
     ensures { Paired table.now (keep (is_open marks.now) (range 0 vertices)) list.old list.new result }
 {
     let mut at = 0;
-    let mut v = 0;
-    while v < vertices {
+    for v in 0..vertices {
         at = put(v, marks[v as usize], table[v as usize], list, at);
-        v += 1;
     }
     at
 }

@@ -42,10 +42,7 @@ pub(crate) fn judge(text: &[u8], header: Header, ends: usize, numbers: usize) ->
 pub(crate) fn number_alone(number: u16) -> Answer
     ensures { result ≡ told_by (answer number 0) }
 {
-    Answer {
-        number: number,
-        place: 0,
-    }
+    Answer { number, place: 0 }
 }
 
 // 20 unless a line in the form for each drawn tab follows the header, and nothing else; then the first drawn tab with 4 or 5; else 0. The length
@@ -65,20 +62,16 @@ fn judge_edges(text: &[u8], vertices: u16, edges: usize) -> Answer
     requires { (header_size form + edges * edge_size form ≡ length text.now) × (edges ≤ limits.edges) }
     ensures { result ≡ told_by (lines_answer form vertices 0 edges (drop (header_size form) text.now)) }
 {
-    let mut next = HEADER;
-    let mut e = 0;
-    while e < edges {
+    for e in 0..edges {
+        let next = HEADER + e * LINE;
         let edge = line::read_edge(text, next);
-        let fits = edge.fits;
-        if !fits {
+        if !edge.fits {
             return number_alone(20);
         }
-        next += LINE;
         let number = graph::judge_edge(vertices, edge.left, edge.right);
         if number != 0 {
-            return if_fits(lines_fit(text, next, edges - e - 1), number, e);
+            return if_fits(lines_fit(text, next + LINE, edges - e - 1), number, e);
         }
-        e += 1;
     }
     number_alone(0)
 }
@@ -90,7 +83,7 @@ fn if_fits(fits: bool, number: u16, place: usize) -> Answer
 {
     if fits {
         return Answer {
-            number: number,
+            number,
             place: place as u16,
         };
     }
@@ -102,16 +95,11 @@ fn lines_fit(text: &[u8], at: usize, edges: usize) -> bool
     requires { at + edges * edge_size form ≡ length text.now }
     ensures { result ≡ edges_fit form edges (drop at text.now) }
 {
-    let mut next = at;
-    let mut left = edges;
-    while 0 < left {
-        let edge = line::read_edge(text, next);
-        let fits = edge.fits;
-        if !fits {
+    for e in 0..edges {
+        let edge = line::read_edge(text, at + e * LINE);
+        if !edge.fits {
             return false;
         }
-        next += LINE;
-        left -= 1;
     }
     true
 }

@@ -24,10 +24,8 @@ fn thousandths(line: &[u8], at: usize) -> u32
     ensures { result ≡ value eight (take (length eight) (drop at line.now)) }
 {
     let mut sum = 0;
-    let mut i = 0;
-    while i < WIDTH {
-        sum += WORTHS[i] * digit_of(line[at + i]);
-        i += 1;
+    for (i, &worth) in WORTHS.iter().enumerate() {
+        sum += worth * digit_of(line[at + i]);
     }
     sum
 }
@@ -50,10 +48,8 @@ fn misfits(line: &[u8], at: usize, x: u32) -> u32
     ensures { result ≡ misfits thousand eight x (take (length eight) (drop at line.now)) }
 {
     let mut sum = 0;
-    let mut i = 0;
-    while i < WIDTH {
-        sum += misfit(WORTHS[i], x, line[at + i]);
-        i += 1;
+    for (i, &worth) in WORTHS.iter().enumerate() {
+        sum += misfit(worth, x, line[at + i]);
     }
     sum
 }

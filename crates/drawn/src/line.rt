@@ -93,7 +93,7 @@ fn header_columns(line: &[u8]) -> Header
         fits: true,
         vertices: vertices as u16,
         edges: edges as u16,
-        least: least,
+        least,
         kerf: times * kerf,
     }
 }
@@ -117,12 +117,10 @@ fn is_letter(line: &[u8], at: usize, letter: u8) -> bool
     requires { at + length five ≤ length line.now }
     ensures { result ≡ same (letter_column five letter) (take (length five) (drop at line.now)) }
 {
-    let mut i = 0;
-    while i < WIDTH {
-        if line[at + i] != byte_of(WORTHS[i], letter) {
+    for (i, &worth) in WORTHS.iter().enumerate() {
+        if line[at + i] != byte_of(worth, letter) {
             return false;
         }
-        i += 1;
     }
     true
 }
@@ -177,6 +175,6 @@ fn edge_columns(line: &[u8]) -> Edge
         fits: true,
         left: left as u16,
         right: right as u16,
-        gap: gap,
+        gap,
     }
 }

@@ -20,16 +20,12 @@ pub(crate) fn store(
     requires { (edges ≤ limits.edges) × (2 * edges ≤ length ends.old) × (edges ≤ length numbers.old) × (edges_fit form edges (drop (header_size form) text.now) ≡ true) }
     ensures { Stored least 0 0 (edges_in form edges (drop (header_size form) text.now)) ends.old numbers.old ends.new numbers.new result }
 {
-    let mut next = HEADER;
-    let mut e = 0;
     let mut count = 0;
-    while e < edges {
-        let edge = line::read_edge(text, next);
+    for e in 0..edges {
+        let edge = line::read_edge(text, HEADER + e * LINE);
         count = put(
             edge.left, edge.right, edge.gap, least, e, ends, numbers, count,
         );
-        next += LINE;
-        e += 1;
     }
     count
 }

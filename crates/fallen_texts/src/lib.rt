@@ -81,10 +81,8 @@ fn put_marked(vertices: u16, count: u16, words: &[u64], list: &mut [u16]) -> usi
 {
     list[0] = count;
     let mut at = 1;
-    let mut v = 0;
-    while v < vertices {
+    for v in 0..vertices {
         at = put(v, words, list, at);
-        v += 1;
     }
     at
 }

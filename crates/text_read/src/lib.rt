@@ -42,10 +42,7 @@ pub fn read_plan(text: &[u8], table: &mut [u16]) -> Result<Graph, Answer>
 fn refused_plan(number: u16) -> Result<Graph, Answer>
     ensures { result ≡ Err (record { number = number; place = 0 }) }
 {
-    Err(Answer {
-        number: number,
-        place: 0,
-    })
+    Err(Answer { number, place: 0 })
 }
 
 // Reads a verdict text into `list`: 8 for the header, 6, then 8 for the lines.
@@ -72,23 +69,14 @@ pub fn read_verdict(text: &[u8], list: &mut [u16]) -> Result<VerdictRead, Answer
     }
     if kind == 2 {
         list[0] = header.second;
-        return Ok(VerdictRead {
-            kind,
-            count: 1,
-        });
+        return Ok(VerdictRead { kind, count: 1 });
     }
     line::store_lines(text, HEADER, columns, count, list, 0);
-    Ok(VerdictRead {
-        kind,
-        count: size,
-    })
+    Ok(VerdictRead { kind, count: size })
 }
 
 fn refused_verdict(number: u16) -> Result<VerdictRead, Answer>
     ensures { result ≡ Err (record { number = number; place = 0 }) }
 {
-    Err(Answer {
-        number: number,
-        place: 0,
-    })
+    Err(Answer { number, place: 0 })
 }

@@ -94,16 +94,11 @@ pub(crate) fn lines_begin(text: &[u8], at: usize, columns: usize, count: usize) 
     ensures { result ≡ lines_begin five largest columns count (drop at text.now) }
 {
     let size = columns * WIDTH + 1;
-    let mut next = at;
-    let mut left = count;
-    while 0 < left {
-        let line = read_line(text, next, columns);
-        let fits = line.fits;
-        if !fits {
+    for k in 0..count {
+        let line = read_line(text, at + k * size, columns);
+        if !line.fits {
             return false;
         }
-        next += size;
-        left -= 1;
     }
     true
 }
@@ -131,10 +126,8 @@ fn store_columns(line: &[u8], columns: usize, list: &mut [u16], to: usize)
     requires { (columns ≤ 3) × (length line.now ≡ line_size five columns) × (to + columns ≤ length list.old) × (line_fits five largest columns line.now ≡ true) }
     ensures { list.new ≡ sets list.old to (numbers five columns line.now) }
 {
-    let mut k = 0;
-    while k < columns {
+    for k in 0..columns {
         list[to + k] = number(line, k * WIDTH) as u16;
-        k += 1;
     }
 }
 
@@ -151,13 +144,7 @@ pub(crate) fn store_lines(
     ensures { list.new ≡ sets list.old to (lines_numbers five columns count (drop at text.now)) }
 {
     let size = columns * WIDTH + 1;
-    let mut next = at;
-    let mut place = to;
-    let mut left = count;
-    while 0 < left {
-        store_line(text, next, columns, list, place);
-        next += size;
-        place += columns;
-        left -= 1;
+    for k in 0..count {
+        store_line(text, at + k * size, columns, list, to + k * columns);
     }
 }

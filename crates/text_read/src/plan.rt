@@ -86,10 +86,7 @@ pub(crate) fn judge(text: &[u8], header: Header, space: usize) -> Answer
 fn number_alone(number: u16) -> Answer
     ensures { result ≡ told_by (answer number 0) }
 {
-    Answer {
-        number: number,
-        place: 0,
-    }
+    Answer { number, place: 0 }
 }
 
 // 7 unless the text from `at` on is a line of two for each edge and a line of one for each excluded vertex, in the form, and nothing follows; then
@@ -129,20 +126,20 @@ fn judge_edges(text: &[u8], at: usize, vertices: u16, edges: usize) -> Answer
     requires { (edges ≤ limits.edges) × (at + edges * line_size five 2 ≤ length text.now) }
     ensures { result ≡ told_by (edge_lines_answer five largest vertices 0 edges (drop at text.now)) }
 {
-    let mut next = at;
-    let mut e = 0;
-    while e < edges {
+    for e in 0..edges {
+        let next = at + e * HEADER;
         let line = line::read_line(text, next, 2);
-        let fits = line.fits;
-        if !fits {
+        if !line.fits {
             return number_alone(7);
         }
-        next += HEADER;
         let number = graph::judge_edge(vertices, line.first, line.second);
         if number != 0 {
-            return if_fits(line::lines_begin(text, next, 2, edges - e - 1), number, e);
+            return if_fits(
+                line::lines_begin(text, next + HEADER, 2, edges - e - 1),
+                number,
+                e,
+            );
         }
-        e += 1;
     }
     number_alone(0)
 }
@@ -154,7 +151,7 @@ fn if_fits(fits: bool, number: u16, place: usize) -> Answer
 {
     if fits {
         return Answer {
-            number: number,
+            number,
             place: place as u16,
         };
     }
@@ -167,22 +164,22 @@ fn judge_excluded(text: &[u8], at: usize, vertices: u16, excluded: usize) -> Ans
     requires { (excluded ≤ vertices) × (at + excluded * line_size five 1 ≤ length text.now) }
     ensures { result ≡ told_by (excluded_lines_answer five largest vertices 0 0 excluded (drop at text.now)) }
 {
-    let mut next = at;
     let mut low: u16 = 0;
-    let mut k = 0;
-    while k < excluded {
+    for k in 0..excluded {
+        let next = at + k * SHORTEST;
         let line = line::read_line(text, next, 1);
-        let fits = line.fits;
-        if !fits {
+        if !line.fits {
             return number_alone(7);
         }
-        next += SHORTEST;
         let v = line.first;
         if !between(low, v, vertices) {
-            return if_fits(line::lines_begin(text, next, 1, excluded - k - 1), 18, k);
+            return if_fits(
+                line::lines_begin(text, next + SHORTEST, 1, excluded - k - 1),
+                18,
+                k,
+            );
         }
         low = v + 1;
-        k += 1;
     }
     number_alone(0)
 }

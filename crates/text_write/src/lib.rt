@@ -52,10 +52,7 @@ fn header_columns(excluded: usize) -> usize
 fn refused_writing(number: u16) -> Result<usize, Answer>
     ensures { result ≡ Err (record { number = number; place = 0 }) }
 {
-    Err(Answer {
-        number: number,
-        place: 0,
-    })
+    Err(Answer { number, place: 0 })
 }
 
 // Writes the text of a verdict: 8 where it has no text form, then 6.

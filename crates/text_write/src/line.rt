@@ -10,12 +10,7 @@ fn write_column(text: &mut [u8], at: usize, x: u16)
     requires { at + length five ≤ length text.old }
     ensures { text.new ≡ sets text.old at (column five x) }
 {
-    let bytes = text::column(x);
-    let mut i = 0;
-    while i < WIDTH {
-        text[at + i] = bytes[i];
-        i += 1;
-    }
+    text[at..at + WIDTH].copy_from_slice(&text::column(x));
 }
 
 // Writes a line of the `columns` numbers from `from` on.
@@ -23,10 +18,8 @@ fn write_line(list: &[u16], from: usize, columns: usize, text: &mut [u8], at: us
     requires { (columns ≤ 3) × (from + columns ≤ length list.now) × (at + line_size five columns ≤ length text.old) }
     ensures { text.new ≡ sets text.old at (line five (take columns (drop from list.now))) }
 {
-    let mut k = 0;
-    while k < columns {
+    for k in 0..columns {
         write_column(text, at + k * WIDTH, list[from + k]);
-        k += 1;
     }
     text[at + columns * WIDTH] = 10;
 }
@@ -36,14 +29,9 @@ pub(crate) fn write_lines(list: &[u16], columns: usize, count: usize, text: &mut
     requires { (columns ≤ 3) × (columns * count ≤ length list.now) × (at + count * line_size five columns ≤ length text.old) }
     ensures { text.new ≡ sets text.old at (lines five columns count list.now) }
 {
-    let mut next = at;
-    let mut from = 0;
-    let mut left = count;
-    while 0 < left {
-        write_line(list, from, columns, text, next);
-        next += columns * WIDTH + 1;
-        from += columns;
-        left -= 1;
+    let size = columns * WIDTH + 1;
+    for k in 0..count {
+        write_line(list, k * columns, columns, text, at + k * size);
     }
 }
 

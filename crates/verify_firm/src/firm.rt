@@ -34,8 +34,7 @@ fn judge_rows(counts: Graph, ends: &[u16], excluded: &[u16], list: &[u16]) -> An
     graph::excluded::mask(ends, excluded, &mut used);
     let edges = counts.kept_edges;
     let mut state = State::new();
-    let mut row: u16 = 0;
-    while row < edges {
+    for row in 0..edges {
         let last = is_last(list, row, edges);
         let taken = state.step(ends, &mut used, list, row, last);
         let found = taken.answer;
@@ -44,7 +43,6 @@ fn judge_rows(counts: Graph, ends: &[u16], excluded: &[u16], list: &[u16]) -> An
             return found;
         }
         state = taken.state;
-        row += 1;
     }
     let steps = state.steps;
     if closed(&state.degree, counts.vertices, counts.kept_vertices, steps) {
@@ -83,11 +81,8 @@ fn branches(degree: &[u16], vertices: u16) -> u16
     ensures { result ≡ rank (is_forked degree.now) vertices }
 {
     let mut count: u16 = 0;
-    let end = vertices as usize;
-    let mut v = 0;
-    while v < end {
-        count += one_if(3 <= degree[v]);
-        v += 1;
+    for &built in &degree[..vertices as usize] {
+        count += one_if(3 <= built);
     }
     count
 }

@@ -26,8 +26,5 @@ pub fn check_firm(vertices: u16, ends: &[u16], excluded: &[u16], list: &[u16]) -
 fn answer(number: u16, place: u16) -> Answer
     ensures { result ≡ record { number = number; place = place } }
 {
-    Answer {
-        number: number,
-        place: place,
-    }
+    Answer { number, place }
 }

@@ -100,11 +100,8 @@ fn rejected(state: State, number: u16, row: u16) -> Taken
     ensures { result ≡ record { state = state; answer = record { number = number; place = row } } }
 {
     Taken {
-        state: state,
-        answer: Answer {
-            number: number,
-            place: row,
-        },
+        state,
+        answer: Answer { number, place: row },
     }
 }
 
@@ -112,7 +109,7 @@ fn passed(state: State) -> Taken
     ensures { result ≡ record { state = state; answer = record { number = 0; place = 0 } } }
 {
     Taken {
-        state: state,
+        state,
         answer: Answer {
             number: 0,
             place: 0,
@@ -216,7 +213,7 @@ fn go_on(
     let mark = left[v as usize];
     left[v as usize] = row + 1;
     Run {
-        first: first,
+        first,
         start: run.start,
         at: to,
         fresh: stays_fresh(run, v, built, mark),
@@ -369,13 +366,11 @@ fn apart(degree: &[u16], list: &[u16], i: u16, j: u16) -> bool
     if list[3 * (i as usize)] != list[3 * (j as usize)] {
         return true;
     }
-    let mut k = i as usize;
-    while k <= j as usize {
+    for k in i as usize..=j as usize {
         let v = list[3 * k + 2];
         if 3 <= degree[v as usize] {
             return true;
         }
-        k += 1;
     }
     false
 }
@@ -391,10 +386,8 @@ fn add_rows(
     requires { RowsReady limits degree.old ends.now list.now first end }
     ensures { RowsAdded degree.old degree.new ends.now list.now first end }
 {
-    let mut k = first as usize;
-    while k < end as usize {
+    for k in first as usize..end as usize {
         add_edge(degree, ends, list[3 * k + 1]);
-        k += 1;
     }
 }
 

@@ -46,10 +46,7 @@ fn weak_admitted(vertices: u16, ends: &[u16], excluded: &[u16], list: &[u16]) ->
 fn answer(number: u16, place: u16) -> Answer
     ensures { result ≡ record { number = number; place = place } }
 {
-    Answer {
-        number: number,
-        place: place,
-    }
+    Answer { number, place }
 }
 
 // 11 at the first number that is no edge or not above the one before.
@@ -58,9 +55,7 @@ fn rises(ends: &[u16], excluded: &[u16], list: &[u16]) -> Answer
     ensures { InTurn ends.now excluded.now list.now result }
 {
     let mut low: u16 = 0;
-    let mut i = 0;
-    while i < list.len() {
-        let e = list[i];
+    for (i, &e) in list.iter().enumerate() {
         if is_missing(ends, excluded, e) {
             return answer(11, i as u16);
         }
@@ -68,7 +63,6 @@ fn rises(ends: &[u16], excluded: &[u16], list: &[u16]) -> Answer
             return answer(11, i as u16);
         }
         low = e + 1;
-        i += 1;
     }
     answer(0, 0)
 }

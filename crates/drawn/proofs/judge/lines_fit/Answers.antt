@@ -1,24 +1,30 @@
--- `lines_fit` meets its contract. The loop's invariant: the text is in the form exactly if it is from the next line on.
-use mathlib.Core.Path.{refl, sym, ◌∙◌}
+-- `lines_fit` meets its contract: a line that is not in the form ends it, and after the last one nothing follows.
+use mathlib.Core.Path.{◌≡◌, sym, ◌∙◌}
+use Prim.Native.Nat.{◌+◌, ◌*◌, ◌-◌}
 use native.Mathlib.Omega.{arith}
-use Rattle.drawn.specs.Text.{form}
+use Rattle.std.proofs.lemmas.Bool.{not-true, not-false}
+use Rattle.drawn.specs.Text.{form, edge_size}
 use Rattle.drawn.proofs.Edges.{fit_next, fit_over}
 use Rattle.drawn.proofs.judge.lines_fit.Goals as goal
 
-pub loop-left-init : goal.loop-left-init
-loop-left-init c = (omega arith, refl)
+pub returns-then-not-edge : goal.returns-then-not-edge
+returns-then-not-edge c =
+    let a = c.args in
+    let e = c.loop-e.e in
+    let f = sym c.read_edge-edge.ensures.fits ∙ not-true c.read_edge-edge.result.fits c.if-not-edge.true in
+    sym (c.loop-e.invariant ∙ fit_next form (a.at + e * edge_size form) (a.edges - e) a.text.now (omega arith) ∙ rw f)
 
-pub returns-then-not-fits : goal.returns-then-not-fits
-returns-then-not-fits c =
-    let l = c.loop-left in
-    sym (l.invariant.1 ∙ fit_next form l.next l.left c.args.text.now (omega arith) ∙ rw (sym c.read_edge-edge.ensures.fits ∙ c.if-not-fits.true))
-
-pub loop-left-preserved : goal.loop-left-preserved
-loop-left-preserved c =
-    let l = c.loop-left in
-    (omega arith, l.invariant.1 ∙ fit_next form l.next l.left c.args.text.now (omega arith) ∙ rw (sym c.read_edge-edge.ensures.fits ∙ c.if-not-fits.false))
+pub loop-e-preserved : goal.loop-e-preserved
+loop-e-preserved c =
+    let a = c.args in
+    let e = c.loop-e.e in
+    let f = sym c.read_edge-edge.ensures.fits ∙ not-false c.read_edge-edge.result.fits c.if-not-edge.false in
+    let left : a.edges - (e + 1) ≡ a.edges - e - 1 = omega arith in
+    let behind : a.at + (e + 1) * edge_size form ≡ a.at + e * edge_size form + edge_size form = omega arith in
+    rw (left, behind) (c.loop-e.invariant ∙ fit_next form (a.at + e * edge_size form) (a.edges - e) a.text.now (omega arith) ∙ rw f)
 
 pub returns : goal.returns
 returns c =
-    let l = c.loop-left in
-    sym (l.invariant.1 ∙ fit_over form l.next l.left c.args.text.now (omega arith) (omega arith))
+    let a = c.args in
+    let e = c.loop-e.e in
+    sym (c.loop-e.invariant ∙ fit_over form (a.at + e * edge_size form) (a.edges - e) a.text.now (omega arith) (omega arith))

@@ -8,7 +8,7 @@ use lib.ListN.{length, drop, length-drop}
 use lib.Seq.{sets}
 use Rattle.text.proofs.Laws.{and_true}
 use Rattle.drawn.specs.Drawing.{Drawn, all_ends, wide_ones, wide_numbers}
-use Rattle.drawn.specs.Text.{Form, form, edge_size, edge_fits, edge_in, edges_fit, edges_in}
+use Rattle.drawn.specs.Text.{Form, form, header_size, edge_size, edge_fits, edge_in, edges_fit, edges_in}
 use Rattle.drawn.specs.Line.{EdgeRead, drawn}
 use Rattle.drawn.specs.declared.line.Edge.{Edge}
 use Rattle.drawn.proofs.Edges.{fit_next, in_next, edges_long}
@@ -28,15 +28,10 @@ module _ (f : Form) (next left : ℕ) (text : List ℕ) (h : 0 < left) (p : edge
 
 pub read_edge-edge-requires : goal.read_edge-edge-requires
 read_edge-edge-requires c =
-    let l = c.loop-e in
     let a = c.args in
-    omega (arith, edges_long form (a.edges - l.e) (drop l.next a.text.now) l.invariant.fits, length-drop l.next a.text.now)
-
-pub overflow_add-next : goal.overflow_add-next
-overflow_add-next c =
-    let l = c.loop-e in
-    let a = c.args in
-    omega (arith, edges_long form (a.edges - l.e) (drop l.next a.text.now) l.invariant.fits, length-drop l.next a.text.now)
+    let e = c.loop-e.e in
+    let next = header_size form + e * edge_size form in
+    omega (arith, edges_long form (a.edges - e) (drop next a.text.now) c.loop-e.invariant.fits, length-drop next a.text.now)
 
 pub loop-e-preserved : goal.loop-e-preserved
 loop-e-preserved c =
@@ -44,19 +39,17 @@ loop-e-preserved c =
     let l = c.loop-e in
     let i = l.invariant in
     let left = a.edges - l.e in
-    let r = c.read_edge-edge.ensures in
-    let s = stored_next c.put-count.ensures (edges_in form (left - 1) (drop (l.next + edge_size form) a.text.now)) in
-    let p : a.edges - (l.e + 1) ≡ left - 1 = omega arith in
-    let q = listed form l.next left a.text.now (omega arith) i.fits r in
+    let next = header_size form + l.e * edge_size form in
+    let s = stored_next c.put-count.ensures (edges_in form (left - 1) (drop (next + edge_size form) a.text.now)) in
+    let fewer : a.edges - (l.e + 1) ≡ left - 1 = omega arith in
+    let behind : header_size form + (l.e + 1) * edge_size form ≡ next + edge_size form = omega arith in
+    let q = listed form next left a.text.now (omega arith) i.fits c.read_edge-edge.ensures in
     record {
-      inside = omega arith;
       few = omega (arith, s.most);
-      ends_long = omega arith;
-      numbers_long = omega arith;
-      fits = rw p (both form l.next left a.text.now (omega arith) i.fits).1;
-      many = rw p (s.many ∙ ap (λ (d : List Drawn). l.count + length (wide_numbers a.least l.e d)) (sym q) ∙ i.many);
-      ends_set = rw p (s.ends_set ∙ ap (λ (d : List Drawn). sets l.ends (2 * l.count) (all_ends (wide_ones a.least d))) (sym q) ∙ i.ends_set);
-      numbers_set = rw p (s.numbers_set ∙ ap (λ (d : List Drawn). sets l.numbers l.count (wide_numbers a.least l.e d)) (sym q) ∙ i.numbers_set);
+      fits = rw (fewer, behind) (both form next left a.text.now (omega arith) i.fits).1;
+      many = rw (fewer, behind) (s.many ∙ ap (λ (d : List Drawn). l.count + length (wide_numbers a.least l.e d)) (sym q) ∙ i.many);
+      ends_set = rw (fewer, behind) (s.ends_set ∙ ap (λ (d : List Drawn). sets l.ends (2 * l.count) (all_ends (wide_ones a.least d))) (sym q) ∙ i.ends_set);
+      numbers_set = rw (fewer, behind) (s.numbers_set ∙ ap (λ (d : List Drawn). sets l.numbers l.count (wide_numbers a.least l.e d)) (sym q) ∙ i.numbers_set);
     }
 
 pub returns : goal.returns
@@ -66,7 +59,7 @@ returns c =
     let l = c.loop-e in
     let i = l.invariant in
     let p : a.edges - l.e ≡ 0 = omega arith in
-    let none : edges_in form (a.edges - l.e) (drop l.next a.text.now) ≡ [] = rw p in
+    let none : edges_in form (a.edges - l.e) (drop (header_size form + l.e * edge_size form) a.text.now) ≡ [] = rw p in
     record {
       many = omega (arith, rw none at i.many);
       ends_set = rw none at i.ends_set;

@@ -1,40 +1,30 @@
--- `number` meets its contract. The loop's invariant: the value is the sum so far and what the columns from i on are worth.
+-- `number` meets its contract: one byte more is one more column's worth, and the whole is below ten to the width.
 use mathlib.Core.Path.{◌≡◌, ap}
 use mathlib.Core.List.{List}
-use Prim.Native.Nat.{ℕ, ◌+◌, ◌*◌, ◌^◌, ◌<◌}
+use Prim.Native.Nat.{ℕ, ◌+◌, ◌*◌, ◌^◌, ◌≤◌, ◌<◌}
 use native.Mathlib.Omega.{arith}
 use lib.ListN.{length, take, drop, get_or, drop_of_length-le}
-use Rattle.text.specs.Column.{worths, five, value}
+use Rattle.text.specs.Column.{worths, five, digit, value}
 use Rattle.text.proofs.Laws.{number_next, value_most}
 use Rattle.text_read.proofs.column.number.Goals as goal
 
-pub loop-i-init : goal.loop-i-init
-loop-i-init c = (omega arith, omega arith, omega arith)
+turn : (line : List ℕ) (at i sum d : ℕ) → i < length five → at + length five ≤ length line → d ≡ digit (get_or line (at + i) 0)
+    → let col = take (length five) (drop at line) in value five col ≡ sum + value (drop i five) (drop i col)
+    → (value five col ≡ sum + get_or five i 0 * d + value (drop (i + 1) five) (drop (i + 1) col)) × (sum + get_or five i 0 * d < 10 ^ length five)
+unfolding worths
+turn line at i sum d h k p q =
+    let n = number_next five line at i h k d p in
+    (omega (arith, n, q), omega (arith, n, q, value_most (length five) (take (length five) (drop at line))))
 
 pub overflow_mul-sum : goal.overflow_mul-sum
-unfolding worths
-overflow_mul-sum c =
-    let turn : let col = take (length five) (drop c.args.at c.args.line.now) in (value five col ≡ c.loop-i.sum + get_or five c.loop-i.i 0 * c.digit_of.result + value (drop (c.loop-i.i + 1) five) (drop (c.loop-i.i + 1) col)) × (value five col < 10 ^ length five) = let a = c.args in
-    let p = number_next five a.line.now a.at c.loop-i.i (omega arith) (omega arith) c.digit_of.result c.digit_of.ensures in
-    (omega arith, value_most (length five) (take (length five) (drop a.at a.line.now))) in
-    omega (arith, turn)
+overflow_mul-sum c = let l = c.loop-i in omega (arith, (turn c.args.line.now c.args.at l.i l.sum c.digit_of.result (omega arith) c.requires c.digit_of.ensures l.invariant).1)
 
 pub overflow_add-sum : goal.overflow_add-sum
-unfolding worths
-overflow_add-sum c =
-    let turn : let col = take (length five) (drop c.args.at c.args.line.now) in (value five col ≡ c.loop-i.sum + get_or five c.loop-i.i 0 * c.digit_of.result + value (drop (c.loop-i.i + 1) five) (drop (c.loop-i.i + 1) col)) × (value five col < 10 ^ length five) = let a = c.args in
-    let p = number_next five a.line.now a.at c.loop-i.i (omega arith) (omega arith) c.digit_of.result c.digit_of.ensures in
-    (omega arith, value_most (length five) (take (length five) (drop a.at a.line.now))) in
-    omega (arith, turn)
+overflow_add-sum c = let l = c.loop-i in omega (arith, (turn c.args.line.now c.args.at l.i l.sum c.digit_of.result (omega arith) c.requires c.digit_of.ensures l.invariant).1)
 
 pub loop-i-preserved : goal.loop-i-preserved
-unfolding worths
-loop-i-preserved c =
-    let turn : let col = take (length five) (drop c.args.at c.args.line.now) in (value five col ≡ c.loop-i.sum + get_or five c.loop-i.i 0 * c.digit_of.result + value (drop (c.loop-i.i + 1) five) (drop (c.loop-i.i + 1) col)) × (value five col < 10 ^ length five) = let a = c.args in
-    let p = number_next five a.line.now a.at c.loop-i.i (omega arith) (omega arith) c.digit_of.result c.digit_of.ensures in
-    (omega arith, value_most (length five) (take (length five) (drop a.at a.line.now))) in
-    (omega arith, omega arith, turn.0)
+loop-i-preserved c = let l = c.loop-i in (turn c.args.line.now c.args.at l.i l.sum c.digit_of.result (omega arith) c.requires c.digit_of.ensures l.invariant).0
 
 pub returns : goal.returns
 unfolding value
-returns c = let l = c.loop-i in omega (arith, l.invariant.2, ap (λ (ws : List ℕ). value ws (drop l.i (take (length five) (drop c.args.at c.args.line.now)))) (drop_of_length-le five {i = l.i} (omega arith)))
+returns c = let l = c.loop-i in omega (arith, l.invariant, ap (λ (ws : List ℕ). value ws (drop l.i (take (length five) (drop c.args.at c.args.line.now)))) (drop_of_length-le five {i = l.i} (omega arith)))

@@ -1,12 +1,10 @@
 -- `number` meets its contract. The loop's invariant: the value is the sum so far and what the columns from i on are worth.
 use mathlib.Core.Path.{◌≡◌}
-use Prim.Native.Nat.{◌+◌, ◌-◌, ◌≤◌}
+use Prim.Native.Nat.{◌+◌}
 use lib.ListN.{length, take, drop}
 use Rattle.text.specs.Column.{five, value}
 use Rattle.text_read.proofs.column.number.Given as goal
 
 abbrev pub invariant-loop-i : goal.invariant-loop-i
-invariant-loop-i l = (l.i ≤ length five) × (l.at + length five ≤ length l.line) × (value five (take (length five) (drop l.at l.line)) ≡ l.sum + value (drop l.i five) (drop l.i (take (length five) (drop l.at l.line))))
-
-abbrev pub decreases-loop-i : goal.decreases-loop-i
-decreases-loop-i l = length five - l.i
+invariant-loop-i l =
+    let col = take (length five) (drop l.at l.line) in value five col ≡ l.sum + value (drop l.i five) (drop l.i col)

@@ -1,38 +1,32 @@
--- `lines_begin` meets its contract. The loop's invariant: the text begins so exactly if it does from the next line on.
-use mathlib.Core.Path.{refl, sym, ◌∙◌}
-use Prim.Native.Nat.{◌+◌, ◌*◌, ◌-◌, ◌≤◌}
+-- `lines_begin` meets its contract: a line that is not in the form ends it, and after the last one nothing is left to be asked.
+use mathlib.Core.Path.{◌≡◌, sym, ◌∙◌}
+use Prim.Native.Nat.{◌+◌, ◌*◌, ◌-◌}
 use native.Mathlib.Omega.{arith}
-use lib.ListN.{length, drop}
+use lib.ListN.{drop}
 use Rattle.text.specs.Column.{five, largest, line_size}
-use Rattle.text.proofs.Laws.{lines_next, lines_last, less_one}
+use Rattle.text.proofs.Laws.{lines_next, lines_last}
+use Rattle.std.proofs.lemmas.Bool.{not-true, not-false}
 use Rattle.text_read.proofs.line.lines_begin.Goals as goal
 
-pub loop-left-init : goal.loop-left-init
-loop-left-init c = (omega arith, omega arith, omega arith, refl)
-
-pub read_line-line-requires : goal.read_line-line-requires
-read_line-line-requires c =
-    omega (arith, less_one (line_size five c.args.columns) c.loop-left.left (omega arith))
-
-pub returns-then-not-fits : goal.returns-then-not-fits
-returns-then-not-fits c =
+pub returns-then-not-line : goal.returns-then-not-line
+returns-then-not-line c =
     let a = c.args in
-    let q = sym c.read_line-line.ensures.fits ∙ c.if-not-fits.true in
-    sym (c.loop-left.invariant.3 ∙ lines_next five a.columns c.loop-left.left c.loop-left.next a.text.now (omega arith) largest ∙ rw q)
+    let k = c.loop-k.k in
+    let q = sym c.read_line-line.ensures.fits ∙ not-true c.read_line-line.result.fits c.if-not-line.true in
+    sym (c.loop-k.invariant ∙ lines_next five a.columns (a.count - k) (a.at + k * line_size five a.columns) a.text.now (omega arith) largest ∙ rw q)
 
-pub overflow_add-next : goal.overflow_add-next
-overflow_add-next c =
-    let room : let size = line_size five c.args.columns in c.loop-left.next + size + (c.loop-left.left - 1) * size ≤ length c.args.text.now = omega (arith, less_one (line_size five c.args.columns) c.loop-left.left (omega arith)) in
-    omega (arith, room)
-
-pub loop-left-preserved : goal.loop-left-preserved
-loop-left-preserved c =
-    let room : let size = line_size five c.args.columns in c.loop-left.next + size + (c.loop-left.left - 1) * size ≤ length c.args.text.now = omega (arith, less_one (line_size five c.args.columns) c.loop-left.left (omega arith)) in
+pub loop-k-preserved : goal.loop-k-preserved
+loop-k-preserved c =
     let a = c.args in
-    let q = sym c.read_line-line.ensures.fits ∙ c.if-not-fits.false in
-    (room, omega arith, omega arith, c.loop-left.invariant.3 ∙ lines_next five a.columns c.loop-left.left c.loop-left.next a.text.now (omega arith) largest ∙ rw q)
+    let k = c.loop-k.k in
+    let size = line_size five a.columns in
+    let q = sym c.read_line-line.ensures.fits ∙ not-false c.read_line-line.result.fits c.if-not-line.false in
+    let left : a.count - (k + 1) ≡ a.count - k - 1 = omega arith in
+    let next : a.at + (k + 1) * size ≡ a.at + k * size + size = omega arith in
+    rw (left, next) (c.loop-k.invariant ∙ lines_next five a.columns (a.count - k) (a.at + k * size) a.text.now (omega arith) largest ∙ rw q)
 
 pub returns : goal.returns
 returns c =
     let a = c.args in
-    sym (c.loop-left.invariant.3 ∙ lines_last five largest a.columns c.loop-left.left (drop c.loop-left.next a.text.now) (omega arith))
+    let k = c.loop-k.k in
+    sym (c.loop-k.invariant ∙ lines_last five largest a.columns (a.count - k) (drop (a.at + k * line_size five a.columns) a.text.now) (omega arith))

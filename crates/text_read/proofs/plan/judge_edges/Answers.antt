@@ -1,48 +1,46 @@
--- `judge_edges` meets its contract. The loop's invariant: the answer is the one from edge e on.
+-- `judge_edges` meets its contract: a line that is not in the form or an edge that does not fit ends it, and after the last line nothing is left.
 use mathlib.Core.Path.{◌≡◌, sym, ap, ◌∙◌}
-use mathlib.Core.Bool.{true}
-use Prim.Native.Nat.{◌+◌, ◌-◌}
+use Prim.Native.Nat.{◌+◌, ◌*◌, ◌-◌}
 use native.Mathlib.Omega.{arith}
 use lib.ListN.{drop}
 use Rattle.graph.specs.Admission.{told_by}
-use Rattle.text.specs.Column.{five, largest, line_fits}
+use Rattle.text.specs.Column.{five, largest, line_size}
 use Rattle.text_read.proofs.Edges.{edge_at, edge_none, edge_next, edge_stop, edges_over}
+use Rattle.std.proofs.lemmas.Bool.{not-true, not-false}
 use Rattle.text_read.proofs.plan.judge_edges.Goals as goal
 
-pub loop-e-init : goal.loop-e-init
-loop-e-init c = let a = c.args in let p : a.edges - 0 ≡ a.edges = omega arith in (omega arith, omega arith, omega arith, rw p)
-
-pub returns-then-not-fits : goal.returns-then-not-fits
-returns-then-not-fits c =
+pub returns-then-not-line : goal.returns-then-not-line
+returns-then-not-line c =
     let a = c.args in
-    let f = sym c.read_line-line.ensures.fits ∙ c.if-not-fits.true in
-    c.number_alone.ensures ∙ sym (ap told_by (c.loop-e.invariant.3 ∙ edge_none five largest a.vertices c.loop-e.e c.loop-e.next (a.edges - c.loop-e.e) a.text.now (omega arith) f))
+    let e = c.loop-e.e in
+    let f = sym c.read_line-line.ensures.fits ∙ not-true c.read_line-line.result.fits c.if-not-line.true in
+    c.number_alone.ensures ∙ sym (ap told_by (c.loop-e.invariant ∙ edge_none five largest a.vertices e (a.at + e * line_size five 2) (a.edges - e) a.text.now (omega arith) f))
 
 pub returns-then-number-ne0 : goal.returns-then-number-ne0
 returns-then-number-ne0 c =
-    let fits : line_fits five largest 2 (drop c.loop-e.next c.args.text.now) ≡ true = sym c.read_line-line.ensures.fits ∙ c.if-not-fits.false in
-    let judged : let a = c.args in c.judge_edge-number.result ≡ edge_at five a.vertices (drop c.loop-e.next a.text.now) = let r = c.read_line-line.ensures in
-    let e = c.if-not-fits.false in
-    c.judge_edge-number.ensures ∙ rw (r.first e, r.second e) in
     let a = c.args in
-    let q = edge_stop five largest a.vertices c.loop-e.e c.loop-e.next (a.edges - c.loop-e.e) a.text.now (omega arith) fits (λ z. c.if-number-ne0.true (judged ∙ z)) in
-    c.if_fits.ensures ∙ rw (c.lines_begin.ensures, judged) (sym (ap told_by (c.loop-e.invariant.3 ∙ q)))
+    let e = c.loop-e.e in
+    let next = a.at + e * line_size five 2 in
+    let r = c.read_line-line.ensures in
+    let f = not-false c.read_line-line.result.fits c.if-not-line.false in
+    let judged : c.judge_edge-number.result ≡ edge_at five a.vertices (drop next a.text.now) = c.judge_edge-number.ensures ∙ rw (r.first f, r.second f) in
+    let q = edge_stop five largest a.vertices e next (a.edges - e) a.text.now (omega arith) (sym r.fits ∙ f) (λ z. c.if-number-ne0.true (judged ∙ z)) in
+    c.if_fits.ensures ∙ rw (c.lines_begin.ensures, judged) (sym (ap told_by (c.loop-e.invariant ∙ q)))
 
 pub loop-e-preserved : goal.loop-e-preserved
 loop-e-preserved c =
-    let fits : line_fits five largest 2 (drop c.loop-e.next c.args.text.now) ≡ true = sym c.read_line-line.ensures.fits ∙ c.if-not-fits.false in
-    let judged : let a = c.args in c.judge_edge-number.result ≡ edge_at five a.vertices (drop c.loop-e.next a.text.now) = let r = c.read_line-line.ensures in
-    let e = c.if-not-fits.false in
-    c.judge_edge-number.ensures ∙ rw (r.first e, r.second e) in
     let a = c.args in
-    let p : a.edges - (c.loop-e.e + 1) ≡ a.edges - c.loop-e.e - 1 = omega arith in (
-      omega arith,
-      omega arith,
-      omega arith,
-      rw p (c.loop-e.invariant.3 ∙ edge_next five largest a.vertices c.loop-e.e c.loop-e.next (a.edges - c.loop-e.e) a.text.now (omega arith) fits (sym judged ∙ c.if-number-ne0.false)),
-    )
+    let e = c.loop-e.e in
+    let next = a.at + e * line_size five 2 in
+    let r = c.read_line-line.ensures in
+    let f = not-false c.read_line-line.result.fits c.if-not-line.false in
+    let judged : c.judge_edge-number.result ≡ edge_at five a.vertices (drop next a.text.now) = c.judge_edge-number.ensures ∙ rw (r.first f, r.second f) in
+    let left : a.edges - (e + 1) ≡ a.edges - e - 1 = omega arith in
+    let behind : a.at + (e + 1) * line_size five 2 ≡ next + line_size five 2 = omega arith in
+    rw (left, behind) (c.loop-e.invariant ∙ edge_next five largest a.vertices e next (a.edges - e) a.text.now (omega arith) (sym r.fits ∙ f) (sym judged ∙ c.if-number-ne0.false))
 
 pub returns : goal.returns
 returns c =
     let a = c.args in
-    c.number_alone-2.ensures ∙ sym (ap told_by (c.loop-e.invariant.3 ∙ edges_over five largest a.vertices c.loop-e.e (a.edges - c.loop-e.e) (drop c.loop-e.next a.text.now) (omega arith)))
+    let e = c.loop-e.e in
+    c.number_alone-2.ensures ∙ sym (ap told_by (c.loop-e.invariant ∙ edges_over five largest a.vertices e (a.edges - e) (drop (a.at + e * line_size five 2) a.text.now) (omega arith)))

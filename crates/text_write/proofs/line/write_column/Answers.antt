@@ -1,32 +1,20 @@
--- `write_column` meets its contract. The loop's invariant: what is left to be written, from i on, makes the whole.
-use mathlib.Core.Path.{◌≡◌, refl, ap, ◌∙◌}
-use Prim.Native.Nat.{suc, ◌+◌}
+-- `write_column` meets its contract: a part that is overwritten is the list with those bytes set.
+use mathlib.Core.Path.{◌≡◌, sym, ap, ◌∙◌}
+use Prim.Native.Nat.{ℕ, ◌+◌, ◌-◌}
 use native.Mathlib.Omega.{arith}
-use native.Mathlib.Numerals.{add-one}
-use lib.ListN.{length, length-set, drop_of_length-le}
-use lib.Seq.{drop-cons}
-use Rattle.text.specs.Column.{five}
+use lib.ListN.{length, take}
+use Rattle.std.proofs.Math.Seq.{take-length}
+use Rattle.std.proofs.lemmas.List.Edits.{sets-eq}
+use Rattle.std.proofs.lemmas.Slice.{put_mid-paste}
+use Rattle.text.specs.Column.{five, column}
 use Rattle.text.proofs.Laws.{length-column}
 use Rattle.text_write.proofs.line.write_column.Goals as goal
 
-pub loop-i-init : goal.loop-i-init
-loop-i-init c =
-    let a = c.args in
-    let e = c.column-bytes.ensures in
-    let p : a.at + 0 ≡ a.at = omega arith in
-    (omega arith, ap length e ∙ length-column five a.x, refl, c.requires, rw (p, e))
-
-pub loop-i-preserved : goal.loop-i-preserved
-loop-i-preserved c =
-    let a = c.args in
-    let i = c.loop-i.i in
-    let p : a.at + (i + 1) ≡ suc (a.at + i) = omega arith in (
-      omega arith,
-      c.loop-i.invariant.1,
-      simp length-set (omega arith),
-      simp length-set (omega arith),
-      rw (p, add-one i) (rw (drop-cons c.column-bytes.result i 0 (omega arith)) at c.loop-i.invariant.4),
-    )
-
 pub returns : goal.returns
-returns c = rw (drop_of_length-le c.column-bytes.result {i = c.loop-i.i} (omega arith)) at c.loop-i.invariant.4
+returns c =
+    let a = c.args in
+    let col = column five a.x in
+    let long : length col ≡ length five = length-column five a.x in
+    let whole : take (length five) col ≡ col = ap (λ (n : ℕ). take n col) (sym long) ∙ take-length col in
+    put_mid-paste a.at (a.at + length five - a.at) a.text.now c.copy_from_slice.new.self col (length five) (c.copy_from_slice.ensures.after ∙ c.column.ensures) (omega arith) (sym long)
+    ∙ rw whole (sym (rw long at (sets-eq col a.text.now a.at (omega (arith, long)))))

@@ -1,44 +1,27 @@
--- `write_lines` meets its contract. The loop's invariant: what is left to be written, from the next line on, makes the whole.
-use mathlib.Core.Path.{refl, sym, ◌∙◌}
+-- `write_lines` meets its contract: one line more is written, and after the last one nothing is left.
+use mathlib.Core.Path.{◌≡◌, sym, ◌∙◌}
 use Prim.Native.Nat.{◌+◌, ◌*◌, ◌-◌, ◌≤◌}
 use native.Mathlib.Omega.{arith}
-use lib.ListN.{length, drop}
+use native.Mathlib.Nat.{mul-le-mul_left}
+use lib.ListN.{drop}
 use Rattle.text.specs.Column.{five, line_size}
-use Rattle.text.proofs.Laws.{write_lines_next, write_lines_last, one_less, less_one}
+use Rattle.text.proofs.Laws.{write_lines_next, write_lines_last}
 use Rattle.text_write.proofs.line.write_lines.Goals as goal
 
-pub loop-left-init : goal.loop-left-init
-loop-left-init c = (refl, omega arith, omega arith, refl)
-
-pub write_line-requires : goal.write_line-requires
-write_line-requires c =
+pub loop-k-preserved : goal.loop-k-preserved
+loop-k-preserved c =
     let a = c.args in
-    omega (arith, one_less a.columns c.loop-left.left (omega arith), less_one (line_size five a.columns) c.loop-left.left (omega arith))
-
-pub overflow_add-next-in-loop-left : goal.overflow_add-next-in-loop-left
-overflow_add-next-in-loop-left c =
-    let turn : let a = c.args in (c.loop-left.from + a.columns + a.columns * (c.loop-left.left - 1) ≤ length a.list.now) × (c.loop-left.next + line_size five a.columns + (c.loop-left.left - 1) * line_size five a.columns ≤ length c.loop-left.text) = let a = c.args in
-    (omega (arith, one_less a.columns c.loop-left.left (omega arith)), omega (arith, less_one (line_size five a.columns) c.loop-left.left (omega arith))) in
-    omega (arith, turn)
-
-pub overflow_add-from : goal.overflow_add-from
-overflow_add-from c =
-    let turn : let a = c.args in (c.loop-left.from + a.columns + a.columns * (c.loop-left.left - 1) ≤ length a.list.now) × (c.loop-left.next + line_size five a.columns + (c.loop-left.left - 1) * line_size five a.columns ≤ length c.loop-left.text) = let a = c.args in
-    (omega (arith, one_less a.columns c.loop-left.left (omega arith)), omega (arith, less_one (line_size five a.columns) c.loop-left.left (omega arith))) in
-    omega (arith, turn)
-
-pub loop-left-preserved : goal.loop-left-preserved
-loop-left-preserved c =
-    let turn : let a = c.args in (c.loop-left.from + a.columns + a.columns * (c.loop-left.left - 1) ≤ length a.list.now) × (c.loop-left.next + line_size five a.columns + (c.loop-left.left - 1) * line_size five a.columns ≤ length c.loop-left.text) = let a = c.args in
-    (omega (arith, one_less a.columns c.loop-left.left (omega arith)), omega (arith, less_one (line_size five a.columns) c.loop-left.left (omega arith))) in
-    let a = c.args in
-    let w = c.write_line in
-    let t = turn in (
-      omega (arith, w.auto.text),
-      t.0,
-      omega (arith, t.1, w.auto.text),
-      rw w.ensures (sym (write_lines_next five c.loop-left.text a.list.now c.loop-left.next c.loop-left.from a.columns c.loop-left.left (omega arith) (omega (arith, t.0))) ∙ c.loop-left.invariant.3),
-    )
+    let l = c.loop-k in
+    let size = line_size five a.columns in
+    let some : l.k + 1 ≤ a.count = omega arith in
+    let left : a.count - (l.k + 1) ≡ a.count - l.k - 1 = omega arith in
+    let next : a.at + (l.k + 1) * size ≡ a.at + l.k * size + size = omega arith in
+    let from : (l.k + 1) * a.columns ≡ l.k * a.columns + a.columns = omega arith in
+    rw (left, next, from, c.write_line.ensures)
+    (sym (write_lines_next five l.text a.list.now (a.at + l.k * size) (l.k * a.columns) a.columns (a.count - l.k) (omega arith) (omega (arith, mul-le-mul_left a.columns some))) ∙ l.invariant)
 
 pub returns : goal.returns
-returns c = let a = c.args in rw (write_lines_last five a.columns c.loop-left.left (drop c.loop-left.from a.list.now) (omega arith)) at c.loop-left.invariant.3
+returns c =
+    let a = c.args in
+    let l = c.loop-k in
+    rw (write_lines_last five a.columns (a.count - l.k) (drop (l.k * a.columns) a.list.now) (omega arith)) at l.invariant

@@ -1,30 +1,42 @@
--- `branches` meets its contract. The loop's invariant: so many of the first v vertices are branches.
+-- `branches` meets its contract: one vertex more is one branch more or none.
 use mathlib.Core.Path.{◌≡◌, sym, ap, ◌∙◌}
-use Prim.Native.Nat.{◌+◌}
+use mathlib.Core.Bool.{cond}
+use mathlib.Core.List.{List}
+use Prim.Native.Nat.{ℕ, ◌+◌, ◌≤◌, ◌<◌}
 use native.Mathlib.Omega.{arith}
+use lib.Dec.{leb}
+use lib.ListN.{get_or, take}
+use lib.Seq.{get_or-take, length-take-le}
 use Rattle.graph.specs.Marks.{rank}
 use Rattle.graph.proofs.Rank.{rank-none, rank_next, rank_most}
 use Rattle.verify_firm.specs.Marks.{is_forked}
 use Rattle.verify_firm.proofs.firm.branches.Goals as goal
 
-pub loop-v-init : goal.loop-v-init
-loop-v-init c = (omega arith, sym (rank-none _))
+-- the next vertex, in the part of the table that is asked
+turn : (degree : List ℕ) (n v count one : ℕ) → v < n → count ≡ rank (is_forked degree) v → one ≡ cond (leb 3 (get_or (take n degree) v 0)) 1 0
+    → (count + one ≡ rank (is_forked degree) (v + 1)) × (count + one ≤ n)
+turn degree n v count one h p q =
+    let here : one ≡ cond (is_forked degree v) 1 0 = q ∙ ap (λ (x : ℕ). cond (leb 3 x) 1 0) (get_or-take n degree v 0 h) in
+    let more : count + one ≡ rank (is_forked degree) (v + 1) = omega (arith, p, here, rank_next (is_forked degree) v) in
+    (more, omega (arith, more, rank_most (is_forked degree) (v + 1)))
 
-pub bounds-degree-v : goal.bounds-degree-v
-bounds-degree-v c = omega (arith, c.requires)
+pub loop-built-init : goal.loop-built-init
+loop-built-init c = sym (rank-none _)
 
 pub overflow_add-count : goal.overflow_add-count
 overflow_add-count c =
-    let more : let l = c.loop-v in l.count + c.one_if-count.result ≡ rank (is_forked c.args.degree.now) (l.v + 1) = omega (arith, c.one_if-count.ensures, rank_next (is_forked c.args.degree.now) c.loop-v.v) in
-    omega (arith, more, rank_most (is_forked c.args.degree.now) (c.loop-v.v + 1), c.loop-v-test.true, c.ranges.vertices)
+    let a = c.args in
+    let l = c.loop-built in
+    omega (arith, (turn a.degree.now a.vertices l.built-index l.count c.one_if-count.result (omega (arith, length-take-le c.args.vertices c.args.degree.now c.requires)) l.invariant c.one_if-count.ensures).1, c.ranges.vertices)
 
-pub loop-v-preserved : goal.loop-v-preserved
-loop-v-preserved c =
-    let more : let l = c.loop-v in l.count + c.one_if-count.result ≡ rank (is_forked c.args.degree.now) (l.v + 1) = omega (arith, c.one_if-count.ensures, rank_next (is_forked c.args.degree.now) c.loop-v.v) in
-    (omega arith, more)
+pub loop-built-preserved : goal.loop-built-preserved
+loop-built-preserved c =
+    let a = c.args in
+    let l = c.loop-built in
+    (turn a.degree.now a.vertices l.built-index l.count c.one_if-count.result (omega (arith, length-take-le c.args.vertices c.args.degree.now c.requires)) l.invariant c.one_if-count.ensures).0
 
 pub returns : goal.returns
 returns c =
-    let l = c.loop-v in
-    let q : l.v ≡ c.args.vertices = omega arith in
-    l.invariant.1 ∙ ap (rank (is_forked c.args.degree.now)) q
+    let l = c.loop-built in
+    let q : l.built-index ≡ c.args.vertices = omega (arith, length-take-le c.args.vertices c.args.degree.now c.requires) in
+    l.invariant ∙ ap (rank (is_forked c.args.degree.now)) q

@@ -5,14 +5,13 @@ use native.Mathlib.Omega.{arith}
 use lib.ListN.{length, get_or}
 use borrow.Author.Count.{below_more}
 use Rattle.verify_firm.specs.Marks.{from_at}
-use Rattle.verify_firm.proofs.Tests.{joined}
 use Rattle.verify_firm.proofs.state.apart.Goals as goal
 
 pub returns-then-list-i : goal.returns-then-list-i
 returns-then-list-i c = λ a. c.if-list-i.true a.same
 
 pub loop-k-init : goal.loop-k-init
-loop-k-init c = (omega arith, omega arith, λ m a b. absurd (omega (arith, a, b)))
+loop-k-init c = λ m a b. absurd (omega (arith, a, b))
 
 pub overflow_cast-v : goal.overflow_cast-v
 overflow_cast-v c =
@@ -31,14 +30,10 @@ bounds-degree-v c =
 
 pub returns-then-degree-v-ge3 : goal.returns-then-degree-v-ge3
 returns-then-degree-v-ge3 c =
-    λ a. omega (arith, c.if-degree-v-ge3.true, a.plain c.loop-k.k (inl (c.loop-k.invariant.0, omega arith)))
+    λ a. omega (arith, c.if-degree-v-ge3.true, a.plain c.loop-k.k (inl (c.loop-k.auto.k, omega arith)))
 
 pub loop-k-preserved : goal.loop-k-preserved
 loop-k-preserved c =
     let a = c.args in
-    let more = below_more (λ (m : ℕ). a.i ≤ m → get_or a.degree.now (from_at a.list.now m) 0 < 3) c.loop-k.k (λ m h b. c.loop-k.invariant.2 m b h) (λ b. c.if-degree-v-ge3.false) in
-    (omega arith, omega arith, λ m b h. more m h b)
-
-pub returns : goal.returns
-returns c =
-    λ n. n (joined _ _ _ _ c.loop-k.k c.if-list-i.false c.requires.0 c.loop-k-test.false c.loop-k.invariant.2)
+    let more = below_more (λ (m : ℕ). a.i ≤ m → get_or a.degree.now (from_at a.list.now m) 0 < 3) c.loop-k.k (λ m h b. c.loop-k.invariant m b h) (λ b. c.if-degree-v-ge3.false) in
+    λ m b h. more m h b
