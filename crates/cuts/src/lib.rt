@@ -62,19 +62,7 @@ pub fn lowest_cut(
 fn is_short(n: usize, m: usize, incident: usize, begins: usize, first: usize, order: usize) -> bool
     ensures { Tells (not result) ((n ≤ first) × (n ≤ order) × (2 * m ≤ incident) × (n ≤ begins)) }
 {
-    if first < n {
-        return true;
-    }
-    if order < n {
-        return true;
-    }
-    if incident / 2 < m {
-        return true;
-    }
-    if begins < n {
-        return true;
-    }
-    false
+    first < n || order < n || incident / 2 < m || begins < n
 }
 
 // The lowest cut of an admitted plan whose tables by vertex are filled; whatever stands in `first` is cleared.
