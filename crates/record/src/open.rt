@@ -18,12 +18,10 @@ pub(crate) fn next_link(tips: &[u16], next: u16, from: u16) -> u16
     requires { (2 * next ≤ length tips.now) × (from ≤ next) }
     ensures { NextLink (top_of tips.now) next from result }
 {
-    let mut m = from;
-    while m < next {
+    for m in from..next {
         if tips[2 * (m as usize)] != 0 {
             return m;
         }
-        m += 1;
     }
     next
 }
@@ -60,12 +58,10 @@ fn next_slot(incident: &[u16], over: &[u16], from: u16, end: u16) -> u16
     requires { Slots incident.now (length over.now) from end }
     ensures { NextSlot (read incident.now) (read over.now) from end result }
 {
-    let mut k = from;
-    while k < end {
+    for k in from..end {
         if over[incident[k as usize] as usize] != 0 {
             return k;
         }
-        k += 1;
     }
     end
 }
