@@ -6,6 +6,8 @@ ghost use Rattle.graph.specs.Marks.{read};
 ghost use Rattle.record.specs.Linking.{top_of};
 ghost use Rattle.record.specs.Cursors.{NextLink, NextSlot, Slots, Opening, OpenedAt};
 
+use graph::Graph;
+
 // A vertex of the order, and a place in its group.
 #[derive(Drop)]
 pub(crate) struct Open {
@@ -39,18 +41,17 @@ pub(crate) fn next_open(
     requires { Opening limits incident.now begins.now order.now over.now at slot }
     ensures { OpenedAt limits incident.now begins.now order.now over.now at slot result.at result.slot }
 {
-    let mut i = at;
     let mut from = slot;
-    loop {
+    for i in at..Graph::MAX_VERTICES as u16 {
         let v = order[i as usize] as usize;
         let end = begins[v + 1];
         let k = next_slot(incident, over, from, end);
         if k < end {
             return Open { at: i, slot: k };
         }
-        i += 1;
-        from = begins[order[i as usize] as usize];
+        from = begins[order[i as usize + 1] as usize];
     }
+    Open { at, slot } // never: some edge is not built
 }
 
 // The first place from `from` on and below `end` of an edge that is not built, or `end`.

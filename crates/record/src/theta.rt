@@ -104,14 +104,13 @@ fn next_door(
     requires { Doors limits ends.now incident.now first.now number.now end r from }
     ensures { NextDoorBy limits ends.now incident.now first.now number.now end r from result }
 {
-    let mut k = from;
-    loop {
+    for k in from..ends.len() as u16 {
         let e = incident[k as usize];
         if is_door(first, number, end, e, walk::other_end(ends, e, r)) {
             return k;
         }
-        k += 1;
     }
+    from // never: there is such an edge
 }
 
 fn is_door(first: &[u16], number: &[u16], end: u16, e: u16, w: u16) -> bool
