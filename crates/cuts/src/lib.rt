@@ -16,6 +16,7 @@ use graph::{Answer, Graph};
 use lowest::Lowest;
 
 mod alike; // alike.rt: which edges have like labels
+pub mod ends; // ends.rt: the end that was found over an edge, a mark for two edges
 pub mod lowest; // lowest.rt: the fewest edges that disconnect, the lowest set
 mod survey; // survey.rt: the first search, and the excluded vertices behind it
 mod tries; // tries.rt: whether one or two edges disconnect
