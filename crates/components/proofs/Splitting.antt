@@ -1,17 +1,14 @@
 -- Groups taken apart by a side: who was together and is on one side is together, and no one else; each has the lowest of its group again.
 use mathlib.Core.Path.{◌≡◌, refl, sym, ap, ◌∙◌, subst}
 use mathlib.Core.Logic.{inl, inr, ◌↔◌}
-use mathlib.Core.Bool.{Bool, true, false, not}
+use mathlib.Core.Bool.{Bool, true, false}
 use mathlib.Core.List.{List}
 use Prim.Native.Nat.{ℕ, ◌+◌, ◌≤◌, ◌<◌}
 use native.Mathlib.Omega.{arith}
 use native.Mathlib.Decide.{ℕ_discrete, dec_le}
-use lib.Dec.{eqb}
 use lib.ListN.{length, get_or, set, length-set}
 use lib.Seq.{get_or-set_same, get_or-set_other, set-get_or}
-use borrow.Author.Tests.{ne_eqb}
 use Rattle.graph.specs.Marks.{read}
-use Rattle.graph.specs.Tells.{Tells}
 use Rattle.connectivity.proofs.Lists.{false-T}
 use Rattle.components.specs.Splitting.{Classes, FirstOther, Parted, unseen, OtherOf, Placing}
 
@@ -29,21 +26,6 @@ two_sides true false false n o = absurd (o refl)
 two_sides false true true n o = absurd (o refl)
 two_sides false true false n o = absurd (n refl)
 two_sides false false c n o = refl
-
--- the test that `is_alike` makes
-pub alike_zero : (a b : ℕ) → a ≡ 0 → Tells (eqb b 0) (eqb a 0 ≡ eqb b 0)
-alike_zero a b p = rw p (go (eqb b 0))
-  where
-    go : (t : Bool) → Tells t (true ≡ t)
-    go true = refl
-    go false = λ q. false-T q tt
-
-pub alike_some : (a b : ℕ) → (a ≡ 0 → ⊥) → Tells (not (eqb b 0)) (eqb a 0 ≡ eqb b 0)
-alike_some a b n = rw (ne_eqb a 0 n) (go (eqb b 0))
-  where
-    go : (t : Bool) → Tells (not t) (false ≡ t)
-    go true = λ q. false-T (sym q) tt
-    go false = refl
 
 module _ {side : ℕ → Bool} {at : ℕ → ℕ} where
   first_low : {v u w : ℕ} → FirstOther side at v u → at w ≡ at v → (side w ≡ side (at w) → ⊥) → u ≤ w

@@ -86,12 +86,10 @@ fn singles(
     requires { (edges ≡ length ends.now / 2) × Working limits (plan vertices ends.now excluded.now) incident.now begins.now first.now labels.now claimed.old table.old × Singles (graph (plan vertices ends.now excluded.now)) vertices (length ends.now / 2) 0 claimed.old table.old }
     ensures { Singles (graph (plan vertices ends.now excluded.now)) vertices (length ends.now / 2) (length ends.now / 2) claimed.new table.new × Worked vertices claimed.old table.old claimed.new table.new }
 {
-    let mut e = 0;
-    while e < edges {
+    for e in 0..edges {
         turn(
             vertices, ends, excluded, incident, begins, first, labels, 0, e, e, claimed, table,
         );
-        e += 1;
     }
 }
 
@@ -112,12 +110,10 @@ fn stars(
     requires { (edges ≡ length ends.now / 2) × Working limits (plan vertices ends.now excluded.now) incident.now begins.now first.now labels.now claimed.old table.old × Chaining (length ends.now / 2) labels.now next.now × Stars (graph (plan vertices ends.now excluded.now)) vertices (length ends.now / 2) 0 0 claimed.old table.old }
     ensures { Stars (graph (plan vertices ends.now excluded.now)) vertices (length ends.now / 2) (length ends.now / 2) 0 claimed.new table.new × Worked vertices claimed.old table.old claimed.new table.new }
 {
-    let mut e = 0;
-    while e < edges {
+    for e in 0..edges {
         star(
             vertices, ends, excluded, incident, begins, first, labels, next, e, claimed, table,
         );
-        e += 1;
     }
 }
 

@@ -15,12 +15,9 @@ pub(crate) fn bodies(vertices: u16, first: &[u16], order: &[u16], table: &mut [u
     ensures { (ends excluded : List ℕ) → ForestOf (plan vertices ends excluded) first.now order.now → RootsLow vertices (read first.now) (read order.now) → Bodied (plan vertices ends excluded) table.old table.new }
 {
     let mut root = 0;
-    let mut k = 0;
-    while k < vertices {
-        let v = order[k as usize];
+    for &v in &order[..vertices as usize] {
         root = root_of(v, first, root);
         table[v as usize] = root;
-        k += 1;
     }
 }
 
@@ -40,10 +37,8 @@ pub(crate) fn split(vertices: u16, marks: &[u16], other: &mut [u16], table: &mut
     requires { Placing vertices 0 marks.now other.old table.old table.old }
     ensures { Parted vertices (unseen marks.now) (read table.old) (read table.new) }
 {
-    let mut v = 0;
-    while v < vertices {
+    for v in 0..vertices {
         place(v, marks, other, table);
-        v += 1;
     }
 }
 
@@ -75,8 +70,5 @@ fn place(v: u16, marks: &[u16], other: &mut [u16], table: &mut [u16])
 fn is_alike(a: u16, b: u16) -> bool
     ensures { Tells result (eqb a 0 ≡ eqb b 0) }
 {
-    if a == 0 {
-        return b == 0;
-    }
-    b != 0
+    (a == 0) == (b == 0)
 }

@@ -1,17 +1,17 @@
 // One cut of one edge or two, tried by a search.
-ghost use Rattle.std.specs.Prelude.{◌≡◌, not, [], ◌∷◌, ℕ, ◌/◌, ◌<◌, ◌≤◌, length, get_or, set};
+ghost use Rattle.std.specs.Prelude.{◌≡◌, not, [], ◌∷◌, ℕ, ◌/◌, ◌<◌, ◌≤◌, length, get_or};
 ghost use Rattle.connectivity.specs.Plan.{plan, graph, limits};
 ghost use Rattle.connectivity.specs.Graph.{Vertex, Edge};
 ghost use Rattle.connectivity.specs.Reach.{Reach, Without};
 ghost use Rattle.graph.specs.Marks.{read};
 ghost use Rattle.graph.specs.Tells.{Tells};
 ghost use Rattle.incidence.specs.Tables.{Tabled};
-ghost use Rattle.cuts.specs.Tries.{EndOf, EndsBelow};
 ghost use Rattle.components.specs.Splitting.{Classes, unseen};
 ghost use Rattle.components.specs.Stars.{Attempt};
 ghost use Rattle.components.specs.Tries.{far_end, PartedAt};
 
 use crate::split;
+use cuts::ends::{lower_end, mark};
 use graph::Graph;
 
 // Searches from an end of d without e and d. Where that does not come to its other end, the groups are taken apart by what was seen, and the
@@ -57,7 +57,7 @@ fn search(
 {
     let mut dead = [0u8; Graph::MAX_EDGES];
     graph::excluded::mask(ends, excluded, &mut dead);
-    mark(e, d, &mut dead);
+    mark(e, d, 1, &mut dead);
     let mut order = [0u16; Graph::MAX_VERTICES];
     let mut cursor = [0u16; Graph::MAX_VERTICES];
     depth::explore(
@@ -74,15 +74,6 @@ fn search(
     );
 }
 
-// Gives both edges a mark.
-fn mark(e: u16, d: u16, dead: &mut [u8])
-    requires { (e < length dead.old) × (d < length dead.old) }
-    ensures { dead.new ≡ set (set dead.old e 1) d 1 }
-{
-    dead[e as usize] = 1;
-    dead[d as usize] = 1;
-}
-
 // Where v has no mark, the groups are taken apart by the marks, and the answer is 1; else 0.
 fn part(vertices: u16, v: u16, marks: &[u16], table: &mut [u16]) -> u8
     requires { (v < length marks.now) × (vertices ≤ limits.vertices) × (vertices ≤ length marks.now) × (vertices ≤ length table.old) × Classes vertices (read table.old) }
@@ -94,20 +85,6 @@ fn part(vertices: u16, v: u16, marks: &[u16], table: &mut [u16]) -> u8
     let mut other = [0u16; Graph::MAX_VERTICES];
     split::split(vertices, marks, &mut other, table);
     1
-}
-
-// The end of d of which it is the first edge, if there is one; else the second.
-fn lower_end(ends: &[u16], first: &[u16], d: u16) -> u16
-    requires { EndsBelow ends.now (length first.now) × (d < length ends.now / 2) × (d < 65535) }
-    ensures { EndOf ends.now d result }
-{
-    let at = 2 * (d as usize);
-    let v = ends[at];
-    let mark = first[v as usize];
-    if mark == d + 1 {
-        return v;
-    }
-    ends[at + 1]
 }
 
 // The end of d that is not v.

@@ -22,7 +22,7 @@ use Rattle.graph.specs.Marks.{read}
 use Rattle.labels.proofs.CutLabels.{no_loops, skip_one, skip_two}
 use Rattle.cuts.specs.Lowest.{cut_by, Shown, ShownBoth, Whole, one_told, first_one, first_two}
 use Rattle.cuts.proofs.First.{none_some, first_yes, first_no, first_some, first_later}
-use Rattle.cuts.proofs.Likes.{not_one, not_two, by_one, by_two}
+use Rattle.cuts.proofs.Likes.{not_one, not_two, by_one, by_two, no_with}
 
 -- no set in a list of which none is first
 none_is : (f : List ℕ → Bool) (l : List (List ℕ)) → first_of f l ≡ none → (c : List ℕ) → In c l → f c ≡ false
@@ -106,18 +106,13 @@ module _ (g : Graph) where
     | no n ↦ ap (λ (x : List ℕ). first_of (disconnects g) (pairs_with e x)) (keep_no d l n) ∙ all_with e l h ∙ sym (first_no (cut_by g) (e ∷ (d ∷ [])) (pairs_with e l) (not_two g e d (λ x y. n y)))
   ]
 
-  no_with : (e : ℕ) (l : List ℕ) → (Edge g e → ⊥) → first_of (cut_by g) (pairs_with e l) ≡ none
-  unfolding pairs_with first_of
-  no_with e [] n = refl
-  no_with e (d ∷ l) n = first_no (cut_by g) (e ∷ (d ∷ [])) (pairs_with e l) (not_two g e d (λ x y. n x)) ∙ no_with e l n
-
   all_pairs : (l : List ℕ) → first_of (disconnects g) (pairs (keep (is_edge g) l)) ≡ first_of (cut_by g) (pairs l)
   unfolding pairs keep first_of
   all_pairs [] = refl
   all_pairs (e ∷ l) = elim (edge_dec e) [
     | yes k ↦ ap (λ (x : List ℕ). first_of (disconnects g) (pairs x)) (keep_yes e l k)
         ∙ first_both (disconnects g) (cut_by g) (pairs_with e (keep (is_edge g) l)) (pairs_with e l) (pairs (keep (is_edge g) l)) (pairs l) (all_with e l k) (all_pairs l)
-    | no n ↦ ap (λ (x : List ℕ). first_of (disconnects g) (pairs x)) (keep_no e l n) ∙ all_pairs l ∙ sym (first_later (cut_by g) (pairs_with e l) (pairs l) (no_with e l n))
+    | no n ↦ ap (λ (x : List ℕ). first_of (disconnects g) (pairs x)) (keep_no e l n) ∙ all_pairs l ∙ sym (first_later (cut_by g) (pairs_with e l) (pairs l) (no_with g e l n))
   ]
 
 module _ (p : Plan) (m : ℕ) (q : m ≡ length p.ends / 2) where

@@ -2,8 +2,10 @@
 use mathlib.Core.Path.{◌≡◌, refl, sym, ap, subst, ◌∙◌}
 use mathlib.Core.Bool.{false}
 use mathlib.Core.List.{List, [], ◌∷◌}
+use mathlib.Core.Option.{none}
 use Prim.Native.Nat.{ℕ, ◌+◌, ◌-◌, ◌≤◌, ◌<◌}
 use native.Mathlib.Omega.{arith}
+use borrow.Author.Tests.{le-ltb}
 use native.Mathlib.Decide.{ℕ_discrete, dec_lt}
 use lib.ListN.{length, get_or}
 use Rattle.connectivity.specs.Lists.{all}
@@ -16,9 +18,9 @@ use Rattle.graph.specs.declared.Answer.{Answer}
 use Rattle.chains.specs.Chains.{key_of, keys, named, Lowest, Chained}
 use Rattle.chains.proofs.Lowest.{named_some}
 use Rattle.chains.proofs.OnChain.{chained_served, next_long, next_lowest, other_label}
-use Rattle.cuts.specs.Lowest.{cut_by, Shown, ShownBoth, two_told, first_with}
-use Rattle.cuts.specs.Alike.{Chaining, Like, LowestLike, Paired, LowestPaired}
-use Rattle.cuts.proofs.First.{from, steps, one_next, with_next, with_over, two_next}
+use Rattle.cuts.specs.Lowest.{cut_by, Shown, ShownBoth, first_with}
+use Rattle.cuts.specs.Alike.{Chaining, Like, LowestLike, Paired}
+use Rattle.cuts.proofs.First.{from, steps, first_no, one_next, with_next, two_next}
 
 -- the chains that are made serve
 pub chained : {m : ℕ} {labels next₀ heads₀ next heads : List ℕ} {r : Answer} → Chained m labels next₀ heads₀ next heads r
@@ -104,6 +106,12 @@ module _ (g : Graph) where
   unfolding cut_by all
   by_two e d k h = rw (T_true (is_edge g e) ((is_edge_lem g e).1 k), T_true (is_edge g d) ((is_edge_lem g d).1 h))
 
+  -- no pair with an entry that is no edge
+  pub no_with : (e : ℕ) (l : List ℕ) → (Edge g e → ⊥) → first_of (cut_by g) (pairs_with e l) ≡ none
+  unfolding pairs_with first_of
+  no_with e [] n = refl
+  no_with e (d ∷ l) n = first_no (cut_by g) (e ∷ (d ∷ [])) (pairs_with e l) (not_two e d (λ x y. n x)) ∙ no_with e l n
+
 -- those above e before d are no cut together with e, and d has its label
 pub record With (g : Graph) (labels dead : List ℕ) (m e d : ℕ) : Type 0 where
   pub above : e < d
@@ -119,16 +127,16 @@ module _ (p : Plan) (dead : List ℕ) (live : (e : ℕ) → Edge (graph p) e →
   abbrev g : Graph
   g = graph p
 
+  -- an entry with a mark is no edge, and no first one of a cut
+  pub pass_two : {m e : ℕ} → e < m → (get_or dead e 0 ≡ 0 → ⊥) → first_of (cut_by g) (pairs (from e m)) ≡ first_of (cut_by g) (pairs (from (e + 1) m))
+  pass_two {m} {e} h n = two_next (cut_by g) e m m h (omega arith) (no_with g e (from (e + 1) m) (λ x. n (live e x)) ∙ rw (le-ltb m m (omega arith)))
+
   module _ {labels : List ℕ} {m : ℕ} where
-    pub pass_one : {e r : ℕ} → Shown p labels m → LowestLike labels dead 0 e m r → first_of (cut_by g) (singles (from e m)) ≡ first_of (cut_by g) (singles (from r m))
-    pass_one {e} {r} s l = steps (λ (k : ℕ). first_of (cut_by g) (singles (from k m))) e r l.low
-        (λ k a b. one_next (cut_by g) k m (omega (arith, l.high)) (none k a b))
-      where
-        none : (k : ℕ) → e ≤ k → k < r → cut_by g (k ∷ []) ≡ false
-        none k a b = elim (T-dec (is_edge g k)) [
-          | no n ↦ not_one g k (λ h. n ((is_edge_lem g k).1 h))
-          | yes t ↦ let h = (is_edge_lem g k).0 t in by_one g k h ∙ s.one k h (λ z. l.between k b a (live k h, z))
-        ]
+    pub pass_one : {e : ℕ} → Shown p labels m → e < m → (Like labels dead 0 e → ⊥) → first_of (cut_by g) (singles (from e m)) ≡ first_of (cut_by g) (singles (from (e + 1) m))
+    pass_one {e} s h n = one_next (cut_by g) e m h (elim (T-dec (is_edge g e)) [
+      | no k ↦ not_one g e (λ x. k ((is_edge_lem g e).1 x))
+      | yes t ↦ let x = (is_edge_lem g e).0 t in by_one g e x ∙ s.one e x (λ z. n (live e x, z))
+    ])
 
     module _ (s : ShownBoth p labels m) where
       other : (e d : ℕ) → e < d → (Paired labels dead e d → ⊥) → cut_by g (e ∷ (d ∷ [])) ≡ false
@@ -139,15 +147,6 @@ module _ (p : Plan) (dead : List ℕ) (live : (e : ℕ) → Edge (graph p) e →
           | yes u ↦ let x = (is_edge_lem g e).0 t in let y = (is_edge_lem g d).0 u in by_two g e d x y ∙ s.two e d o x y (λ q. n (live e x, (live d y, sym q)))
         ]
       ]
-
-      pub pass_two : {e r : ℕ} → LowestPaired labels dead e m r → first_of (cut_by g) (pairs (from e m)) ≡ first_of (cut_by g) (pairs (from r m))
-      pass_two {e} {r} l = steps (λ (k : ℕ). first_of (cut_by g) (pairs (from k m))) e r l.low
-          (λ k a b. let h : k < m = omega (arith, l.high) in two_next (cut_by g) k m m h (omega arith) (alone k a b))
-        where
-          alone : (k : ℕ) → e ≤ k → k < r → first_of (cut_by g) (pairs_with k (from (k + 1) m)) ≡ two_told m k m
-          alone k a b = steps (λ (d : ℕ). first_of (cut_by g) (pairs_with k (from d m))) (k + 1) m (omega (arith, l.high))
-              (λ d o h. with_next (cut_by g) k d m h (other k d (omega arith) (l.between k b a d (omega arith) h)))
-              ∙ with_over (cut_by g) k m m refl
 
       pass_with : {e d r : ℕ} → e < d → first_with g m e ≡ first_of (cut_by g) (pairs_with e (from d m)) → LowestLike labels dead (get_or labels e 0) d m r → With g labels dead m e r
       pass_with {e} {d} {r} o q l = record {
@@ -164,7 +163,3 @@ module _ (p : Plan) (dead : List ℕ) (live : (e : ℕ) → Edge (graph p) e →
       pub with_on : {e d r : ℕ} → With g labels dead m e d → d < m → cut_by g (e ∷ (d ∷ [])) ≡ false → LowestLike labels dead (get_or labels d 0) (d + 1) m r → With g labels dead m e r
       with_on {e} {d} {r} w h t l = pass_with (omega (arith, w.above)) (w.so_far ∙ with_next (cut_by g) e d m h t)
           (subst (λ (x : ℕ). LowestLike labels dead x (d + 1) m r) (w.like h).1 l)
-
--- no edge above e has its label
-pub partner_none : {labels dead : List ℕ} {e m r : ℕ} → LowestLike labels dead (get_or labels e 0) (e + 1) m r → m ≤ r → (d : ℕ) → e < d → d < m → Paired labels dead e d → ⊥
-partner_none l h d o b q = l.between d (omega arith) (omega arith) q.1

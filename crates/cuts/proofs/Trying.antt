@@ -5,11 +5,12 @@ use mathlib.Core.List.Memᴰ.{cases_cons as in-cons}
 use mathlib.Core.List.Memᴰ.{head as here}
 use mathlib.Core.List.Memᴰ.{not-nil as not_in}
 use mathlib.Core.List.Memᴰ.{tail as later}
+use mathlib.Core.Bool.{Bool, true, false, cond}
 use mathlib.Core.List.{List, [], ◌∷◌, Memᴰ as In}
-use Prim.Native.Nat.{ℕ, ◌≤◌, ◌<◌}
+use Prim.Native.Nat.{ℕ, ◌+◌, ◌*◌, ◌≤◌, ◌<◌}
 use native.Mathlib.Omega.{arith}
 use native.Mathlib.Decide.{ℕ_discrete}
-use lib.Dec.{T, ltb}
+use lib.Dec.{T, eqb, ltb}
 use lib.ListN.{length, get_or, set, length-set}
 use lib.Seq.{ext_get_or, get_or-set_same, get_or-set_other}
 use Rattle.connectivity.specs.Plan.{Plan, graph, Limits}
@@ -21,7 +22,7 @@ use Rattle.connectivity.proofs.Disconnects.{disconnects_is, connected_less}
 use Rattle.connectivity.proofs.Kept.{edge_is, edge_size_lem}
 use Rattle.graph.specs.Marks.{read}
 use Rattle.depth.specs.Depth.{Masking, Cutting}
-use Rattle.cuts.specs.Tries.{Tables, Ready, Restored, EndOf, EndsBelow}
+use Rattle.cuts.specs.Tries.{Tables, Ready, Restored, EndOf, EndsBelow, lower_end}
 
 -- both marks
 abbrev pub both : List ℕ → ℕ → ℕ → ℕ → List ℕ
@@ -123,6 +124,14 @@ restored_more a b = record {
 -- the ends of every entry are below n
 pub ends_below : {most : Limits} {p : Plan} (n : ℕ) → Admitted most p → p.vertices ≤ n → EndsBelow p.ends n
 ends_below n a h e l = let f = a.fit e l in (omega (arith, f.left), omega (arith, f.right))
+
+-- what is found over an edge is an end of it
+pub end_of : (ends first : List ℕ) (e : ℕ) {r : ℕ} → r ≡ lower_end ends first e → EndOf ends e r
+end_of ends first e {r} q = go (eqb (get_or first (get_or ends (2 * e) 0) 0) (e + 1)) q
+  where
+    go : (t : Bool) → r ≡ cond t (get_or ends (2 * e) 0) (get_or ends (2 * e + 1) 0) → EndOf ends e r
+    go true p = inl p
+    go false p = inr p
 
 -- the root of a try is a vertex
 pub end_vertex : (p : Plan) {e r : ℕ} → Edge (graph p) e → EndOf p.ends e r → Vertex (graph p) r

@@ -22,15 +22,3 @@ pub record LowestLike (labels dead : List ℕ) (label e m r : ℕ) : Type 0 wher
 -- e has no mark, and d has none and its label
 abbrev pub Paired : List ℕ → List ℕ → ℕ → ℕ → Type 0
 Paired labels dead e d = (get_or dead e 0 ≡ 0) × Like labels dead (get_or labels e 0) d
-
--- no edge from e on, before r, has the label of a later one; r is m for none
-pub record LowestPaired (labels dead : List ℕ) (e m r : ℕ) : Type 0 where
-  pub low : e ≤ r
-  pub high : r ≤ m
-  pub live : r < m → get_or dead r 0 ≡ 0
-  pub between : (k : ℕ) → k < r → e ≤ k → (d : ℕ) → k < d → d < m → Paired labels dead k d → ⊥
-
--- `partner`: an edge above e that it is paired with, or m for none
-pub record Partner (labels dead : List ℕ) (e m r : ℕ) : Type 0 where
-  pub live : r < m → get_or dead e 0 ≡ 0
-  pub none : m ≤ r → (d : ℕ) → e < d → d < m → Paired labels dead e d → ⊥

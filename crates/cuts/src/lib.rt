@@ -16,6 +16,7 @@ use graph::{Answer, Graph};
 use lowest::Lowest;
 
 mod alike; // alike.rt: which edges have like labels
+pub mod ends; // ends.rt: the end that was found over an edge, a mark for two edges
 pub mod lowest; // lowest.rt: the fewest edges that disconnect, the lowest set
 mod survey; // survey.rt: the first search, and the excluded vertices behind it
 mod tries; // tries.rt: whether one or two edges disconnect
@@ -54,19 +55,7 @@ pub fn lowest_cut(
 fn is_short(n: usize, m: usize, incident: usize, begins: usize, first: usize, order: usize) -> bool
     ensures { Tells (not result) ((n ≤ first) × (n ≤ order) × (2 * m ≤ incident) × (n ≤ begins)) }
 {
-    if first < n {
-        return true;
-    }
-    if order < n {
-        return true;
-    }
-    if incident / 2 < m {
-        return true;
-    }
-    if begins < n {
-        return true;
-    }
-    false
+    first < n || order < n || incident / 2 < m || begins < n
 }
 
 // The lowest cut of an admitted plan whose tables by vertex are filled; whatever stands in `first` is cleared.

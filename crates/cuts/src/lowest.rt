@@ -26,9 +26,9 @@ pub(crate) fn cut(count: u16, first: u16, second: u16) -> Lowest
     ensures { result ≡ record { count = count; first = first; second = second } }
 {
     Lowest {
-        count: count,
-        first: first,
-        second: second,
+        count,
+        first,
+        second,
     }
 }
 
@@ -82,14 +82,14 @@ fn lowest_one(
     requires { Shown (plan vertices ends.now excluded.now) labels.now edges × Ready limits (plan vertices ends.now excluded.now) incident.now begins.now first.now dead.old marks.old order.old cursor.old }
     ensures { (result ≤ edges) × (first_one (graph (plan vertices ends.now excluded.now)) edges ≡ one_told edges result) × Restored dead.old marks.old order.old cursor.old dead.new marks.new order.new cursor.new }
 {
-    let mut e = alike::zero_from(labels, dead, edges, 0);
-    while e < edges {
-        if is_cut(
-            vertices, ends, excluded, incident, begins, first, e, e, dead, marks, order, cursor,
-        ) {
+    for e in 0..edges {
+        if alike::is_like(labels, dead, 0, e)
+            && is_cut(
+                vertices, ends, excluded, incident, begins, first, e, e, dead, marks, order, cursor,
+            )
+        {
             return e;
         }
-        e = alike::zero_from(labels, dead, edges, e + 1);
     }
     edges
 }
@@ -140,8 +140,10 @@ fn lowest_two(
     requires { ShownBoth (plan vertices ends.now excluded.now) labels.now edges × Chaining edges labels.now next.now × Ready limits (plan vertices ends.now excluded.now) incident.now begins.now first.now dead.old marks.old order.old cursor.old }
     ensures { Told result (first_two (graph (plan vertices ends.now excluded.now)) edges) }
 {
-    let mut e = alike::paired_from(labels, dead, next, edges, 0);
-    while e < edges {
+    for e in 0..edges {
+        if dead[e as usize] != 0 {
+            continue;
+        }
         let d = lowest_with(
             vertices, ends, excluded, incident, begins, first, labels, next, edges, e, dead, marks,
             order, cursor,
@@ -149,7 +151,6 @@ fn lowest_two(
         if d < edges {
             return cut(2, e, d);
         }
-        e = alike::paired_from(labels, dead, next, edges, e + 1);
     }
     cut(3, 0, 0)
 }

@@ -36,10 +36,8 @@ fn append(excluded: &[u16], count: u16, first: &mut [u16], order: &mut [u16])
     requires { Appending excluded.now count first.old order.old }
     ensures { Appended excluded.now count first.old order.old first.new order.new }
 {
-    let mut i = 0;
-    while i < excluded.len() {
-        put_root(excluded[i], count as usize + i, first, order);
-        i += 1;
+    for (i, &v) in excluded.iter().enumerate() {
+        put_root(v, count as usize + i, first, order);
     }
 }
 

@@ -1,13 +1,14 @@
 // A try of one or two edges: they are marked for the time of a search, and all marks are taken back.
-ghost use Rattle.std.specs.Prelude.{◌≡◌, List, [], ◌∷◌, ℕ, ◌/◌, ◌<◌, ltb, length, set};
+ghost use Rattle.std.specs.Prelude.{◌≡◌, List, [], ◌∷◌, ℕ, ltb};
 ghost use Rattle.connectivity.specs.Plan.{plan, graph, limits};
 ghost use Rattle.connectivity.specs.Graph.{Vertex, Edge};
 ghost use Rattle.connectivity.specs.Cut.{disconnects};
 ghost use Rattle.connectivity.specs.Admission.{kept_vertices};
 ghost use Rattle.graph.specs.Marks.{read};
 ghost use Rattle.depth.specs.Depth.{Crossing, Found, Cutting};
-ghost use Rattle.cuts.specs.Tries.{Tables, Ready, Restored, EndOf, EndsBelow};
+ghost use Rattle.cuts.specs.Tries.{Tables, Ready, Restored};
 
+use crate::ends::{lower_end, mark};
 
 // The edges `e` and `d`, which may be the same, disconnect: without them a search does not see all vertices that are kept. It begins at the end of `e` that
 // was found over `e`, if there is one: of an edge that disconnects alone it sees just the part that is cut off.
@@ -35,29 +36,6 @@ pub(crate) fn is_cut(
     );
     mark(e, d, 0, dead);
     count < vertices - excluded.len() as u16
-}
-
-// The end of `e` of which it is the first edge, if there is one; else any.
-fn lower_end(ends: &[u16], first: &[u16], e: u16) -> u16
-    requires { EndsBelow ends.now (length first.now) × (e < length ends.now / 2) × (e < 65535) }
-    ensures { EndOf ends.now e result }
-{
-    let at = 2 * (e as usize);
-    let v = ends[at];
-    let mark = first[v as usize];
-    if mark == e + 1 {
-        return v;
-    }
-    ends[at + 1]
-}
-
-// Gives both edges a mark.
-fn mark(e: u16, d: u16, x: u8, dead: &mut [u8])
-    requires { (e < length dead.old) × (d < length dead.old) }
-    ensures { dead.new ≡ set (set dead.old e x) d x }
-{
-    dead[e as usize] = x;
-    dead[d as usize] = x;
 }
 
 // How many vertices a search from `root` sees over the edges without a mark. The vertices' marks are taken back.

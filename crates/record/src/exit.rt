@@ -104,17 +104,14 @@ fn exit_at(
     requires { Looking ends.now incident.now begins.now number.now places.now over.now v }
     ensures { ExitAt ends.now incident.now begins.now number.now places.now over.now v from to result }
 {
+    let begin = begins[v as usize] as usize;
     let end = begins[v as usize + 1] as usize;
     let own = places[v as usize];
-    let mut k = begins[v as usize] as usize;
-    while k < end {
+    for k in begin..end {
         let f = over[incident[k] as usize];
-        if f != 0 {
-            if is_exit(ends, number, places, f - 1, own, from, to) {
-                return f;
-            }
+        if f != 0 && is_exit(ends, number, places, f - 1, own, from, to) {
+            return f;
         }
-        k += 1;
     }
     0
 }
@@ -138,8 +135,5 @@ fn is_exit(
         return true;
     }
     let w = number[walk::other_end(ends, f, s) as usize];
-    if w < from {
-        return false;
-    }
-    w <= to
+    from <= w && w <= to
 }

@@ -68,7 +68,7 @@ fn cut(ends: &[u16], first: &[u16], below: &[u16], v: u16, top: u16, bottom: u16
     let up = walk::above(ends, first, v) + 1;
     if v + 1 == bottom {
         return Tips {
-            top: top,
+            top,
             bottom: up,
             high: 0,
             low: 0,
@@ -91,14 +91,14 @@ fn cut_top(v: u16, top: u16, bottom: u16, down: u16) -> Tips
     if v + 1 == bottom {
         return Tips {
             top: 0,
-            bottom: bottom,
+            bottom,
             high: 0,
             low: 0,
         };
     }
     Tips {
         top: down,
-        bottom: bottom,
+        bottom,
         high: 0,
         low: 0,
     }
@@ -111,13 +111,13 @@ fn cut_inside(is_upper: bool, top: u16, bottom: u16, up: u16, down: u16) -> Tips
     if is_upper {
         return Tips {
             top: down,
-            bottom: bottom,
+            bottom,
             high: top,
             low: up,
         };
     }
     Tips {
-        top: top,
+        top,
         bottom: up,
         high: down,
         low: bottom,

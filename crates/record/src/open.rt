@@ -6,6 +6,8 @@ ghost use Rattle.graph.specs.Marks.{read};
 ghost use Rattle.record.specs.Linking.{top_of};
 ghost use Rattle.record.specs.Cursors.{NextLink, NextSlot, Slots, Opening, OpenedAt};
 
+use graph::Graph;
+
 // A vertex of the order, and a place in its group.
 #[derive(Drop)]
 pub(crate) struct Open {
@@ -18,12 +20,10 @@ pub(crate) fn next_link(tips: &[u16], next: u16, from: u16) -> u16
     requires { (2 * next ≤ length tips.now) × (from ≤ next) }
     ensures { NextLink (top_of tips.now) next from result }
 {
-    let mut m = from;
-    while m < next {
+    for m in from..next {
         if tips[2 * (m as usize)] != 0 {
             return m;
         }
-        m += 1;
     }
     next
 }
@@ -41,18 +41,17 @@ pub(crate) fn next_open(
     requires { Opening limits incident.now begins.now order.now over.now at slot }
     ensures { OpenedAt limits incident.now begins.now order.now over.now at slot result.at result.slot }
 {
-    let mut i = at;
     let mut from = slot;
-    loop {
+    for i in at..Graph::MAX_VERTICES as u16 {
         let v = order[i as usize] as usize;
         let end = begins[v + 1];
         let k = next_slot(incident, over, from, end);
         if k < end {
             return Open { at: i, slot: k };
         }
-        i += 1;
-        from = begins[order[i as usize] as usize];
+        from = begins[order[i as usize + 1] as usize];
     }
+    Open { at, slot } // never: some edge is not built
 }
 
 // The first place from `from` on and below `end` of an edge that is not built, or `end`.
@@ -60,12 +59,10 @@ fn next_slot(incident: &[u16], over: &[u16], from: u16, end: u16) -> u16
     requires { Slots incident.now (length over.now) from end }
     ensures { NextSlot (read incident.now) (read over.now) from end result }
 {
-    let mut k = from;
-    while k < end {
+    for k in from..end {
         if over[incident[k as usize] as usize] != 0 {
             return k;
         }
-        k += 1;
     }
     end
 }

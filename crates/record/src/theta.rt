@@ -50,7 +50,7 @@ pub(crate) fn first_walks(
     Progress {
         row: count,
         step: 3,
-        next: next,
+        next,
     }
 }
 
@@ -80,13 +80,13 @@ fn find(
     let e = first[x as usize] - 1;
     let p = walk::other_end(ends, e, x);
     Fork {
-        x: x,
-        e: e,
-        p: p,
-        f: f,
-        w: w,
-        d: d,
-        u: u,
+        x,
+        e,
+        p,
+        f,
+        w,
+        d,
+        u,
     }
 }
 
@@ -104,24 +104,20 @@ fn next_door(
     requires { Doors limits ends.now incident.now first.now number.now end r from }
     ensures { NextDoorBy limits ends.now incident.now first.now number.now end r from result }
 {
-    let mut k = from;
-    loop {
+    for k in from..ends.len() as u16 {
         let e = incident[k as usize];
         if is_door(first, number, end, e, walk::other_end(ends, e, r)) {
             return k;
         }
-        k += 1;
     }
+    from // never: there is such an edge
 }
 
 fn is_door(first: &[u16], number: &[u16], end: u16, e: u16, w: u16) -> bool
     requires { DoorFits limits e w (length first.now) (length number.now) }
     ensures { Tells result (Door (read first.now) (read number.now) end e w) }
 {
-    if first[w as usize] == e + 1 {
-        return false;
-    }
-    number[w as usize] <= end
+    first[w as usize] != e + 1 && number[w as usize] <= end
 }
 
 // The first vertex on the way up from `u` that is also on the way up from `w`. No mark is set, before and after.
@@ -173,14 +169,12 @@ fn build_walks(
     places[r as usize] = 1;
     places[t.x as usize] = 1;
     below[t.p as usize] = t.x + 1;
-    let mut k: u16 = 0;
     let mut next: u16 = 2;
-    while k < 3 {
+    for k in 0..3 {
         let to = way_at(k, r, t);
         next = link::build_walk(
             ends, first, to.e, to.v, to.stop, next, places, below, tips, over,
         );
-        k += 1;
     }
     next
 }

@@ -5,24 +5,15 @@ use native.Mathlib.Omega.{arith}
 use lib.ListN.{length}
 use Rattle.connectivity.specs.Plan.{plan, graph}
 use Rattle.components.specs.Stars.{Singles}
-use Rattle.components.proofs.Turning.{worked_same, worked_more, worked_turn, working_on, working_setting, singles_turn}
+use Rattle.components.proofs.Turning.{worked_more, worked_turn, working_on, working_setting, singles_turn}
 use Rattle.components.proofs.pairs.singles.Goals as goal
-
-pub loop-e-init : goal.loop-e-init
-loop-e-init c = (omega arith, c.requires.2, worked_same)
 
 pub turn-requires : goal.turn-requires
 turn-requires c =
     let s = c.requires in
     let i = c.loop-e.invariant in
     let l = c.loop-e-test.true in
-    (omega (arith, s.0, l), omega (arith, s.0, l), working_on s.1 i.2, i.1.groups.classes)
-
-pub overflow_add-e : goal.overflow_add-e
-overflow_add-e c = omega (arith, c.loop-e-test.true, c.ranges.edges)
-
-pub loop-e-smaller : goal.loop-e-smaller
-loop-e-smaller c = omega (arith, c.loop-e-test.true)
+    (omega (arith, s.0, l), omega (arith, s.0, l), working_on s.1 i.1, i.0.groups.classes)
 
 pub loop-e-preserved : goal.loop-e-preserved
 loop-e-preserved c =
@@ -30,16 +21,10 @@ loop-e-preserved c =
     let i = c.loop-e.invariant in
     let l = c.loop-e-test.true in
     let t = c.turn.ensures in
-    (omega (arith, l), singles_turn (working_setting s.1) (omega (arith, s.0, l)) (working_on s.1 i.2).claimed_room i.1 t, worked_more i.2 (worked_turn t))
-
-pub shape_of-claimed : goal.shape_of-claimed
-shape_of-claimed c = c.loop-e.invariant.2.claimed_long
-
-pub shape_of-table : goal.shape_of-table
-shape_of-table c = c.loop-e.invariant.2.kept.long
+    (singles_turn (working_setting s.1) (omega (arith, s.0, l)) (working_on s.1 i.1).claimed_room i.0 t, worked_more i.1 (worked_turn t))
 
 pub returns : goal.returns
 returns c =
     let i = c.loop-e.invariant in
-    let q : c.loop-e.e ≡ length c.args.ends.now / 2 = omega (arith, i.0, c.loop-e-test.false, c.requires.0) in
-    (subst (λ (k : ℕ). Singles (graph (plan c.args.vertices c.args.ends.now c.args.excluded.now)) c.args.vertices (length c.args.ends.now / 2) k c.loop-e.claimed c.loop-e.table) q i.1, i.2)
+    let q : c.loop-e.e ≡ length c.args.ends.now / 2 = omega (arith, c.loop-e.auto.e-end, c.loop-e-test.false, c.requires.0) in
+    (subst (λ (k : ℕ). Singles (graph (plan c.args.vertices c.args.ends.now c.args.excluded.now)) c.args.vertices (length c.args.ends.now / 2) k c.loop-e.claimed c.loop-e.table) q i.0, i.1)

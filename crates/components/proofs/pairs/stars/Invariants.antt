@@ -1,5 +1,5 @@
 -- `stars` meets its contract: one edge after the other.
-use Prim.Native.Nat.{◌-◌, ◌/◌, ◌≤◌}
+use Prim.Native.Nat.{◌/◌}
 use lib.ListN.{length}
 use Rattle.connectivity.specs.Plan.{plan, graph}
 use Rattle.components.specs.Stars.{Stars, Worked}
@@ -7,7 +7,4 @@ use Rattle.components.proofs.pairs.stars.Given as goal
 
 abbrev pub invariant-loop-e : goal.invariant-loop-e
 invariant-loop-e l =
-    (l.e ≤ l.edges) × Stars (graph (plan l.vertices l.ends l.excluded)) l.vertices (length l.ends / 2) l.e 0 l.claimed l.table × Worked l.vertices l.initial.claimed l.initial.table l.claimed l.table
-
-abbrev pub decreases-loop-e : goal.decreases-loop-e
-decreases-loop-e l = l.edges - l.e
+    Stars (graph (plan l.vertices l.ends l.excluded)) l.vertices (length l.ends / 2) l.e 0 l.claimed l.table × Worked l.vertices l.initial.claimed l.initial.table l.claimed l.table

@@ -1,7 +1,5 @@
 -- `lowest_two` meets its contract: no pair whose first edge is lower than the one that is tried disconnects.
 use mathlib.Core.Path.{◌≡◌}
-use Prim.Native.Nat.{◌-◌, ◌≤◌, ◌<◌}
-use lib.ListN.{get_or}
 use Rattle.connectivity.specs.Plan.{plan, graph}
 use Rattle.connectivity.specs.Cut.{pairs, first_of}
 use Rattle.cuts.specs.Lowest.{cut_by, first_two}
@@ -11,8 +9,5 @@ use Rattle.cuts.proofs.lowest.lowest_two.Given as goal
 
 abbrev pub invariant-loop-e : goal.invariant-loop-e
 invariant-loop-e l =
-    (l.e ≤ l.edges) × (l.e < l.edges → get_or l.dead l.e 0 ≡ 0) × (first_two (graph (plan l.vertices l.ends l.excluded)) l.edges ≡ first_of (cut_by (graph (plan l.vertices l.ends l.excluded))) (pairs (from l.e l.edges)))
+    (first_two (graph (plan l.vertices l.ends l.excluded)) l.edges ≡ first_of (cut_by (graph (plan l.vertices l.ends l.excluded))) (pairs (from l.e l.edges)))
     × Restored l.initial.dead l.initial.marks l.initial.order l.initial.cursor l.dead l.marks l.order l.cursor
-
-abbrev pub decreases-loop-e : goal.decreases-loop-e
-decreases-loop-e l = l.edges - l.e

@@ -2,7 +2,7 @@
 use mathlib.Core.Path.{◌∙◌}
 use native.Mathlib.Omega.{arith}
 use Rattle.connectivity.proofs.Kept.{edge_size_lem, admitted_count}
-use Rattle.cuts.proofs.Trying.{ends_below, end_vertex, try_tables, tried}
+use Rattle.cuts.proofs.Trying.{ends_below, end_of, end_vertex, try_tables, tried}
 use Rattle.cuts.proofs.tries.is_cut.Goals as goal
 
 pub lower_end-root-requires : goal.lower_end-root-requires
@@ -17,7 +17,7 @@ mark-requires c = let s = c.requires in (omega (arith, edge_size_lem _ s.1, s.0.
 pub seen-count-requires : goal.seen-count-requires
 seen-count-requires c =
     let s = c.requires in
-    (try_tables s.0 s.1 s.2 c.mark.ensures, end_vertex _ s.1 c.lower_end-root.ensures)
+    (try_tables s.0 s.1 s.2 c.mark.ensures, end_vertex _ s.1 (end_of c.args.ends.now c.args.first.now c.args.e c.lower_end-root.ensures))
 
 pub mark-requires-2 : goal.mark-requires-2
 mark-requires-2 c =

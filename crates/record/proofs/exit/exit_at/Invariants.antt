@@ -1,5 +1,5 @@
 -- `exit_at` meets its contract. The loop's invariant: the edges of the group that are behind are built, or fail the test.
-use Rattle.std.proofs.Common.{◌-◌, ◌≤◌}
+use Rattle.std.proofs.Common.{◌-◌}
 use Rattle.graph.specs.Marks.{read}
 use Rattle.record.specs.Exits.{Passes}
 use Rattle.record.proofs.Exits.{Failing}
@@ -7,7 +7,4 @@ use Rattle.record.proofs.exit.exit_at.Given as goal
 
 abbrev pub invariant-loop-k : goal.invariant-loop-k
 invariant-loop-k l =
-    (read l.begins l.v ≤ l.k) × Failing (read l.incident) (read l.begins) (read l.over) l.v (λ e. Passes l.ends l.number l.places (read l.over e - 1) l.own l.from l.to) l.k
-
-abbrev pub decreases-loop-k : goal.decreases-loop-k
-decreases-loop-k l = l.end - l.k
+    Failing (read l.incident) (read l.begins) (read l.over) l.v (λ e. Passes l.ends l.number l.places (read l.over e - 1) l.own l.from l.to) l.k

@@ -1,5 +1,5 @@
 -- `build_walks` meets its contract: both ends are made branches, and the three walks are built. The loop's invariant: k of them are built.
-use Rattle.std.proofs.Common.{◌+◌, set, refl, ◌∙◌, arith, length-set}
+use Rattle.std.proofs.Common.{refl, ◌∙◌, arith, length-set}
 use Rattle.connectivity.specs.Plan.{limits}
 use Rattle.record.specs.Opening.{Raw}
 use Rattle.record.proofs.Opening.{root_fits, x_fits, p_fits, x_small, Stage, stage_start, stage_building, stage_next, stage_end}
@@ -40,22 +40,6 @@ loop-k-preserved c =
           stage_next places below _ _ r (i.4 places below p q r) c.loop-k-test.true c.way_at-to.ensures
           c.build_walk-next.new.places c.build_walk-next.new.below c.build_walk-next.new.tips c.build_walk-next.new.over c.build_walk-next.result e,
     )
-
-pub shape_of-places : goal.shape_of-places
-shape_of-places c =
-    let a = c.args in
-    c.loop-k.invariant.0 ∙ length-set (set a.places.now a.r 1) a.t.x 1 ∙ length-set a.places.now a.r 1
-
-pub shape_of-below : goal.shape_of-below
-shape_of-below c =
-    let a = c.args in
-    c.loop-k.invariant.1 ∙ length-set a.below.now a.t.p (a.t.x + 1)
-
-pub shape_of-tips : goal.shape_of-tips
-shape_of-tips c = c.loop-k.invariant.2
-
-pub shape_of-over : goal.shape_of-over
-shape_of-over c = c.loop-k.invariant.3
 
 pub returns : goal.returns
 returns c =
