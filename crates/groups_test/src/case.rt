@@ -16,7 +16,7 @@ fn worth(byte: u8) -> u16 {
         b't' => 2000,
         b'w' => 4000,
         b'x' => 4001,
-        _ => u16::from(byte % 48),
+        _ => u16::from(byte % 48), // a digit
     }
 }
 
@@ -46,7 +46,7 @@ fn laid(tabs: &str) -> Option<(Rule, u16)> {
     Some((rule, worth(count)))
 }
 
-// Runs the case of a line, and prints it.
+// Runs the case of a line, and prints it. A line without the number of pieces or the length that is lent is refused.
 pub(crate) fn run<R: Print + AllocGlobal>(rt: &R, line: &str) -> io::Result<()> {
     let alloc = rt.alloc();
     let mut parts = line.split(';');
@@ -71,6 +71,7 @@ pub(crate) fn run<R: Print + AllocGlobal>(rt: &R, line: &str) -> io::Result<()> 
     show(rt, name, &plan, laid.is_some())
 }
 
+// How a large plan is laid.
 fn laying(rule: Rule, pieces: u16) -> Laying {
     Laying {
         rule,

@@ -8,20 +8,22 @@ enum Damage {
     Nothing,
     // One end more.
     OddEnds,
-    // No piece, or one; 1,001.
+    // No piece, or one.
     FewPieces,
+    // 1,001.
     ManyPieces,
-    // Ends that are no pieces; tabs from a piece to itself; both.
+    // Ends that are no pieces.
     NoPieces,
+    // Tabs from a piece to itself.
     Loops,
     LoopsAndNoPieces,
     // Too little space.
     ShortTable,
-    // One of the slugs is another number; and tabs from a piece to itself, or no piece is kept.
+    // One of the slugs is another number.
     WrongSlug,
     LoopsAndWrongSlug,
     NoneKeptAndWrongSlug,
-    // No piece is kept, or one.
+    // No piece is kept.
     NoneKept,
     OneKept,
 }
@@ -75,7 +77,7 @@ impl Damage {
     }
 }
 
-// A random plan. It has two less tabs than pieces at least. The lent table is one number too short, or has up to three more than are needed.
+// A random plan. It has two less tabs than pieces at least. The lent table has up to three numbers more than are needed, or is one too short.
 pub(crate) fn plan(alloc: Global, number: u32) -> Result<Plan, AllocError> {
     let seed = Seed(number);
     let damage = Damage::drawn(seed);
@@ -117,7 +119,7 @@ fn slugs(alloc: Global, seed: Seed, size: u16, damage: Damage) -> Result<Vec<u16
     Ok(slugs)
 }
 
-// Which pieces are slugs: all; none; one; some, told by the bits of a number; some, and piece 0; all but one; all but two.
+// Which pieces are slugs. Some are told by the bits of a number.
 #[derive(Clone, Copy)]
 enum Choice {
     All,

@@ -14,7 +14,7 @@ pub(crate) enum Reason {
     ShortTable = 6,
     Slug = 18,
     FewKept = 19,
-    // No number of the documents.
+    // A number that no document has: such an answer is a difference.
     Unknown = 99,
 }
 
@@ -63,6 +63,7 @@ impl fmt::Display for Refusal {
 pub(crate) fn groups(plan: &Plan, table: &mut [u16]) -> Result<(), Refusal> {
     let pieces = usize::from(plan.pieces);
     admit(plan, table.len())?;
+    // `held` tells of 8 pieces, which is as many as there are.
     let lowest = held(plan).lowest;
     for (number, &lowest) in table.iter_mut().zip(&lowest[..pieces.min(8)]) {
         *number = lowest;
@@ -125,7 +126,7 @@ fn admit_slugs(plan: &Plan) -> Result<(), Refusal> {
     Ok(())
 }
 
-// The pieces in parts: for each the lowest one of its part.
+// 8 pieces in parts: for each the lowest one of its part.
 #[derive(Clone, Copy)]
 struct Parts {
     lowest: [u16; 8],
@@ -138,7 +139,7 @@ impl Parts {
         lowest: [0, 1, 2, 3, 4, 5, 6, 7],
     };
 
-    // Makes one part of the parts of two pieces.
+    // Makes one part of the parts of two pieces. What is no piece stays out.
     fn join(&mut self, a: u16, b: u16) {
         let (Some(&p), Some(&q)) = (
             self.lowest.get(usize::from(a)),

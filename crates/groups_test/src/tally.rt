@@ -5,6 +5,9 @@ use crate::table::{Numbers, UNTOUCHED, fingerprint, groups};
 use crate::{library, second};
 use std::{fmt, io};
 
+// How long the table of a plan is, which is not lent whole.
+const TABLE: usize = 12;
+
 #[derive(Default, Drop)]
 pub(crate) struct Tally {
     // Of all answers and tables.
@@ -19,12 +22,13 @@ pub(crate) struct Tally {
 }
 
 impl Tally {
+    // Runs both, counts what the library answered, and shows a difference.
     pub(crate) fn try_plan(&mut self, rt: &impl Print, plan: &Plan) -> io::Result<()> {
-        let lent = plan.lent.min(12);
-        let mut table = [UNTOUCHED; 12];
+        let lent = plan.lent.min(TABLE);
+        let mut table = [UNTOUCHED; TABLE];
         let answer = library::groups(plan, &mut table[..lent]);
         self.note(plan, answer, &table);
-        let mut due = [UNTOUCHED; 12];
+        let mut due = [UNTOUCHED; TABLE];
         let expected = second::groups(plan, &mut due[..lent]);
         if answer != expected || table != due {
             self.differences = self.differences.wrapping_add(1);
@@ -33,7 +37,7 @@ impl Tally {
         Ok(())
     }
 
-    fn note(&mut self, plan: &Plan, answer: Result<(), Refusal>, table: &[u16; 12]) {
+    fn note(&mut self, plan: &Plan, answer: Result<(), Refusal>, table: &[u16]) {
         let code = answer.map_or_else(Refusal::code, |_| 0);
         self.fingerprint = fingerprint(self.fingerprint.wrapping_add(code), table);
         match answer {
