@@ -119,14 +119,14 @@ fn slugs(alloc: Global, seed: Seed, size: u16, damage: Damage) -> Result<Vec<u16
     Ok(slugs)
 }
 
-// Which pieces are slugs. Some are told by the bits of a number.
+// Which pieces are slugs. Several are told by the bits of a number.
 #[derive(Clone, Copy)]
 enum Choice {
     All,
     Nothing,
     One(u16),
-    Some(u16),
-    SomeAndFirst(u16),
+    Several(u16),
+    SeveralAndFirst(u16),
     AllButOne(u16),
     AllButTwo(u16, u16),
 }
@@ -139,15 +139,15 @@ impl Choice {
             u32::from(piece) + 1 + u32::from(seed.draw(31, size / 2)),
             size,
         );
-        let some = seed.draw(32, 256) & seed.draw(33, 256);
+        let several = seed.draw(32, 256) & seed.draw(33, 256);
         match damage {
             Damage::NoneKept | Damage::NoneKeptAndWrongSlug => Choice::All,
             Damage::OneKept => Choice::AllButOne(piece),
             _ => match seed.draw(34, 6) {
                 0 | 1 => Choice::Nothing,
                 2 => Choice::One(piece),
-                3 => Choice::Some(some),
-                4 => Choice::SomeAndFirst(some),
+                3 => Choice::Several(several),
+                4 => Choice::SeveralAndFirst(several),
                 _ => Choice::AllButTwo(piece, other),
             },
         }
@@ -158,8 +158,8 @@ impl Choice {
             Choice::All => true,
             Choice::Nothing => false,
             Choice::One(slug) => piece == slug,
-            Choice::Some(bits) => has_bit(bits, piece),
-            Choice::SomeAndFirst(bits) => piece == 0 || has_bit(bits, piece),
+            Choice::Several(bits) => has_bit(bits, piece),
+            Choice::SeveralAndFirst(bits) => piece == 0 || has_bit(bits, piece),
             Choice::AllButOne(kept) => piece != kept,
             Choice::AllButTwo(kept, other) => piece != kept && piece != other,
         }
