@@ -1,11 +1,14 @@
 // The cases of the table: a line each.
-use crate::{plan, show, trial};
+use crate::library;
+use crate::plan::{Laying, Plan, Rule, Seed};
+use crate::table::{Numbers, UNTOUCHED, fingerprint, groups};
+use std::alloc::{AllocError, Global};
 use std::io;
 
 // The number that a byte stands for.
 fn worth(byte: u8) -> u16 {
     match byte {
-        b'a'..=b'h' => (byte % 87) as u16,
+        b'a'..=b'h' => u16::from(byte - b'a') + 10,
         b'l' => 999,
         b'm' => 1000,
         b'n' => 1001,
@@ -13,82 +16,84 @@ fn worth(byte: u8) -> u16 {
         b't' => 2000,
         b'w' => 4000,
         b'x' => 4001,
-        b'R' => plan::RING,
-        b'S' => plan::SCATTERED,
-        b'B' => plan::BLOBS,
-        _ => (byte % 48) as u16,
+        _ => u16::from(byte % 48), // a digit
     }
 }
 
-// Takes up a byte of a line. `at` is 0 while its name is read, which is shown, and then the place of the next number; so is what comes back.
-// Place 0 tells where the slugs begin.
-pub(crate) fn take(
-    rt: &impl Print,
-    byte: u8,
-    at: usize,
-    numbers: &mut [u16; 64],
-) -> io::Result<usize> {
-    if byte == b'\n' {
-        run(rt, numbers, at)?;
-        show::byte(rt, b'\n')?;
-        return Ok(0);
-    }
-    if at != 0 {
-        return Ok(put(byte, at, numbers));
-    }
-    if byte == b';' {
-        numbers[0] = UNKNOWN;
-        return Ok(1);
-    }
-    show::byte(rt, byte)?;
-    Ok(0)
+// The numbers of a part of a line.
+fn numbers(alloc: Global, text: &str) -> Result<Vec<u16>, AllocError> {
+    text.bytes()
+        .filter(|byte| *byte != b' ')
+        .map(worth)
+        .collect(alloc)
 }
 
-// Behind the pieces and the length no slugs have begun yet.
-const UNKNOWN: u16 = 65535;
-
-const NONE: u16 = 64;
-
-// A blank stands for nothing, and a semicolon behind the ends for the place that it has.
-fn put(byte: u8, at: usize, numbers: &mut [u16; 64]) -> usize {
-    if byte == b';' {
-        numbers[0] = begun(numbers[0], at);
-        return at;
+// The rule that a letter names.
+fn rule(letter: &str) -> Option<Rule> {
+    match letter {
+        "R" => Some(Rule::Ring),
+        "S" => Some(Rule::Single),
+        "B" => Some(Rule::Blobs),
+        _ => None,
     }
-    if byte == b' ' {
-        return at;
-    }
-    if at < 64 {
-        numbers[at] = worth(byte);
-        return at + 1;
-    }
-    at
 }
 
-// Where the slugs begin after one semicolon more.
-fn begun(before: u16, at: usize) -> u16 {
-    if before == UNKNOWN {
-        NONE
+// The rule of a large plan, and by how many tabs it is laid.
+fn laid(tabs: &str) -> Option<(Rule, u16)> {
+    let (letter, count) = tabs.split_once(' ')?;
+    let rule = rule(letter)?;
+    let count = count.bytes().next()?;
+    Some((rule, worth(count)))
+}
+
+// Runs the case of a line, and prints it. A line without the number of pieces or the length that is lent is refused.
+pub(crate) fn run<R: Print + AllocGlobal>(rt: &R, line: &str) -> io::Result<()> {
+    let alloc = rt.alloc();
+    let mut parts = line.split(';');
+    let name = parts.next().unwrap_or("");
+    let sizes = numbers(alloc, parts.next().unwrap_or(""))?;
+    let tabs = parts.next().unwrap_or("").trim();
+    let slugs = numbers(alloc, parts.next().unwrap_or(""))?;
+    let &[pieces, lent] = sizes.as_slice() else {
+        return Err(io::Error::from(io::ErrorKind::InvalidData));
+    };
+    let laid = laid(tabs);
+    let ends = match laid {
+        Some((rule, count)) => laying(rule, pieces).ends(alloc, count)?,
+        None => numbers(alloc, tabs)?,
+    };
+    let plan = Plan {
+        pieces,
+        ends,
+        slugs,
+        lent: usize::from(lent),
+    };
+    show(rt, name, &plan, laid.is_some())
+}
+
+// How a large plan is laid.
+fn laying(rule: Rule, pieces: u16) -> Laying {
+    Laying {
+        rule,
+        pieces,
+        seed: Seed(7),
+    }
+}
+
+// The answer and the lent table.
+fn show<R: Print + AllocGlobal>(rt: &R, name: &str, plan: &Plan, is_large: bool) -> io::Result<()> {
+    let mut table = vec![in rt.alloc(); UNTOUCHED; plan.lent]?;
+    match library::groups(plan, &mut table) {
+        Ok(()) => print!(rt; "{name}: 0 0")?,
+        Err(refusal) => print!(rt; "{name}: {refusal}")?,
+    }
+    let table = table.as_slice();
+    if is_large {
+        let groups = groups(table);
+        let fingerprint = fingerprint(0, table);
+        println!(rt; "; groups {groups}, fingerprint {fingerprint}")
     } else {
-        (at % 65) as u16
-    }
-}
-
-fn run(rt: &impl Print, numbers: &[u16; 64], at: usize) -> io::Result<()> {
-    let rule = numbers[3];
-    let begin = trial::wide(numbers[0]);
-    let end = if begin < at { begin } else { at };
-    let excluded = trial::part(numbers, end, at);
-    if end == 5 && plan::RING <= rule {
-        trial::large(rt, numbers[1], numbers[2], rule, numbers[4], excluded)
-    } else {
-        trial::told(
-            rt,
-            numbers[1],
-            numbers[2],
-            trial::part(numbers, 3, end),
-            excluded,
-            false,
-        )
+        let numbers = Numbers(table);
+        println!(rt; ";{numbers}")
     }
 }

@@ -11,36 +11,26 @@
 #![tactic(auto)]
 
 use std::io;
+use tally::Tally;
 
 mod case; // case.rt: the cases
-mod plan; // plan.rt: large plans and random ones
+mod library; // library.rt: what the library answers
+mod plan; // plan.rt: plans, and the rules by which tabs are laid
+mod random; // random.rt: random plans
 mod second; // second.rt: the second implementation
-mod show; // show.rt: what is printed
-mod trial; // trial.rt: both on one plan
+mod table; // table.rt: what is told of a lent table
+mod tally; // tally.rt: both on one plan, and what a run has counted
 
 // How many random plans there are.
 const PLANS: u32 = 10000;
 
 fn main(rt: HostRuntime) -> io::Result<()> {
-    let mut text = [0u8; 65536];
-    let n = bytes_io::read_full(&mut rt.stdin(), &mut text)?;
-    let mut numbers = [0; 64];
-    let mut at = 0;
-    let mut i = 0;
-    while i < n {
-        at = case::take(&rt, text[i], at, &mut numbers)?;
-        i += 1;
+    for line in rt.lines(rt.alloc()) {
+        case::run(&rt, line?.as_str())?;
     }
-    compare(&rt)
-}
-
-// Both implementations on random plans.
-fn compare(rt: &impl Print) -> io::Result<()> {
-    let mut run = [0; 19];
-    let mut i: u32 = 0;
-    while i < PLANS {
-        trial::random(rt, &mut run, i)?;
-        i += 1;
+    let mut tally = Tally::default();
+    for seed in 0..PLANS {
+        tally.try_plan(&rt, &random::plan(rt.alloc(), seed)?)?;
     }
-    trial::counted(rt, &run)
+    println!(rt; "{tally}")
 }

@@ -1,189 +1,198 @@
 // A second, simple implementation, read from documents 01 and 02 alone, for plans of at most 8 pieces and 12 tabs: it tries every set of at
-// most two tabs. A number of 64 bits tells of each two pieces whether they are together: of u and v in bit v of byte u.
+// most two tabs.
+use crate::plan::Plan;
+use std::fmt;
 
-// Every piece is together with itself alone.
-const ALONE: u64 = 9241421688590303745;
-
-const ALL: u64 = 18446744073709551615;
-
-// What stands in a lent table before a call; no piece.
-pub const UNTOUCHED: u16 = 54321;
-
-// An answer, as one number.
-pub(crate) fn told(number: u16, place: usize) -> u32 {
-    (number as u32) * 65536 + ((place % 65536) as u32)
+// Why a plan is refused, by its number.
+#[derive(Clone, Copy, PartialEq, Eq)]
+pub(crate) enum Reason {
+    OddEnds = 1,
+    Pieces = 2,
+    Tabs = 3,
+    NoPiece = 4,
+    Loop = 5,
+    ShortTable = 6,
+    Slug = 18,
+    FewKept = 19,
+    // A number that no document has: such an answer is a difference.
+    Unknown = 99,
 }
 
-// What stands at a place; no piece behind the end.
-fn at(list: &[u16], i: usize) -> u16 {
-    if i < list.len() { list[i] } else { UNTOUCHED }
+impl Reason {
+    pub(crate) const ALL: [Reason; 8] = [
+        Reason::OddEnds,
+        Reason::Pieces,
+        Reason::Tabs,
+        Reason::NoPiece,
+        Reason::Loop,
+        Reason::ShortTable,
+        Reason::Slug,
+        Reason::FewKept,
+    ];
 }
 
-// The answer, where `lent` numbers are lent. So few tabs are not refused by 3.
-pub(crate) fn answer(pieces: u16, ends: &[u16], excluded: &[u16], lent: usize) -> u32 {
-    let wrong = misfit(pieces, ends);
-    let place = disorder(pieces, excluded);
-    let slugs = excluded.len();
-    if ends.len() % 2 == 1 {
-        told(1, 0)
-    } else if pieces < 2 || 1000 < pieces {
-        told(2, 0)
-    } else if wrong != 0 {
-        wrong
-    } else if place < slugs {
-        told(18, place)
-    } else if (pieces as usize) < slugs || (pieces as usize) - slugs < 2 {
-        told(19, 0)
-    } else if lent < pieces as usize {
-        told(6, 0)
-    } else {
-        0
+// A reason, and the tab or the slug that has it; 0 where the whole plan has it.
+#[derive(Clone, Copy, PartialEq, Eq)]
+pub(crate) struct Refusal {
+    pub reason: Reason,
+    pub place: usize,
+}
+
+impl Refusal {
+    // As one number, for a fingerprint.
+    pub(crate) fn code(self) -> u32 {
+        (self.reason as u32) * 65536 + (self.place % 65536) as u32
     }
 }
 
-// 4 or 5 at the first tab that has it, or 0.
-fn misfit(pieces: u16, ends: &[u16]) -> u32 {
-    let tabs = ends.len() / 2;
-    let mut e = 0;
-    while e < tabs {
-        let number = tab_number(pieces, at(ends, 2 * e), at(ends, 2 * e + 1));
-        if number != 0 {
-            return told(number, e);
+impl From<Reason> for Refusal {
+    fn from(reason: Reason) -> Refusal {
+        Refusal { reason, place: 0 }
+    }
+}
+
+impl fmt::Display for Refusal {
+    fn fmt<W: fmt::Write>(&self, f: &mut fmt::Formatter<W>) -> fmt::Result {
+        let number = self.reason as u16;
+        let place = self.place;
+        write!(f, "{number} {place}")
+    }
+}
+
+// The groups, into a table that is lent: for each piece the lowest one that is together with it. A slug is together with itself alone.
+pub(crate) fn groups(plan: &Plan, table: &mut [u16]) -> Result<(), Refusal> {
+    let pieces = usize::from(plan.pieces);
+    admit(plan, table.len())?;
+    // `held` tells of 8 pieces, which is as many as there are.
+    let lowest = held(plan).lowest;
+    for (number, &lowest) in table.iter_mut().zip(&lowest[..pieces.min(8)]) {
+        *number = lowest;
+    }
+    Ok(())
+}
+
+// The refusals. So few tabs are not refused by 3.
+fn admit(plan: &Plan, lent: usize) -> Result<(), Refusal> {
+    let pieces = usize::from(plan.pieces);
+    if plan.ends.len() % 2 == 1 {
+        return Err(Refusal::from(Reason::OddEnds));
+    }
+    if !(2..=1000).contains(&pieces) {
+        return Err(Refusal::from(Reason::Pieces));
+    }
+    admit_tabs(plan)?;
+    admit_slugs(plan)?;
+    if pieces.saturating_sub(plan.slugs.len()) < 2 {
+        return Err(Refusal::from(Reason::FewKept));
+    }
+    if lent < pieces {
+        return Err(Refusal::from(Reason::ShortTable));
+    }
+    Ok(())
+}
+
+// Both ends of a tab are pieces, and two.
+fn admit_tabs(plan: &Plan) -> Result<(), Refusal> {
+    let (tabs, _) = plan.ends.as_chunks::<2>();
+    for (place, &[a, b]) in tabs.iter().enumerate() {
+        if plan.pieces <= a || plan.pieces <= b {
+            return Err(Refusal {
+                reason: Reason::NoPiece,
+                place,
+            });
         }
-        e += 1;
-    }
-    0
-}
-
-fn tab_number(pieces: u16, a: u16, b: u16) -> u16 {
-    if pieces <= a || pieces <= b {
-        4
-    } else if a == b {
-        5
-    } else {
-        0
-    }
-}
-
-// The first place of a slug that is no piece, or not above the one before; or how many slugs there are.
-fn disorder(pieces: u16, excluded: &[u16]) -> usize {
-    let mut least: u32 = 0;
-    let mut k = 0;
-    while k < excluded.len() {
-        let v = at(excluded, k);
-        if pieces <= v || behind(v) <= least {
-            return k;
+        if a == b {
+            return Err(Refusal {
+                reason: Reason::Loop,
+                place,
+            });
         }
-        least = behind(v);
-        k += 1;
     }
-    k
+    Ok(())
 }
 
-fn behind(x: u16) -> u32 {
-    (x as u32) + 1
+// A slug is a piece, and above the one before.
+fn admit_slugs(plan: &Plan) -> Result<(), Refusal> {
+    let mut before = None;
+    for (place, &slug) in plan.slugs.iter().enumerate() {
+        if plan.pieces <= slug || before.is_some_and(|lower: u16| slug <= lower) {
+            return Err(Refusal {
+                reason: Reason::Slug,
+                place,
+            });
+        }
+        before = Some(slug);
+    }
+    Ok(())
 }
 
-// What is to stand at place v of the table: the lowest piece that is together with v; a slug is together with itself alone.
-pub(crate) fn due(pieces: u16, pairs: u64, v: u16) -> u16 {
-    if pieces <= v || pairs == 0 {
-        return UNTOUCHED;
+// 8 pieces in parts: for each the lowest one of its part.
+#[derive(Clone, Copy)]
+struct Parts {
+    lowest: [u16; 8],
+}
+
+impl Parts {
+    const WHOLE: Parts = Parts { lowest: [0; 8] };
+
+    const SINGLE: Parts = Parts {
+        lowest: [0, 1, 2, 3, 4, 5, 6, 7],
+    };
+
+    // Makes one part of the parts of two pieces. What is no piece stays out.
+    fn join(&mut self, a: u16, b: u16) {
+        let (Some(&p), Some(&q)) = (
+            self.lowest.get(usize::from(a)),
+            self.lowest.get(usize::from(b)),
+        ) else {
+            return;
+        };
+        let low = p.min(q);
+        let high = p.max(q);
+        for lowest in &mut self.lowest {
+            if *lowest == high {
+                *lowest = low;
+            }
+        }
     }
-    (u64::trailing_zeros(row(pairs, v)) % 64) as u16
+
+    // The pieces that are in one part both here and there.
+    fn common(&self, other: &Parts) -> Parts {
+        let mut common = Parts::SINGLE;
+        for piece in 0..8 {
+            for lower in 0..piece {
+                if self.lowest[lower] == self.lowest[piece]
+                    && other.lowest[lower] == other.lowest[piece]
+                {
+                    common.lowest[piece] = lower as u16;
+                    break;
+                }
+            }
+        }
+        common
+    }
 }
 
 // The pieces that are together whichever tabs are lost. The number behind the last tab stands for none.
-pub(crate) fn held(ends: &[u16], excluded: &[u16]) -> u64 {
-    let tabs = ends.len() / 2;
-    let kept = kept(ends, excluded);
-    let mut pairs = ALL;
-    let mut k = 0;
-    while k < 169 {
-        let x = k / 13;
-        let y = k % 13;
-        if x <= y && y <= tabs {
-            pairs = pairs & bodies(ends, kept & !(one(x) | one(y)));
+fn held(plan: &Plan) -> Parts {
+    let tabs = plan.ends.len() / 2;
+    let mut held = Parts::WHOLE;
+    for first in 0..=tabs {
+        for second in first..=tabs {
+            held = held.common(&bodies(plan, [first, second]));
         }
-        k += 1;
     }
-    pairs
+    held
 }
 
-// The set of one tab.
-fn one(tab: usize) -> u32 {
-    if tab < 16 { 1 << (tab as u32) } else { 0 }
-}
-
-// The tabs that hold: no slug's.
-fn kept(ends: &[u16], excluded: &[u16]) -> u32 {
-    let tabs = ends.len() / 2;
-    let mut set: u32 = 0;
-    let mut e = 0;
-    while e < tabs {
-        if !has(excluded, at(ends, 2 * e)) && !has(excluded, at(ends, 2 * e + 1)) {
-            set = set | one(e);
+// The pieces that are in one body over the tabs that are not lost. No slug's tab holds.
+fn bodies(plan: &Plan, lost: [usize; 2]) -> Parts {
+    let (tabs, _) = plan.ends.as_chunks::<2>();
+    let mut bodies = Parts::SINGLE;
+    for (tab, &[a, b]) in tabs.iter().enumerate() {
+        if !lost.contains(&tab) && !plan.slugs.contains(&a) && !plan.slugs.contains(&b) {
+            bodies.join(a, b);
         }
-        e += 1;
     }
-    set
-}
-
-fn has(list: &[u16], x: u16) -> bool {
-    let mut k = 0;
-    while k < list.len() {
-        if list[k] == x {
-            return true;
-        }
-        k += 1;
-    }
-    false
-}
-
-// The pieces that are in one body over these tabs: passes until nothing changes, which 8 pieces have after 8.
-fn bodies(ends: &[u16], live: u32) -> u64 {
-    let mut pairs = ALONE;
-    let mut turn: u16 = 0;
-    while turn < 8 {
-        let more = pass(ends, live, pairs);
-        if more == pairs {
-            return pairs;
-        }
-        pairs = more;
-        turn += 1;
-    }
-    pairs
-}
-
-// One pass over the tabs.
-fn pass(ends: &[u16], live: u32, start: u64) -> u64 {
-    let tabs = ends.len() / 2;
-    let mut pairs = start;
-    let mut e = 0;
-    while e < tabs {
-        if live & one(e) != 0 {
-            pairs = joined(pairs, at(ends, 2 * e), at(ends, 2 * e + 1));
-        }
-        e += 1;
-    }
-    pairs
-}
-
-// What is together with one of two pieces is together with both.
-fn joined(pairs: u64, a: u16, b: u16) -> u64 {
-    let both = row(pairs, a) | row(pairs, b);
-    pairs | moved(both, a) | moved(both, b)
-}
-
-// Byte v.
-fn row(pairs: u64, v: u16) -> u64 {
-    if v < 8 {
-        (pairs >> (8 * (v as u32))) % 256
-    } else {
-        0
-    }
-}
-
-// A byte at place v.
-fn moved(set: u64, v: u16) -> u64 {
-    if v < 8 { set << (8 * (v as u32)) } else { 0 }
+    bodies
 }
