@@ -60,7 +60,8 @@ fn search(
     mark(e, d, 1, &mut dead);
     let mut order = [0u16; Graph::MAX_VERTICES];
     let mut cursor = [0u16; Graph::MAX_VERTICES];
-    depth::explore(
+    // never refused: the plan is admitted, and there is room
+    let _ = depth::explore(
         vertices,
         ends,
         incident,

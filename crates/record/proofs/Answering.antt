@@ -38,7 +38,7 @@ weak_firm p = let z : ◌≡◌ {A = ℕ} 0 1 = cc in omega arith
 
 -- what the lowest cut is called
 
-none_cut : {c : Lowest} → (Ok None) ≡ Ok (Some c) → ⊥
+none_cut : {c : Lowest} → ◌≡◌ {A = Lightest} (Ok None) (Ok (Some c)) → ⊥
 none_cut p = let z : ◌≡◌ {A = ℕ} 0 1 = cc in omega arith
 
 no_cut : (o : Option (List ℕ)) → (Ok None) ≡ told_of (meaning.verdict_on o) → o ≡ none

@@ -5,6 +5,7 @@ ghost use Rattle.connectivity.specs.Plan.{plan, limits};
 ghost use Rattle.record.specs.Answered.{Answered};
 ghost use Rattle.record.specs.Standing.{Counted};
 
+use cuts::lowest::Lowest;
 use graph::{Answer, Graph};
 
 mod build; // build.rt: the tables, and walk after walk, until every edge is built
@@ -20,17 +21,8 @@ mod walk; // walk.rt: the ways up along first edges
 pub fn write_record(vertices: u16, ends: &[u16], excluded: &[u16], rows: &mut [u16]) -> Result<Option<Lowest>, Answer>
     ensures { Answered limits (plan vertices ends.now excluded.now) rows.old rows.new result }
 {
-    let made = Graph::new(vertices, ends, excluded);
-    match made {
-        Err(answer) => Err(answer),
-        Ok(graph) => write_admitted(
-            vertices,
-            ends,
-            excluded,
-            graph.kept_edges,
-            rows,
-        ),
-    }
+    let graph = Graph::new(vertices, ends, excluded)?;
+    write_admitted(vertices, ends, excluded, graph.kept_edges, rows)
 }
 
 // The same of an admitted plan, of which so many edges are kept.

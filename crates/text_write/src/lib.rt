@@ -17,11 +17,8 @@ use text::{ANSWER_SIZE, HEADER, SHORTEST, WIDTH};
 pub fn write_plan(vertices: u16, ends: &[u16], excluded: &[u16], text: &mut [u8]) -> Result<usize, Answer>
     ensures { WritesPlan five limits (plan vertices ends.now excluded.now) text.old text.new result }
 {
-    let admission = Graph::new(vertices, ends, excluded);
-    match admission {
-        Err(answer) => Err(answer),
-        Ok(_) => write_admitted(vertices, ends, excluded, text),
-    }
+    Graph::new(vertices, ends, excluded)?;
+    write_admitted(vertices, ends, excluded, text)
 }
 
 // The same of an admitted plan.
