@@ -54,10 +54,10 @@ fn write_admitted(
         &mut begins,
         &mut first,
         &mut order,
-    );
-    let Ok(None) = found else {
-        return found;
-    };
+    )?;
+    if let Some(cut) = found {
+        return Ok(Some(cut));
+    }
     // The last group ends where the table does.
     begins[vertices as usize] = ends.len() as u16;
     build::build_record(

@@ -10,7 +10,6 @@ ghost use Rattle.verify_texts.specs.Texts.{verdict_in, judge_read, judge_texts};
 ghost use Rattle.verify_texts.specs.Table.{Holds, plan_of};
 
 use graph::{Answer, Graph};
-use text_read::VerdictRead;
 
 pub mod board; // board.rt: the check as C takes it, for a board's firmware
 
@@ -41,11 +40,8 @@ fn check_verdict(vertices: u16, ends: &[u16], excluded: &[u16], verdict: &[u8]) 
     ensures { result ≡ told_by (judge_read limits (PlanReading.read (plan vertices ends.now excluded.now)) (verdict_in five largest limits verdict.now)) }
 {
     let mut list = [0u16; 3 * Graph::MAX_EDGES];
-    let read = text_read::read_verdict(verdict, &mut list);
-    match read {
+    match text_read::read_verdict(verdict, &mut list) {
         Err(answer) => answer,
-        Ok(VerdictRead { kind, count }) => {
-            verify::check(vertices, ends, excluded, kind, &list[..count])
-        }
+        Ok(read) => verify::check(vertices, ends, excluded, read.kind, &list[..read.count]),
     }
 }

@@ -33,8 +33,8 @@ slice_bounds-write_verdict-end c =
     let fits : 3 * c.args.kept ≤ 3 * limits.edges = omega (arith, c.requires.1, edges_few drawn, c.requires.0.edges) in
     simp length-take (omega (arith, fits))
 
-pub returns-in-Err : goal.returns-in-Err
-returns-in-Err c = never_refused c.requires.0 size c.verdict-found.ensures c.in-Err.is
+pub returns-in-Refused : goal.returns-in-Refused
+returns-in-Refused c = never_refused c.requires.0 size c.verdict-found.ensures c.in-Refused.is
 
 pub returns-in-Weak : goal.returns-in-Weak
 returns-in-Weak c =

@@ -14,20 +14,20 @@ use Rattle.verify_texts.proofs.check_verdict.Goals as goal
 
 pub slice_bounds-list-end : goal.slice_bounds-list-end
 slice_bounds-list-end c =
-    let stored : let list = c.read_verdict-read.new.list in let count = c.in-Ok.count in (count ≤ length list) × (verdict_in five largest limits c.args.verdict.now ≡ VerdictReading.read c.in-Ok.kind (take count list)) = verdict_stored five largest limits _ _ _ _ c.read_verdict-read.ensures (omega (arith, length-replicate {A = ℕ} (3 * limits.edges) 0)) (omega (arith, length-replicate {A = ℕ} (3 * limits.edges) 0)) _ _ c.in-Ok.is in
+    let stored : let list = c.read_verdict.new.list in let count = c.in-Ok.read.count in (count ≤ length list) × (verdict_in five largest limits c.args.verdict.now ≡ VerdictReading.read c.in-Ok.read.kind (take count list)) = verdict_stored five largest limits _ _ _ _ c.read_verdict.ensures (omega (arith, length-replicate {A = ℕ} (3 * limits.edges) 0)) (omega (arith, length-replicate {A = ℕ} (3 * limits.edges) 0)) _ _ c.in-Ok.is in
     omega (arith, stored.0)
 
 pub slice_bounds-check-end : goal.slice_bounds-check-end
 slice_bounds-check-end c =
-    let stored : let list = c.read_verdict-read.new.list in let count = c.in-Ok.count in (count ≤ length list) × (verdict_in five largest limits c.args.verdict.now ≡ VerdictReading.read c.in-Ok.kind (take count list)) = verdict_stored five largest limits _ _ _ _ c.read_verdict-read.ensures (omega (arith, length-replicate {A = ℕ} (3 * limits.edges) 0)) (omega (arith, length-replicate {A = ℕ} (3 * limits.edges) 0)) _ _ c.in-Ok.is in
+    let stored : let list = c.read_verdict.new.list in let count = c.in-Ok.read.count in (count ≤ length list) × (verdict_in five largest limits c.args.verdict.now ≡ VerdictReading.read c.in-Ok.read.kind (take count list)) = verdict_stored five largest limits _ _ _ _ c.read_verdict.ensures (omega (arith, length-replicate {A = ℕ} (3 * limits.edges) 0)) (omega (arith, length-replicate {A = ℕ} (3 * limits.edges) 0)) _ _ c.in-Ok.is in
     simp length-take (omega (arith, stored.0))
 
 pub returns-in-Err : goal.returns-in-Err
-returns-in-Err c = verdict-refused five largest limits _ _ _ _ c.read_verdict-read.ensures (omega (arith, length-replicate {A = ℕ} (3 * limits.edges) 0)) (omega (arith, length-replicate {A = ℕ} (3 * limits.edges) 0)) _ _ c.in-Err.is
+returns-in-Err c = verdict-refused five largest limits _ _ _ _ c.read_verdict.ensures (omega (arith, length-replicate {A = ℕ} (3 * limits.edges) 0)) (omega (arith, length-replicate {A = ℕ} (3 * limits.edges) 0)) _ _ c.in-Err.is
 
 pub returns-in-Ok : goal.returns-in-Ok
 unfolding judge_read
 returns-in-Ok c =
-    let stored : let list = c.read_verdict-read.new.list in let count = c.in-Ok.count in (count ≤ length list) × (verdict_in five largest limits c.args.verdict.now ≡ VerdictReading.read c.in-Ok.kind (take count list)) = verdict_stored five largest limits _ _ _ _ c.read_verdict-read.ensures (omega (arith, length-replicate {A = ℕ} (3 * limits.edges) 0)) (omega (arith, length-replicate {A = ℕ} (3 * limits.edges) 0)) _ _ c.in-Ok.is in
+    let stored : let list = c.read_verdict.new.list in let count = c.in-Ok.read.count in (count ≤ length list) × (verdict_in five largest limits c.args.verdict.now ≡ VerdictReading.read c.in-Ok.read.kind (take count list)) = verdict_stored five largest limits _ _ _ _ c.read_verdict.ensures (omega (arith, length-replicate {A = ℕ} (3 * limits.edges) 0)) (omega (arith, length-replicate {A = ℕ} (3 * limits.edges) 0)) _ _ c.in-Ok.is in
     let drawn = PlanReading.read (plan c.args.vertices c.args.ends.now c.args.excluded.now) in
     c.check.ensures ∙ sym (ap (λ (x : VerdictReading). told_by (judge_read limits drawn x)) stored.1)

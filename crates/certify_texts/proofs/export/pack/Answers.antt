@@ -8,5 +8,5 @@ use Rattle.certify_texts.proofs.export.pack.Goals as goal
 pub returns-in-Weak : goal.returns-in-Weak
 returns-in-Weak c = c.join.ensures ∙ sym (ap (λ (o : Outcome). packed (handed_by o c.args.found.cut)) c.in-Weak.is)
 
-pub returns-in-Err : goal.returns-in-Err
-returns-in-Err c = c.join-in-Err.ensures ∙ sym (ap (λ (o : Outcome). packed (handed_by o c.args.found.cut)) c.in-Err.is)
+pub returns-in-Refused : goal.returns-in-Refused
+returns-in-Refused c = c.join-in-Refused.ensures ∙ sym (ap (λ (o : Outcome). packed (handed_by o c.args.found.cut)) c.in-Refused.is)
