@@ -78,30 +78,31 @@ impl Case<'_> {
             b't' => line(rt, self.text),
             b'p' => self.read_plan(rt),
             b'v' => self.read_verdict(rt),
-            letter => self.write(rt, letter),
+            b'P' => self.write(rt, write_plan),
+            _ => self.write(rt, text_write::write_verdict),
         }
     }
 
     fn read_plan(&self, rt: &impl Print) -> io::Result<()> {
         let mut table = [9; 8];
-        admission(
-            rt,
-            text_read::read_plan(self.text, &mut table[..self.space % 9]),
-        )?;
+        let answer = text_read::read_plan(self.text, &mut table[..self.space % 9]);
+        admission(rt, answer)?;
         memory(rt, &table)
     }
 
     fn read_verdict(&self, rt: &impl Print) -> io::Result<()> {
         let mut list = [9; 8];
-        verdict_read(
-            rt,
-            text_read::read_verdict(self.text, &mut list[..self.space % 9]),
-        )?;
+        let answer = text_read::read_verdict(self.text, &mut list[..self.space % 9]);
+        verdict_read(rt, answer)?;
         memory(rt, &list)
     }
 
-    // Writes what the numbers of the text say: behind the pieces, or the kind, the list.
-    fn write(&self, rt: &impl Print, letter: u8) -> io::Result<()> {
+    // Calls an entry that writes what the numbers of the text say: the pieces of a plan, or the kind of a verdict, and behind it the list.
+    fn write<F>(&self, rt: &impl Print, entry: F) -> io::Result<()>
+    where
+        F: FnOnce(u16, &[u16], &mut [u8]) -> Written,
+        requires { F.IsAlwaysCallable entry }
+    {
         let mut numbers = [0; 12];
         for (x, columns) in numbers.iter_mut().zip(self.text.chunks(5)) {
             *x = number(columns);
@@ -109,10 +110,8 @@ impl Case<'_> {
         let first = numbers[0];
         let list = numbers.get(1..self.text.len() / 5).unwrap_or(&numbers);
         let mut bytes = [b'.'; 56];
-        written(
-            rt,
-            entry(letter, first, list, &mut bytes[..self.space % 57]),
-        )?;
+        let answer = entry(first, list, &mut bytes[..self.space % 57]);
+        written(rt, answer)?;
         line(rt, &bytes)
     }
 }
@@ -123,15 +122,6 @@ fn number(columns: &[u8]) -> u16 {
         0,
         |x: u16, byte| (x % 6554 * 10).wrapping_add(u16::from(byte % 16)),
     )
-}
-
-// Calls the entry that writes a plan, or the one that writes a verdict.
-fn entry(letter: u8, first: u16, list: &[u16], text: &mut [u8]) -> Written {
-    if letter == b'P' {
-        write_plan(first, list, text)
-    } else {
-        text_write::write_verdict(first, list, text)
-    }
 }
 
 // The list has how many ends there are, the ends, and behind them the slugs; all of it stands for a part that it does not have.
