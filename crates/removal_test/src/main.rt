@@ -5,7 +5,7 @@
 // A digit stands for itself, a letter for a larger number (`worth`). A letter in place of the ends stands for a rule that gives them (`Rule`).
 #![tactic(auto)]
 
-use removal::Removed;
+use removal::{Fallen, Removed};
 use rule::Rule;
 use std::alloc::{AllocError, Global};
 use std::io;
@@ -133,7 +133,7 @@ fn tell(rt: &impl Print, removed: &Removed) -> io::Result<()> {
         print!(rt; ", fall {count}:")?;
     }
     let words = removed.fallen.words;
-    for v in 0..1024 {
+    for v in 0..64 * Fallen::WORDS {
         if words[v / 64] >> (v % 64) & 1 == 1 {
             print!(rt; " {v}")?;
         }
