@@ -1,6 +1,6 @@
 // One call for each case. What was lent is shown behind it: a table that the call may write, from left to right.
 use crate::case::Case;
-use crate::plan::{Plan, Rule};
+use crate::plan::{Listed, Plan, Rule};
 use crate::trial::Run;
 use crate::{show, told};
 use std::io;
@@ -187,8 +187,11 @@ pub(crate) fn below(rt: &impl Print, case: &Case) -> io::Result<()> {
 
 // What is tried on random plans, on a large one.
 pub(crate) fn large(rt: &(impl Print + AllocGlobal), case: &Case) -> io::Result<()> {
-    let mut run = Run::default();
+    let alloc = rt.alloc();
+    let seed = 7;
     let rule = Rule::from(case.number(1));
-    run.try_large(rt.alloc(), case.number(0), rule, &case.list(3)?)?;
+    let listed = Listed::large(alloc, case.number(0), rule, case.list(3)?, seed)?;
+    let mut run = Run::default();
+    run.try_plan(alloc, listed.plan(), seed)?;
     print!(rt; "{run}")
 }

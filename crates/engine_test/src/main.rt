@@ -16,6 +16,7 @@
 // blank for nothing. Behind what is answered comes each table that the call may write, as it is then.
 #![tactic(auto)]
 
+use plan::Listed;
 use std::io;
 use std::io::Read;
 use trial::Run;
@@ -49,7 +50,8 @@ fn main(rt: HostRuntime) -> io::Result<()> {
 fn compare(rt: &(impl Print + AllocGlobal)) -> io::Result<()> {
     let mut run = Run::default();
     for seed in 0..PLANS {
-        run.try_random(rt.alloc(), seed)?;
+        let listed = Listed::random(rt.alloc(), seed)?;
+        run.try_plan(rt.alloc(), listed.plan(), seed)?;
     }
     println!(rt; "random plans{run}")
 }

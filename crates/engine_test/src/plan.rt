@@ -1,7 +1,6 @@
 // Plans to try all on: large ones, and random ones of up to ten pieces and sixteen tabs, of which some pieces are slugs.
 ghost use Rattle.std.specs.Prelude.{◌≤◌};
 
-use crate::trial::Run;
 use std::alloc::{AllocError, Global};
 
 // A plan: how many vertices it has, two ends for each edge, and the excluded vertices.
@@ -27,6 +26,49 @@ impl Listed {
             ends: &self.ends,
             excluded: &self.excluded,
         }
+    }
+
+    // A large plan.
+    pub(crate) fn large(
+        alloc: Global,
+        vertices: u16,
+        rule: Rule,
+        excluded: Vec<u16>,
+        seed: u32,
+    ) -> Result<Listed, AllocError> {
+        let tabs = match rule {
+            Rule::Backwards => 999,
+            Rule::TooMany => 4001,
+            Rule::Doubled => 1998,
+            _ => 4000,
+        };
+        let laying = Laying {
+            rule,
+            pieces: vertices,
+            seed,
+        };
+        Ok(Listed {
+            vertices,
+            ends: laying.ends(alloc, tabs)?,
+            excluded,
+        })
+    }
+
+    // A random plan.
+    pub(crate) fn random(alloc: Global, seed: u32) -> Result<Listed, AllocError> {
+        let pieces = 2 + draw(seed, 1, 9);
+        let rule = Rule::from(draw(seed, 2, 9));
+        let tabs = draw(seed, 3, 17).min(16);
+        let a = draw(seed, 4, pieces / 2) % 5;
+        let step = 1 + draw(seed, 5, 2) % 2;
+        let slugs = [a, a + step, a + 2 * step, a + 3 * step];
+        let k = usize::from(draw(seed, 6, 5) % 5);
+        let laying = Laying { rule, pieces, seed };
+        Ok(Listed {
+            vertices: pieces,
+            ends: laying.ends(alloc, tabs)?,
+            excluded: slugs[..k].to_vec(alloc)?,
+        })
     }
 }
 
@@ -132,50 +174,5 @@ impl Laying {
     // A random number for a tab.
     fn draw(self, from: u16, tab: u16, bound: u16) -> u16 {
         draw(self.seed, u32::from(from) + u32::from(tab), bound)
-    }
-}
-
-impl Run {
-    // Tries a large plan.
-    pub(crate) fn try_large(
-        &mut self,
-        alloc: Global,
-        pieces: u16,
-        rule: Rule,
-        excluded: &[u16],
-    ) -> Result<(), AllocError> {
-        let seed = 7;
-        let tabs = match rule {
-            Rule::Backwards => 999,
-            Rule::TooMany => 4001,
-            Rule::Doubled => 1998,
-            _ => 4000,
-        };
-        let laying = Laying { rule, pieces, seed };
-        let ends = laying.ends(alloc, tabs)?;
-        let plan = Plan {
-            vertices: pieces,
-            ends: &ends,
-            excluded,
-        };
-        self.try_plan(alloc, plan, seed)
-    }
-
-    // Tries a random plan.
-    pub(crate) fn try_random(&mut self, alloc: Global, seed: u32) -> Result<(), AllocError> {
-        let pieces = 2 + draw(seed, 1, 9);
-        let rule = Rule::from(draw(seed, 2, 9));
-        let laying = Laying { rule, pieces, seed };
-        let ends = laying.ends(alloc, draw(seed, 3, 17).min(16))?;
-        let a = draw(seed, 4, pieces / 2) % 5;
-        let step = 1 + draw(seed, 5, 2) % 2;
-        let slugs = [a, a + step, a + 2 * step, a + 3 * step];
-        let k = usize::from(draw(seed, 6, 5) % 5);
-        let plan = Plan {
-            vertices: pieces,
-            ends: &ends,
-            excluded: &slugs[..k],
-        };
-        self.try_plan(alloc, plan, seed)
     }
 }
