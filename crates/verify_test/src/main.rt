@@ -65,7 +65,7 @@ impl Case {
 // The number that a byte stands for.
 fn worth(byte: u8) -> u16 {
     match byte {
-        b'0'..=b'9' => (byte - b'0') as u16,
+        b'0'..=b'9' => u16::from(byte - b'0'),
         b'a' => 10,
         b'b' => 11,
         b'm' => 1000,
@@ -77,55 +77,48 @@ fn worth(byte: u8) -> u16 {
     }
 }
 
-// The numbers of a field, at most so many; none where the line has no such field. What parts the fields, and a blank, stands for nothing.
-fn numbers(alloc: Global, field: Option<&[u8]>, most: usize) -> Result<Vec<u16>, AllocError> {
-    let field = field.unwrap_or(&[]);
-    let digits = field
-        .iter()
-        .copied()
-        .filter(|byte| *byte != b' ' && *byte != b';');
-    digits.map(worth).take(most).collect(alloc)
+// The numbers of a field, at most so many. What parts the fields, and a blank, stands for nothing.
+fn numbers(alloc: Global, field: &[u8], most: usize) -> Result<Vec<u16>, AllocError> {
+    let digits = field.iter().filter(|byte| !matches!(**byte, b' ' | b';'));
+    digits.map(|byte| worth(*byte)).take(most).collect(alloc)
 }
 
 // The number of a field: the last one in it.
-fn number(field: Option<&[u8]>) -> u16 {
-    let field = field.unwrap_or(&[]);
-    field
-        .iter()
-        .rev()
-        .find(|byte| **byte != b' ')
-        .map_or(0, |byte| worth(*byte))
+fn number(field: &[u8]) -> u16 {
+    let digit = field.iter().rev().find(|byte| **byte != b' ');
+    digit.map_or(0, |byte| worth(*byte))
 }
 
 // The ends of a case, which may be many and all 0.
-fn ends(alloc: Global, field: Option<&[u8]>) -> Result<Vec<u16>, AllocError> {
+fn ends(alloc: Global, field: &[u8]) -> Result<Vec<u16>, AllocError> {
     let many = field
-        .unwrap_or(&[])
         .iter()
-        .copied()
-        .map(worth)
         .rev()
+        .map(|byte| worth(*byte))
         .find(|x| *x / 8000 == 1);
     match many {
-        Some(count) => vec![in alloc; 0; count as usize],
+        Some(count) => vec![in alloc; 0; usize::from(count)],
         None => numbers(alloc, field, LONGEST),
     }
 }
 
+// A field of a line: the name, the vertices, the ends, the kind, the list of the verdict, the excluded vertices. Nothing where the line has fewer.
+fn field(line: &[u8], i: usize) -> &[u8] {
+    line.splitn(6, |byte| *byte == b';').nth(i).unwrap_or(&[])
+}
+
 // Shows the name of a case, and how it is answered. A line that is cut off where the input ends has only a name.
 fn run(rt: &(impl Print + AllocGlobal), line: &[u8]) -> io::Result<()> {
-    let whole = line.strip_suffix(b"\n");
-    let mut fields = whole.unwrap_or(line).splitn(6, |byte| *byte == b';');
-    io::writer(rt).write_all(fields.next().unwrap_or(&[]))?;
-    if whole.is_none() {
-        return Ok(());
-    }
+    let Some(whole) = line.strip_suffix(b"\n") else {
+        return io::writer(rt).write_all(field(line, 0));
+    };
+    io::writer(rt).write_all(field(whole, 0))?;
     let case = Case {
-        vertices: number(fields.next()),
-        ends: ends(rt.alloc(), fields.next())?,
-        kind: number(fields.next()),
-        list: numbers(rt.alloc(), fields.next(), LONGEST)?,
-        excluded: numbers(rt.alloc(), fields.next(), MOST_EXCLUDED)?,
+        vertices: number(field(whole, 1)),
+        ends: ends(rt.alloc(), field(whole, 2))?,
+        kind: number(field(whole, 3)),
+        list: numbers(rt.alloc(), field(whole, 4), LONGEST)?,
+        excluded: numbers(rt.alloc(), field(whole, 5), MOST_EXCLUDED)?,
     };
     let answer = case.check();
     println!(rt; ": {} {}", answer.number, answer.place)
