@@ -5,26 +5,44 @@ use crate::sample::Sample;
 use crate::verdict::Kind;
 use std::alloc::{AllocError, Global};
 
-// The changes; those in a row are told with its place.
+// One of the numbers of a row.
+#[derive(Clone, Copy)]
+pub enum Part {
+    Step,
+    Edge,
+    From,
+}
+
+// The changes; `row` is the place of the row, or of the first, in which something changes.
 #[derive(Clone, Copy)]
 pub enum Change {
     Nothing,
-    // Another number, of 0 to 15, at one of the three places of a row.
-    Number(usize, u16, u16),
+    // Another number, of 0 to 15.
+    Number { row: usize, part: Part, value: u16 },
     // Two rows exchange their edges and vertices.
-    Exchange(usize, usize),
-    // A row is walked from its other end.
-    OtherEnd(usize),
-    // From a row on each step is one more, or one less.
-    StepMore(usize),
-    StepLess(usize),
-    // A row is of another edge, and walked from its first end.
-    OtherEdge(usize, u16),
+    Exchange { row: usize, other: usize },
+    // The row is walked from its other end.
+    OtherEnd { row: usize },
+    // From the row on each step is one more, or one less.
+    StepMore { row: usize },
+    StepLess { row: usize },
+    // The row is of another edge, and walked from its first end.
+    OtherEdge { row: usize, edge: u16 },
     // One vertex more, another kind, as many rows as there are edges with the excluded ones, or one number less.
     Vertices,
     Kind,
     AllRows,
     Shorter,
+}
+
+impl Part {
+    fn drawn(number: u32) -> Self {
+        match below(number, 3) {
+            0 => Part::Step,
+            1 => Part::Edge,
+            _ => Part::From,
+        }
+    }
 }
 
 impl Change {
@@ -34,18 +52,28 @@ impl Change {
         let row = usize::from(random.below(edges));
         let third = random.number();
         match way {
-            0..3 => Change::Number(row, below(third, 3), random.below(15)),
-            3 | 4 => Change::Exchange(row, usize::from(below(third, 14))),
-            5 | 6 => Change::OtherEnd(row),
-            7 if below(third, 2) == 0 => Change::StepMore(row),
-            7 => Change::StepLess(row),
+            0..3 => Change::Number {
+                row,
+                part: Part::drawn(third),
+                value: random.below(15),
+            },
+            3 | 4 => Change::Exchange {
+                row,
+                other: usize::from(below(third, 14)),
+            },
+            5 | 6 => Change::OtherEnd { row },
+            7 if below(third, 2) == 0 => Change::StepMore { row },
+            7 => Change::StepLess { row },
             8 => Change::Vertices,
             9 => match below(third, 3) {
                 0 => Change::Kind,
                 1 => Change::AllRows,
                 _ => Change::Shorter,
             },
-            _ => Change::OtherEdge(row, random.below(16)),
+            _ => Change::OtherEdge {
+                row,
+                edge: random.below(16),
+            },
         }
     }
 }
@@ -68,7 +96,7 @@ impl Change {
     ) -> Result<Changed, AllocError> {
         let mut rows = Vec::new(alloc);
         for (place, &row) in record.iter().enumerate() {
-            rows.push(self.row(record, &sample.ends, place, row))?;
+            rows.push(self.changed(record, &sample.ends, place, row))?;
         }
         let mut list = list_of(alloc, &rows)?;
         match self {
@@ -99,45 +127,45 @@ impl Change {
         }
     }
 
-    // What stands in a row's place.
-    fn row(self, record: &[Row], ends: &[u16], place: usize, row: Row) -> Row {
+    // What stands at a place of the record, where `old` stood.
+    fn changed(self, record: &[Row], ends: &[u16], place: usize, old: Row) -> Row {
         match self {
-            Change::Number(at, part, value) if at == place => numbered(row, part, value),
-            Change::Exchange(a, b) if a == place => exchanged(row, record.get(b)),
-            Change::Exchange(a, b) if b == place => exchanged(row, record.get(a)),
-            Change::OtherEnd(at) if at == place => Row {
-                from: other_end(ends, row),
-                ..row
+            Change::Number { row, part, value } if row == place => numbered(old, part, value),
+            Change::Exchange { row, other } if row == place => exchanged(old, record.get(other)),
+            Change::Exchange { row, other } if other == place => exchanged(old, record.get(row)),
+            Change::OtherEnd { row } if row == place => Row {
+                from: other_end(ends, old),
+                ..old
             },
-            Change::StepMore(first) if first <= place => Row {
-                step: row.step.saturating_add(1),
-                ..row
+            Change::StepMore { row } if row <= place => Row {
+                step: old.step.saturating_add(1),
+                ..old
             },
-            Change::StepLess(first) if first <= place => Row {
-                step: row.step.saturating_sub(1),
-                ..row
+            Change::StepLess { row } if row <= place => Row {
+                step: old.step.saturating_sub(1),
+                ..old
             },
-            Change::OtherEdge(at, edge) if at == place => Row {
+            Change::OtherEdge { row, edge } if row == place => Row {
                 edge,
                 from: get(ends, 2 * usize::from(edge)),
-                ..row
+                ..old
             },
-            _ => row,
+            _ => old,
         }
     }
 }
 
-fn numbered(row: Row, part: u16, value: u16) -> Row {
+fn numbered(row: Row, part: Part, value: u16) -> Row {
     match part {
-        0 => Row {
+        Part::Step => Row {
             step: another(row.step, value),
             ..row
         },
-        1 => Row {
+        Part::Edge => Row {
             edge: another(row.edge, value),
             ..row
         },
-        _ => Row {
+        Part::From => Row {
             from: another(row.from, value),
             ..row
         },

@@ -188,8 +188,7 @@ impl Sample {
         }
     }
 
-    // One damage, or two: one end less, another number of vertices, an end or an edge that is wrong or both, too little space, or the list of
-    // excluded vertices.
+    // One damage, or two.
     fn damage(
         &mut self,
         alloc: Global,
@@ -198,40 +197,32 @@ impl Sample {
     ) -> Result<(), AllocError> {
         let way = random.below(12);
         let number = random.number();
+        let place = below(number, 3);
         match way {
+            // one end less, another number of vertices, an end that is wrong (5: and an edge), an edge that is wrong, too little space
             0 => {
                 self.ends.pop();
             }
             1 => self.vertices = below(number, 2),
             2 => self.vertices = 1001,
-            3 => put(&mut self.ends, below(number, 28), self.vertices),
+            3 | 5 => put(&mut self.ends, below(number, 28), self.vertices),
             4 => repeat(&mut self.ends, below(number, 14)),
-            5 => {
-                put(&mut self.ends, below(number, 28), self.vertices);
-                repeat(&mut self.ends, random.below(14));
-            }
             6 => if self.kept_edges > 0 {
                 self.space = 3 * usize::from(self.kept_edges) - 1;
             },
-            11 => {
-                self.excluded = names.from(alloc, below(number, 2))?;
-                put(&mut self.excluded, 1 + 5 * below(number, 3), 0);
-            }
-            _ => self.unlist(random, way, number),
-        }
-        Ok(())
-    }
-
-    // An excluded vertex that is none; one twice; one that is not above the one before, alone or with an edge that is wrong.
-    fn unlist(&mut self, random: &mut Random, way: u16, number: u32) {
-        let place = below(number, 3);
-        match way {
+            // an excluded vertex that is none, one twice, one that is not above the one before (10: and an edge)
             7 => put(&mut self.excluded, place, self.vertices),
             8 => repeat(&mut self.excluded, place % 2),
-            _ => put(&mut self.excluded, 1 + place, 0),
+            9 | 10 => put(&mut self.excluded, 1 + place, 0),
+            // one vertex that is kept, or none, and maybe one that is not above the one before
+            _ => {
+                self.excluded = names.from(alloc, below(number, 2))?;
+                put(&mut self.excluded, 1 + 5 * place, 0);
+            }
         }
-        if way == 10 {
+        if way == 5 || way == 10 {
             repeat(&mut self.ends, random.below(14));
         }
+        Ok(())
     }
 }

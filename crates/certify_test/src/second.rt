@@ -1,13 +1,13 @@
-// A second, simple implementation of the verdict, of what falls and of the check, read from documents 01 and 02 alone: it tries every set of
-// edges, and counts everything anew at each step. It is meant for plans of at most 16 vertices and 16 edges.
+// A second, simple implementation of the verdict, of what falls and of the check (second_check.rt), read from documents 01 and 02 alone: it tries
+// every set of edges, and counts everything anew for each. It is meant for plans of at most 16 vertices and 16 edges.
 use crate::plan::Plan;
 use crate::set::Set;
 use crate::verdict::{Cut, Refusal, Rule, Verdict};
 
-// A plan that is not refused: the ends of all its edges, the vertices that are not excluded and the edges between these.
+// A plan that is not refused, with the vertices that are not excluded and the edges between these.
 #[derive(Clone, Copy)]
 pub struct Graph<'a> {
-    ends: &'a [u16],
+    plan: Plan<'a>,
     pub kept: Set,
     pub edges: Set,
 }
@@ -25,22 +25,22 @@ impl<'a> Graph<'a> {
         if ends.len() > 8000 {
             return Err(Rule::Edges.at(0));
         }
-        fit(plan.vertices, ends)?;
-        ascend(plan.vertices, plan.excluded)?;
+        plan.fits()?;
+        plan.ascends()?;
         let kept = Set::of_all(|v| v < plan.vertices && !plan.excluded.contains(&v));
         if kept.count() < 2 {
             return Err(Rule::FewKept.at(0));
         }
         let edges = Set::of_all(|edge| {
-            let both = both(ends, edge);
-            both.count() == 2 && both.without(kept) == Set::EMPTY
+            let ends = plan.ends_of(edge);
+            ends.count() == 2 && ends.without(kept) == Set::EMPTY
         });
-        Ok(Graph { ends, kept, edges })
+        Ok(Graph { plan, kept, edges })
     }
 
     // The two ends of an edge; none, if there is no such edge.
     pub fn ends_of(self, edge: u16) -> Set {
-        both(self.ends, edge)
+        self.plan.ends_of(edge)
     }
 
     // The edges that end at one of these vertices.
@@ -70,7 +70,7 @@ impl<'a> Graph<'a> {
     // One pass over the edges: both ends of one are reached if one is.
     fn pass(self, edges: Set, barred: Set, start: Set) -> Set {
         let mut set = start;
-        for edge in 0..edges_of(self.ends) {
+        for edge in 0..self.plan.edges() {
             let ends = self.ends_of(edge);
             if edges.has(edge) && ends.meets(set) && !ends.meets(barred) {
                 set = set.or(ends);
@@ -91,12 +91,12 @@ impl<'a> Graph<'a> {
 
     // The lowest edge, from one on, that parts the graph together with those that are gone, which alone don't.
     fn lowest(self, gone: Set, from: u16) -> Option<u16> {
-        (from..edges_of(self.ends)).find(|&edge| self.is_parted(gone.with(edge)))
+        (from..self.plan.edges()).find(|&edge| self.is_parted(gone.with(edge)))
     }
 
     // The lowest pair of edges that parts the graph, of which no edge does so alone.
     fn lowest_pair(self) -> Option<Cut> {
-        for first in 0..edges_of(self.ends) {
+        for first in 0..self.plan.edges() {
             if let Some(second) = self.lowest(Set::of(first), first + 1) {
                 return Some(Cut::Two(first, second));
             }
@@ -116,50 +116,54 @@ impl<'a> Graph<'a> {
     }
 }
 
-fn edges_of(ends: &[u16]) -> u16 {
-    u16::try_from(ends.len() / 2).unwrap_or(u16::MAX)
-}
-
-fn ends_at(ends: &[u16], edge: u16) -> Option<(u16, u16)> {
-    let first = 2 * usize::from(edge);
-    match ends.get(first..first + 2)? {
-        &[a, b] => Some((a, b)),
-        _ => None,
+impl Plan<'_> {
+    fn edges(self) -> u16 {
+        u16::try_from(self.ends.len() / 2).unwrap_or(u16::MAX)
     }
-}
 
-fn both(ends: &[u16], edge: u16) -> Set {
-    match ends_at(ends, edge) {
-        Some((a, b)) => Set::of(a).with(b),
-        None => Set::EMPTY,
-    }
-}
-
-// Both ends of each edge are vertices, and not the same.
-fn fit(vertices: u16, ends: &[u16]) -> Result<(), Refusal> {
-    for edge in 0..edges_of(ends) {
-        if let Some((a, b)) = ends_at(ends, edge) {
-            if a >= vertices || b >= vertices {
-                return Err(Rule::NoVertex.at(edge));
-            }
-            if a == b {
-                return Err(Rule::SameEnds.at(edge));
-            }
+    // The two ends of an edge.
+    fn pair(self, edge: u16) -> Option<(u16, u16)> {
+        let first = 2 * usize::from(edge);
+        match self.ends.get(first..first + 2)? {
+            &[a, b] => Some((a, b)),
+            _ => None,
         }
     }
-    Ok(())
-}
 
-// The excluded vertices are vertices, each above the one before.
-fn ascend(vertices: u16, excluded: &[u16]) -> Result<(), Refusal> {
-    let mut before = None;
-    for (place, &v) in excluded.iter().enumerate() {
-        if v >= vertices || before.is_some_and(|lower| v <= lower) {
-            return Err(Rule::Excluded.at((place % 65536) as u16));
+    // These as a set; none, if there is no such edge.
+    fn ends_of(self, edge: u16) -> Set {
+        match self.pair(edge) {
+            Some((a, b)) => Set::of(a).with(b),
+            None => Set::EMPTY,
         }
-        before = Some(v);
     }
-    Ok(())
+
+    // Both ends of each edge are vertices, and not the same.
+    fn fits(self) -> Result<(), Refusal> {
+        for edge in 0..self.edges() {
+            if let Some((a, b)) = self.pair(edge) {
+                if a >= self.vertices || b >= self.vertices {
+                    return Err(Rule::NoVertex.at(edge));
+                }
+                if a == b {
+                    return Err(Rule::SameEnds.at(edge));
+                }
+            }
+        }
+        Ok(())
+    }
+
+    // The excluded vertices are vertices, each above the one before.
+    fn ascends(self) -> Result<(), Refusal> {
+        let mut before = None;
+        for (place, &v) in self.excluded.iter().enumerate() {
+            if v >= self.vertices || before.is_some_and(|lower| v <= lower) {
+                return Err(Rule::Excluded.at((place % 65536) as u16));
+            }
+            before = Some(v);
+        }
+        Ok(())
+    }
 }
 
 // The verdict on a plan, where `space` numbers are lent for the record.
