@@ -36,7 +36,7 @@ fn tell(rt: &impl Print, differences: &[Difference], from: usize) -> io::Result<
 
 // All plans of one shape, and their line.
 fn test_shape(rt: &impl Print, run: &mut Run, shape: Shape) -> io::Result<()> {
-    run.tally = Tally::EMPTY;
+    run.tally = Tally::default();
     run.shape = shape;
     for plan in 0..PLANS {
         run.plan = plan;

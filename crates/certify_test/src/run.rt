@@ -7,7 +7,7 @@ use removal::Fallen;
 use std::alloc::{AllocError, Global};
 use std::fmt;
 
-#[derive(Clone, Copy)]
+#[derive(Clone, Copy, Default)]
 pub struct Fingerprint {
     hash: u32,
 }
@@ -37,7 +37,7 @@ fn count(counter: &mut u32) {
 
 // The plans of one shape: how many are firm, weak with 0, 1 and 2 edges, and refused; those with excluded vertices that are not refused; the
 // fingerprints of the verdicts, and of the records and the answers of the check.
-#[derive(Clone, Copy)]
+#[derive(Clone, Copy, Default)]
 pub struct Tally {
     pub firm: u32,
     pub parted: u32,
@@ -50,17 +50,6 @@ pub struct Tally {
 }
 
 impl Tally {
-    pub const EMPTY: Tally = Tally {
-        firm: 0,
-        parted: 0,
-        weak_by_one: 0,
-        weak_by_two: 0,
-        refused: 0,
-        excluding: 0,
-        verdicts: Fingerprint { hash: 0 },
-        records: Fingerprint { hash: 0 },
-    };
-
     pub fn add(&mut self, verdict: Result<Verdict, Refusal>, is_excluding: bool) {
         self.verdicts.add_all(&numbers(verdict));
         count(match verdict {
@@ -104,7 +93,7 @@ impl fmt::Display for Tally {
 
 // For all shapes: how often the check gave each of its answers, by their numbers, 0 for none; the writer's answers in which vertices fall, those
 // vertices, and how many of these answers have marks in each word.
-#[derive(Clone, Copy)]
+#[derive(Clone, Copy, Default)]
 pub struct Totals {
     pub answers: [u32; 20],
     pub falling: u32,
@@ -189,13 +178,8 @@ impl Run {
             random: Random::new(seed),
             shape: Shape::Dense,
             plan: 0,
-            tally: Tally::EMPTY,
-            totals: Totals {
-                answers: [0; 20],
-                falling: 0,
-                fallen: 0,
-                words: [0; Fallen::WORDS],
-            },
+            tally: Tally::default(),
+            totals: Totals::default(),
             differences: Vec::new(alloc),
         }
     }

@@ -45,7 +45,7 @@ fn cut_of(edges: Set, list: &[u16]) -> Result<Set, Refusal> {
 }
 
 // What the steps so far have built: their edges, the number of steps and of rows, and the start and the end of the last.
-#[derive(Clone, Copy)]
+#[derive(Clone, Copy, Default)]
 struct Built {
     edges: Set,
     steps: u16,
@@ -54,7 +54,7 @@ struct Built {
 }
 
 // A step, the rows of one walk: its start, its end, the edges, the vertices between and how many edges there are.
-#[derive(Clone, Copy)]
+#[derive(Clone, Copy, Default)]
 struct Step {
     start: Set,
     stop: Set,
@@ -68,12 +68,7 @@ fn check_firm(graph: Graph<'_>, length: usize, rows: &[Row]) -> Result<(), Refus
     if length != 3 * graph.edges.count() {
         return Err(Rule::Form.at(0));
     }
-    let mut built = Built {
-        edges: Set::EMPTY,
-        steps: 0,
-        rows: 0,
-        tips: None,
-    };
+    let mut built = Built::default();
     for walk in rows.chunk_by(|row, next| row.step == next.step) {
         built = more(graph, built, walk)?;
     }
@@ -103,13 +98,7 @@ fn more(graph: Graph<'_>, built: Built, walk: &[Row]) -> Result<Built, Refusal> 
 
 // The rows of a step, each with an edge that is kept and new, from one of its ends: where the row before led.
 fn walked(graph: Graph<'_>, built: Built, walk: &[Row]) -> Result<Step, Refusal> {
-    let mut step = Step {
-        start: Set::EMPTY,
-        stop: Set::EMPTY,
-        inner: Set::EMPTY,
-        edges: Set::EMPTY,
-        length: 0,
-    };
+    let mut step = Step::default();
     for row in walk {
         let place = built.rows.saturating_add(step.length);
         if row.step != built.steps {

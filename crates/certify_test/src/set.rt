@@ -1,7 +1,7 @@
 // Sets of vertices or of edges, of which there are at most 16: a number with a bit for each.
 ghost use Rattle.std.specs.Prelude.{◌<◌, ◌^◌};
 
-#[derive(Clone, Copy, PartialEq, Eq)]
+#[derive(Clone, Copy, PartialEq, Eq, Default)]
 pub struct Set {
     bits: u32,
 }
