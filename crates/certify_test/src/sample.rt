@@ -5,7 +5,8 @@ use crate::shape::Shape;
 use crate::walks::{self, Edge};
 use std::alloc::{AllocError, Global};
 
-// A plan: of its edges the first `kept_edges` of the walks are kept, and so are those rows. `space` numbers are lent for the record.
+// A plan of `edges` edges. Those of the walks come to `kept_edges`, and `rows` are their record; the others end at excluded vertices. `space`
+// numbers are lent for a record.
 #[derive(Drop)]
 pub struct Sample {
     pub vertices: u16,
@@ -41,6 +42,7 @@ pub fn of_shape(alloc: Global, random: &mut Random, shape: Shape) -> Result<Samp
     Ok(sample)
 }
 
+// How many edges there are, of which there are few.
 fn few(count: usize) -> u16 {
     u16::try_from(count).unwrap_or(u16::MAX)
 }

@@ -1,4 +1,4 @@
-// The second implementation's check of a verdict, as second.rt's verdict: of the steps so far it keeps their edges and the ends of the last alone.
+// The second implementation's check of a verdict. Of the steps that have passed it keeps their edges and the ends of the last alone.
 use crate::plan::{Plan, Row, rows_of};
 use crate::second::Graph;
 use crate::set::Set;
