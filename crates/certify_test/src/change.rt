@@ -1,163 +1,207 @@
 // The record of a plan, changed at random.
-use crate::plan::get;
-use crate::random::{below, draw, later};
+use crate::plan::{Row, list_of};
+use crate::random::{Random, below};
+use crate::sample::Sample;
+use crate::verdict::Kind;
+use std::alloc::{AllocError, Global};
 
-// There are eleven ways of changing it; this is none.
-pub const NONE: u16 = 11;
-
-// How many random numbers are drawn: the way, the row, and one or two more.
-pub(crate) fn draws_of(how: u16) -> u16 {
-    if how < 3 || how == 10 {
-        4
-    } else if how < NONE {
-        3
-    } else {
-        0
-    }
+// One of the numbers of a row.
+#[derive(Clone, Copy)]
+pub enum Part {
+    Step,
+    Edge,
+    From,
 }
 
-// What else a verdict has: the number of vertices, its kind, and how many numbers are its list.
-#[derive(Drop)]
-pub struct Sizes {
-    pub vertices: u16,
-    pub kind: u16,
-    pub length: usize,
+// The changes; `row` is the place of the row, or of the first, in which something changes.
+#[derive(Clone, Copy)]
+pub enum Change {
+    Nothing,
+    // Another number, of 0 to 15.
+    Number { row: usize, part: Part, value: u16 },
+    // Two rows exchange their edges and vertices.
+    Exchange { row: usize, other: usize },
+    // The row is walked from its other end.
+    OtherEnd { row: usize },
+    // From the row on each step is one more, or one less.
+    StepMore { row: usize },
+    StepLess { row: usize },
+    // The row is of another edge, and walked from its first end.
+    OtherEdge { row: usize, edge: u16 },
+    // One vertex more, another kind, as many rows as there are edges with the excluded ones, or one number less.
+    Vertices,
+    Kind,
+    AllRows,
+    Shorter,
 }
 
-// Those of a plan's record, or one vertex more, another kind, one number less, or as many as for all edges that are listed.
-pub(crate) fn resized(vertices: u16, edges: u16, listed: u16, how: u16, seed: u32) -> Sizes {
-    let mut sizes = Sizes {
-        vertices: vertices,
-        kind: 0,
-        length: 3 * (edges as usize),
-    };
-    if how == 8 {
-        if vertices < 13 {
-            sizes.vertices = vertices + 1;
+impl Part {
+    fn drawn(number: u32) -> Self {
+        match below(number, 3) {
+            0 => Part::Step,
+            1 => Part::Edge,
+            _ => Part::From,
         }
     }
-    if how == 9 {
-        match below(seed, 3) {
-            0 => {
-                sizes.kind = 2;
-            }
-            1 => {
-                sizes.length = 3 * (listed as usize);
-            }
-            _ => if 0 < edges {
-                sizes.length = 3 * (edges as usize) - 1;
+}
+
+impl Change {
+    // Draws the way, the row, and one or two numbers more.
+    pub fn drawn(random: &mut Random, edges: u16) -> Self {
+        let way = random.below(11);
+        let row = usize::from(random.below(edges));
+        let third = random.number();
+        match way {
+            0..3 => Change::Number {
+                row,
+                part: Part::drawn(third),
+                value: random.below(15),
+            },
+            3 | 4 => Change::Exchange {
+                row,
+                other: usize::from(below(third, 14)),
+            },
+            5 | 6 => Change::OtherEnd { row },
+            7 if below(third, 2) == 0 => Change::StepMore { row },
+            7 => Change::StepLess { row },
+            8 => Change::Vertices,
+            9 => match below(third, 3) {
+                0 => Change::Kind,
+                1 => Change::AllRows,
+                _ => Change::Shorter,
+            },
+            _ => Change::OtherEdge {
+                row,
+                edge: random.below(16),
             },
         }
     }
-    sizes
 }
 
-// Three random numbers, of which the largest is no edge.
-pub(crate) fn weak_list(edges: u16, seed: u32) -> [u16; 4] {
-    let bound = if edges < 65535 { edges + 1 } else { edges };
-    [
-        draw(seed, 1, bound),
-        draw(seed, 2, bound),
-        draw(seed, 3, bound),
-        0,
-    ]
+// What is handed to the check then: the number of vertices, a kind and a list.
+#[derive(Drop)]
+pub struct Changed {
+    pub vertices: u16,
+    pub kind: Kind,
+    pub list: Vec<u16>,
 }
 
-// The record of a plan with `edges` edges, with one change in a row or from a row on.
-pub(crate) fn changed(
-    record: &[u16; 48],
-    ends: &[u16; 48],
-    edges: u16,
-    how: u16,
-    seed: u32,
-    list: &mut [u16; 48],
-) {
-    let mut i: usize = 0;
-    while i < 48 {
-        list[i] = entry(record, ends, edges, how, seed, i);
-        i += 1;
+impl Change {
+    // A record of a plan with this change.
+    pub fn applied(
+        self,
+        alloc: Global,
+        sample: &Sample,
+        record: &[Row],
+    ) -> Result<Changed, AllocError> {
+        let mut rows = Vec::new(alloc);
+        for (place, &row) in record.iter().enumerate() {
+            rows.push(self.changed(record, &sample.ends, place, row))?;
+        }
+        let mut list = list_of(alloc, &rows)?;
+        match self {
+            Change::AllRows => list.resize(3 * usize::from(sample.edges), 0)?,
+            Change::Shorter => {
+                list.pop();
+            }
+            _ => (),
+        }
+        Ok(Changed {
+            vertices: self.vertices(sample.vertices),
+            kind: self.kind(),
+            list,
+        })
+    }
+
+    fn vertices(self, vertices: u16) -> u16 {
+        match self {
+            Change::Vertices if vertices < 13 => vertices + 1,
+            _ => vertices,
+        }
+    }
+
+    fn kind(self) -> Kind {
+        match self {
+            Change::Kind => Kind::Unknown,
+            _ => Kind::Firm,
+        }
+    }
+
+    // What stands at a place of the record, where `old` stood.
+    fn changed(self, record: &[Row], ends: &[u16], place: usize, old: Row) -> Row {
+        match self {
+            Change::Number { row, part, value } if row == place => numbered(old, part, value),
+            Change::Exchange { row, other } if row == place => exchanged(old, record.get(other)),
+            Change::Exchange { row, other } if other == place => exchanged(old, record.get(row)),
+            Change::OtherEnd { row } if row == place => Row {
+                from: other_end(ends, old),
+                ..old
+            },
+            Change::StepMore { row } if row <= place => Row {
+                step: old.step.saturating_add(1),
+                ..old
+            },
+            Change::StepLess { row } if row <= place => Row {
+                step: old.step.saturating_sub(1),
+                ..old
+            },
+            Change::OtherEdge { row, edge } if row == place => Row {
+                edge,
+                from: get(ends, 2 * usize::from(edge)),
+                ..old
+            },
+            _ => old,
+        }
     }
 }
 
-// What stands at place i then.
-fn entry(record: &[u16; 48], ends: &[u16; 48], edges: u16, how: u16, seed: u32, i: usize) -> u16 {
-    let x = draw(seed, 2, edges);
-    let third = later(seed, 3);
-    match how {
-        0 | 1 | 2 => number(get(record, i), i, x, below(third, 3), draw(third, 1, 15)),
-        3 | 4 => get(record, exchanged(i, x, below(third, 14), edges)),
-        5 | 6 => other_end(record, ends, i, x),
-        7 => step(get(record, i), i, x, below(third, 2)),
-        10 => other_edge(get(record, i), ends, i, x, draw(third, 1, 16)),
-        _ => get(record, i),
+fn numbered(row: Row, part: Part, value: u16) -> Row {
+    match part {
+        Part::Step => Row {
+            step: another(row.step, value),
+            ..row
+        },
+        Part::Edge => Row {
+            edge: another(row.edge, value),
+            ..row
+        },
+        Part::From => Row {
+            from: another(row.from, value),
+            ..row
+        },
     }
 }
 
-// Another number, of 0 to 15, at one of the three places of row x.
-fn number(old: u16, i: usize, x: u16, part: u16, value: u16) -> u16 {
-    if i != 3 * (x as usize) + (part as usize) {
-        return old;
-    }
-    if old != value {
-        return value;
-    }
-    if value < 15 { value + 1 } else { 0 }
-}
-
-// Rows x and y exchange their edges and vertices, if there is a row y: where the number at place i comes from.
-fn exchanged(i: usize, x: u16, y: u16, edges: u16) -> usize {
-    if edges <= y {
-        return i;
-    }
-    if i % 3 == 0 {
-        return i;
-    }
-    if i / 3 == (x as usize) {
-        return 3 * (y as usize) + i % 3;
-    }
-    if i / 3 == (y as usize) {
-        return 3 * (x as usize) + i % 3;
-    }
-    i
-}
-
-// Row x is walked from its other end.
-fn other_end(record: &[u16; 48], ends: &[u16; 48], i: usize, x: u16) -> u16 {
-    if i == 3 * (x as usize) + 2 {
-        end_not(ends, get(record, i - 1), get(record, i))
+// A value, or the next where that stood already.
+fn another(old: u16, value: u16) -> u16 {
+    if old == value {
+        value.saturating_add(1)
     } else {
-        get(record, i)
+        value
     }
 }
 
-// The first end of an edge that is not v.
-fn end_not(ends: &[u16; 48], e: u16, v: u16) -> u16 {
-    let i = 2 * (e as usize);
-    let first = get(ends, i);
-    if first == v { get(ends, i + 1) } else { first }
+// A row with the edge and the vertex of another, if there is one.
+fn exchanged(row: Row, other: Option<&Row>) -> Row {
+    match other {
+        Some(other) => Row {
+            step: row.step,
+            ..*other
+        },
+        None => row,
+    }
 }
 
-// Row x is of edge e, and walked from its first end.
-fn other_edge(old: u16, ends: &[u16; 48], i: usize, x: u16, e: u16) -> u16 {
-    if i == 3 * (x as usize) + 1 {
-        e
-    } else if i == 3 * (x as usize) + 2 {
-        get(ends, 2 * (e as usize))
+// The first end of a row's edge that is not its vertex.
+fn other_end(ends: &[u16], row: Row) -> u16 {
+    let first = 2 * usize::from(row.edge);
+    if get(ends, first) == row.from {
+        get(ends, first + 1)
     } else {
-        old
+        get(ends, first)
     }
 }
 
-// From row x on each step is one more, or one less.
-fn step(old: u16, i: usize, x: u16, coin: u16) -> u16 {
-    if i % 3 != 0 {
-        return old;
-    }
-    if i < 3 * (x as usize) {
-        return old;
-    }
-    if coin == 0 {
-        return if old < 65535 { old + 1 } else { old };
-    }
-    if 0 < old { old - 1 } else { old }
+fn get(list: &[u16], place: usize) -> u16 {
+    list.get(place).copied().unwrap_or(0)
 }

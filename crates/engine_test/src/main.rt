@@ -16,10 +16,14 @@
 // blank for nothing. Behind what is answered comes each table that the call may write, as it is then.
 #![tactic(auto)]
 
+use plan::Listed;
 use std::io;
+use std::io::Read;
+use trial::Run;
 
 mod show; // show.rt: what is printed
 mod case; // case.rt: the cases, read
+mod told; // told.rt: what the library answers
 mod lent; // lent.rt: one call for each
 mod plan; // plan.rt: large plans and random ones
 mod second; // second.rt: the second implementation: tables
@@ -27,36 +31,27 @@ mod second_search; // second_search.rt: searches
 mod second_labels; // second_labels.rt: labels
 mod trial; // trial.rt: both on one plan
 
+// How much of the input is read.
+const MOST: u64 = 65536;
+
 // How many random plans there are.
 const PLANS: u32 = 4000;
 
-// Both implementations on random plans.
-fn compare(rt: &impl Print) -> io::Result<()> {
-    let mut run = [0u16; 7];
-    let mut i: u32 = 0;
-    while i < PLANS {
-        plan::random(&mut run, i);
-        i += 1;
-    }
-    show::say(rt, b"random plans")?;
-    plan::shown(rt, &run)?;
-    show::byte(rt, b'\n')
-}
-
 fn main(rt: HostRuntime) -> io::Result<()> {
-    let mut space = [0u8; 65536];
-    let n = bytes_io::read_full(&mut rt.stdin(), &mut space)?;
-    lines(&rt, &space[..n])?;
+    let mut text = Vec::new(rt.alloc());
+    rt.stdin().take(MOST).read_to_end(&mut text)?;
+    for line in text.split_inclusive(|byte| *byte == b'\n') {
+        case::run(&rt, line.strip_suffix(b"\n").unwrap_or(line))?;
+    }
     compare(&rt)
 }
 
-// Runs each line as a case.
-fn lines(rt: &impl Print, text: &[u8]) -> io::Result<()> {
-    let mut begin = 0;
-    while begin < text.len() {
-        let end = case::find(text, begin, b'\n');
-        case::run(rt, &text[begin..end])?;
-        begin = end + 1;
+// Both implementations on random plans.
+fn compare(rt: &(impl Print + AllocGlobal)) -> io::Result<()> {
+    let mut run = Run::default();
+    for seed in 0..PLANS {
+        let listed = Listed::random(rt.alloc(), seed)?;
+        run.try_plan(rt.alloc(), listed.plan(), seed)?;
     }
-    Ok(())
+    println!(rt; "random plans{run}")
 }

@@ -1,8 +1,76 @@
 // Plans to try all on: large ones, and random ones of up to ten pieces and sixteen tabs, of which some pieces are slugs.
 ghost use Rattle.std.specs.Prelude.{◌≤◌};
 
-use crate::{show, trial};
-use std::io;
+use std::alloc::{AllocError, Global};
+
+// A plan: how many vertices it has, two ends for each edge, and the excluded vertices.
+#[derive(Clone, Copy)]
+pub(crate) struct Plan<'a> {
+    pub(crate) vertices: u16,
+    pub(crate) ends: &'a [u16],
+    pub(crate) excluded: &'a [u16],
+}
+
+// The same with lists of its own.
+#[derive(Drop)]
+pub(crate) struct Listed {
+    pub(crate) vertices: u16,
+    pub(crate) ends: Vec<u16>,
+    pub(crate) excluded: Vec<u16>,
+}
+
+impl Listed {
+    pub(crate) fn plan(&self) -> Plan<'_> {
+        Plan {
+            vertices: self.vertices,
+            ends: &self.ends,
+            excluded: &self.excluded,
+        }
+    }
+
+    // A large plan.
+    pub(crate) fn large(
+        alloc: Global,
+        vertices: u16,
+        rule: Rule,
+        excluded: Vec<u16>,
+        seed: u32,
+    ) -> Result<Listed, AllocError> {
+        let tabs = match rule {
+            Rule::Backwards => 999,
+            Rule::TooMany => 4001,
+            Rule::Doubled => 1998,
+            _ => 4000,
+        };
+        let laying = Laying {
+            rule,
+            pieces: vertices,
+            seed,
+        };
+        Ok(Listed {
+            vertices,
+            ends: laying.ends(alloc, tabs)?,
+            excluded,
+        })
+    }
+
+    // A random plan.
+    pub(crate) fn random(alloc: Global, seed: u32) -> Result<Listed, AllocError> {
+        let pieces = 2 + draw(seed, 1, 9);
+        let rule = Rule::from(draw(seed, 2, 9));
+        let tabs = draw(seed, 3, 17).min(16);
+        let a = draw(seed, 4, pieces / 2) % 5;
+        let step = 1 + draw(seed, 5, 2) % 2;
+        let slugs = [a, a + step, a + 2 * step, a + 3 * step];
+        let k = usize::from(draw(seed, 6, 5) % 5);
+        let laying = Laying { rule, pieces, seed };
+        Ok(Listed {
+            vertices: pieces,
+            ends: laying.ends(alloc, tabs)?,
+            excluded: slugs[..k].to_vec(alloc)?,
+        })
+    }
+}
 
 // A number below the bound; 0 if that is 0.
 fn below(x: u32, bound: u16) -> u16
@@ -11,7 +79,7 @@ fn below(x: u32, bound: u16) -> u16
     if bound == 0 {
         return 0;
     }
-    (x % (bound as u32)) as u16
+    (x % u32::from(bound)) as u16
 }
 
 // The same of the i-th random number for a seed.
@@ -22,121 +90,89 @@ pub(crate) fn draw(seed: u32, i: u32, bound: u16) -> u16
 }
 
 fn stirred(seed: u32, i: u32) -> u32 {
-    let x = (((seed as u64) * 48271 + (i as u64) * 69621 + 1) % 2147483647) as u32;
+    let x = ((u64::from(seed) * 48271 + u64::from(i) * 69621 + 1) % 2147483647) as u32;
     x ^ x / 65536
 }
 
 // The rules by which tabs are laid.
-const BACKWARDS: u16 = 0;
+#[derive(Clone, Copy)]
+pub(crate) enum Rule {
+    // a path, its tabs numbered backwards
+    Backwards,
+    Scattered,
+    // at least four bodies, where the number of pieces is a multiple of four
+    Bodies,
+    // scattered, and one too many for a plan
+    TooMany,
+    // a path of double tabs
+    Doubled,
+    Star,
+    // three tabs side by side each time
+    Tripled,
+}
 
-const SCATTERED: u16 = 1;
-
-const BODIES: u16 = 2;
-
-const TOO_MANY: u16 = 3;
-
-const DOUBLED: u16 = 4;
-
-const STAR: u16 = 5;
-
-// How many ends a large plan has.
-fn size(rule: u16) -> usize
-    ensures { result ≤ 8002 }
-{
-    match rule {
-        BACKWARDS => 1998,
-        TOO_MANY => 8002,
-        DOUBLED => 3996,
-        _ => 8000,
+impl From<u16> for Rule {
+    fn from(number: u16) -> Rule {
+        match number {
+            0 => Rule::Backwards,
+            1 => Rule::Scattered,
+            2 => Rule::Bodies,
+            3 => Rule::TooMany,
+            4 => Rule::Doubled,
+            5 => Rule::Star,
+            _ => Rule::Tripled,
+        }
     }
 }
 
-pub(crate) fn large(rt: &impl Print, pieces: u16, rule: u16, excluded: &[u16]) -> io::Result<()> {
-    let mut ends = [0u16; 8002];
-    lay(&mut ends, rule, pieces, 7);
-    let n = size(rule);
-    let mut run = [0u16; 7];
-    trial::tried(&mut run, pieces, &ends[..n], excluded, 7);
-    shown(rt, &run)
+// A random choice among so many pieces, and the rule by which tabs are laid between them.
+#[derive(Clone, Copy)]
+struct Laying {
+    rule: Rule,
+    pieces: u16,
+    seed: u32,
 }
 
-// A random plan.
-pub(crate) fn random(run: &mut [u16; 7], seed: u32) {
-    let pieces = 2 + draw(seed, 1, 9);
-    let n = length(draw(seed, 3, 17));
-    let mut ends = [0u16; 32];
-    lay(&mut ends, draw(seed, 2, 9), pieces, seed);
-    let a = draw(seed, 4, pieces / 2) % 5;
-    let step = 1 + draw(seed, 5, 2) % 2;
-    let slugs = [a, a + step, a + 2 * step, a + 3 * step];
-    let k = (draw(seed, 6, 5) % 5) as usize;
-    trial::tried(run, pieces, &ends[..n], &slugs[..k], seed);
-}
-
-// Two ends for each of so many tabs.
-fn length(tabs: u16) -> usize
-    ensures { result ≤ 32 }
-{
-    if tabs < 16 { 2 * (tabs as usize) } else { 32 }
-}
-
-// What a run has counted.
-pub(crate) fn shown(rt: &impl Print, run: &[u16; 7]) -> io::Result<()> {
-    show::say(
-        rt,
-        b": plans, refused by, in one body, labelled with slugs, searches, entered, differences",
-    )?;
-    show::numbers(rt, run)
-}
-
-fn lay(ends: &mut [u16], rule: u16, pieces: u16, seed: u32) {
-    let mut i = 0;
-    while i < ends.len() {
-        let k = (i % 8002) as u16;
-        ends[i] = laid(rule, pieces, seed, k / 2, k % 2);
-        i += 1;
+impl Laying {
+    // The ends of so many tabs.
+    fn ends(self, alloc: Global, tabs: u16) -> Result<Vec<u16>, AllocError> {
+        let mut ends = Vec::new(alloc);
+        for tab in 0..tabs {
+            let begin = self.begin(tab);
+            let step = self.step(tab);
+            ends.push(below(u32::from(begin), self.pieces))?;
+            ends.push(below(u32::from(begin) + u32::from(step), self.pieces))?;
+        }
+        Ok(ends)
     }
-}
 
-// An end of a tab.
-fn laid(rule: u16, pieces: u16, seed: u32, tab: u16, side: u16) -> u16 {
-    let a = begin(rule, pieces, seed, tab);
-    if side == 0 {
-        return below(a as u32, pieces);
+    // Where a tab begins.
+    fn begin(self, tab: u16) -> u16 {
+        match self.rule {
+            Rule::Backwards => 64998 - tab % 4001,
+            Rule::Doubled => tab / 2,
+            Rule::Star => 0,
+            Rule::Scattered | Rule::Bodies | Rule::TooMany => self.draw(10000, tab, self.pieces),
+            Rule::Tripled => self.draw(10000, tab / 3, self.pieces),
+        }
     }
-    let step = stride(rule, pieces, seed, tab);
-    below((a as u32) + (step as u32), pieces)
-}
 
-// Where a tab begins.
-fn begin(rule: u16, pieces: u16, seed: u32, tab: u16) -> u16 {
-    match rule {
-        BACKWARDS => 64998 - tab % 4001,
-        DOUBLED => tab / 2,
-        STAR => 0,
-        SCATTERED | BODIES | TOO_MANY => draw(seed, (tab as u32) + 10000, pieces),
-        _ => draw(seed, ((tab / 3) as u32) + 10000, pieces),
+    // How many pieces further it ends, less than there are. Where that is always a multiple of four, and so is the number of pieces, there are
+    // four bodies at least.
+    fn step(self, tab: u16) -> u16 {
+        let most = self.pieces.saturating_sub(1).max(1);
+        match self.rule {
+            Rule::Backwards | Rule::Doubled => 1,
+            Rule::Bodies if most < 4 => 1,
+            Rule::Bodies => self.draw(20000, tab, most / 4) % 250 * 4 + 4,
+            Rule::Scattered | Rule::TooMany => self.draw(20000, tab, most) % 1000 + 1,
+            Rule::Star => below(u32::from(tab), most) % 1000 + 1,
+            Rule::Tripled => below(u32::from(tab / 3), most) % 1000 + 1,
+        }
     }
-}
 
-// How many pieces further it ends, less than there are. Where that is always a multiple of four, and so is the number of pieces, there are four
-// bodies at least.
-fn stride(rule: u16, pieces: u16, seed: u32, tab: u16) -> u16 {
-    let most = if 1 < pieces { pieces - 1 } else { 1 };
-    let random = (tab as u32) + 20000;
-    match rule {
-        BACKWARDS | DOUBLED => 1,
-        STAR => below(tab as u32, most) % 1000 + 1,
-        BODIES => fours(draw(seed, random, most / 4), most),
-        SCATTERED | TOO_MANY => draw(seed, random, most) % 1000 + 1,
-        _ => below((tab / 3) as u32, most) % 1000 + 1,
+    // A random number for a tab.
+    fn draw(self, from: u16, tab: u16, bound: u16) -> u16 {
+        draw(self.seed, u32::from(from) + u32::from(tab), bound)
     }
-}
-
-// A multiple of four, if that is not above the most.
-fn fours(n: u16, most: u16) -> u16 {
-    if most < 4 {
-        return 1;
-    }
-    n % 250 * 4 + 4
 }

@@ -1,126 +1,106 @@
 // The second implementation: searches.
-use crate::second::{NONE, at, far, put};
+use crate::plan::Plan;
+use crate::second::Tables;
 
-// Where a search is, and how many vertices stand in the order.
+// The mark of a root.
+const ROOT: u16 = 65535;
+
+// A depth-first search of a plan over the edges that the tables list and that are not dead.
+#[derive(Clone, Copy)]
+pub(crate) struct Search<'a> {
+    pub(crate) plan: Plan<'a>,
+    pub(crate) tables: &'a Tables,
+    pub(crate) dead: &'a [u8],
+}
+
+// What a search has found: the marks of the vertices, 0 where it has not been; the vertices in order, and how many.
 #[derive(Drop)]
-pub struct Spot {
-    pub v: u16,
-    pub count: u16,
+pub(crate) struct Found {
+    pub(crate) first: Vec<u16>,
+    pub(crate) order: Vec<u16>,
+    pub(crate) count: u16,
 }
 
-// Searches from `root`, which is a vertex, depth first, over the edges that the tables list; how many then stand in the order.
-pub(crate) fn search(
-    vertices: u16,
-    ends: &[u16],
-    incident: &[u16],
-    begins: &[u16],
-    dead: &[u8],
-    root: u16,
-    seen: u16,
-    first: &mut [u16],
-    order: &mut [u16],
-) -> u16 {
-    if vertices <= seen || at(first, root as usize) != 0 {
-        return seen;
+impl Found {
+    fn is_marked(&self, v: u16) -> bool {
+        self.first.get(usize::from(v)) != Some(&0)
     }
-    let turns = 2 * (vertices as usize);
-    let mut s = entered(root, NONE, seen, first, order);
-    let mut turn = 0;
-    while turn < turns {
-        s = step(vertices, ends, incident, begins, dead, s, first, order);
-        turn += 1;
-    }
-    s.count
-}
 
-fn entered(v: u16, mark: u16, count: u16, first: &mut [u16], order: &mut [u16]) -> Spot {
-    put(first, v as usize, mark);
-    put(order, count as usize, v);
-    Spot {
-        v: v,
-        count: std::num::wrapping_add_u16(count, 1),
-    }
-}
-
-// On to the next vertex without a mark, or back.
-fn step(
-    vertices: u16,
-    ends: &[u16],
-    incident: &[u16],
-    begins: &[u16],
-    dead: &[u8],
-    s: Spot,
-    first: &mut [u16],
-    order: &mut [u16],
-) -> Spot {
-    if s.v == NONE {
-        return s;
-    }
-    let e = if s.count < vertices {
-        onward(vertices, ends, incident, begins, dead, first, s.v)
-    } else {
-        NONE
-    };
-    if e != NONE {
-        entered(far(ends, e, s.v), e + 1, s.count, first, order)
-    } else {
-        Spot {
-            v: back(ends, first, s.v),
-            count: s.count,
+    fn enter(&mut self, v: u16, mark: u16) {
+        if let Some(first) = self.first.get_mut(usize::from(v)) {
+            *first = mark;
         }
-    }
-}
-
-// The vertex from which v was entered; NONE for the root.
-fn back(ends: &[u16], first: &[u16], v: u16) -> u16 {
-    let mark = at(first, v as usize);
-    if mark == 0 {
-        return NONE;
-    }
-    far(ends, mark - 1, v)
-}
-
-// The first edge in the group of v that leads to a vertex without a mark; NONE for none.
-fn onward(
-    vertices: u16,
-    ends: &[u16],
-    incident: &[u16],
-    begins: &[u16],
-    dead: &[u8],
-    first: &[u16],
-    v: u16,
-) -> u16 {
-    let end = group_end(vertices, ends.len(), begins, v);
-    let mut i = at(begins, v as usize) as usize;
-    while i < end {
-        let e = at(incident, i);
-        if leads(vertices, ends, dead, first, e, v) {
-            return e;
+        if let Some(next) = self.order.get_mut(usize::from(self.count)) {
+            *next = v;
         }
-        i += 1;
+        self.count = self.count.wrapping_add(1);
     }
-    NONE
 }
 
-// Where the group of v ends: where the next one begins, but not behind the table.
-fn group_end(vertices: u16, size: usize, begins: &[u16], v: u16) -> usize {
-    let next = (v as usize) + 1;
-    if next < (vertices as usize) {
-        let end = at(begins, next) as usize;
-        return if end < size { end } else { size };
-    }
-    size
-}
-
-fn leads(vertices: u16, ends: &[u16], dead: &[u8], first: &[u16], e: u16, v: u16) -> bool {
-    let w = far(ends, e, v);
-    let i = e as usize;
-    if w < vertices {
-        if i < dead.len() {
-            if dead[i] == 0 {
-                return at(first, w as usize) == 0;
+impl<'a> Search<'a> {
+    // Searches from `root`, which is a vertex, behind what is found already.
+    pub(crate) fn run(&self, root: u16, found: &mut Found) {
+        if self.plan.vertices <= found.count || found.is_marked(root) {
+            return;
+        }
+        found.enter(root, ROOT);
+        let mut at = root;
+        // at most once on to each vertex, and once back
+        for _ in 0..2 * usize::from(self.plan.vertices) {
+            match self.step(at, found) {
+                Some(next) => at = next,
+                None => return,
             }
         }
     }
-    false
+
+    // On to the next vertex without a mark, or back; None from the root.
+    fn step(&self, v: u16, found: &mut Found) -> Option<u16> {
+        if found.count < self.plan.vertices
+            && let Some((e, w)) = self.onward(v, found)
+        {
+            found.enter(w, e.wrapping_add(1));
+            return Some(w);
+        }
+        self.back(v, found)
+    }
+
+    // The vertex from which v was entered.
+    fn back(&self, v: u16, found: &Found) -> Option<u16> {
+        let mark = *found.first.get(usize::from(v))?;
+        self.plan.far(mark.checked_sub(1)?, v)
+    }
+
+    // The first edge in the group of v that leads to a vertex without a mark, and that vertex.
+    fn onward(&self, v: u16, found: &Found) -> Option<(u16, u16)> {
+        for &e in self.group(v) {
+            if self.dead.get(usize::from(e)) == Some(&0)
+                && let Some(w) = self.plan.far(e, v)
+                && w < self.plan.vertices
+                && !found.is_marked(w)
+            {
+                return Some((e, w));
+            }
+        }
+        None
+    }
+
+    // The edges that the tables list at v: up to where the next group begins, but not behind the ends.
+    fn group(&self, v: u16) -> &'a [u16] {
+        let tables = self.tables;
+        let size = self.plan.ends.len();
+        let v = usize::from(v);
+        let begin = tables.begins.get(v).copied().map_or(size, usize::from);
+        let end = if v + 1 < usize::from(self.plan.vertices) {
+            tables.begins.get(v + 1).copied().map_or(size, usize::from)
+        } else {
+            size
+        };
+        part(&tables.incident, begin, end.min(size))
+    }
+}
+
+// What stands between two places; nothing where there are no such places.
+fn part(list: &[u16], from: usize, to: usize) -> &[u16] {
+    list.get(from..to).unwrap_or(&[])
 }

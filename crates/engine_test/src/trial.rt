@@ -1,314 +1,248 @@
 // Tables, searches and labels of one plan, beside the second implementation.
-use crate::plan::draw;
-use crate::{second, second_labels, second_search};
-use depth::Explored;
+use crate::plan::{Plan, draw};
+use crate::second::{EDGES, Tables, UNTOUCHED, VERTICES};
+use crate::second_search::{Found, Search};
+use crate::told;
+use std::alloc::{AllocError, Global};
+use std::fmt;
 
-// A run counts plans, by what they are refused, those in one body, those labelled with slugs, searches, vertices that they entered, and differences.
-const PLANS: usize = 0;
+// What a run counts: plans, by what they are refused, those in one body, those labelled with slugs, searches, vertices that they entered, and
+// differences.
+#[derive(Default, Drop)]
+pub(crate) struct Run {
+    plans: u16,
+    refused: u16,
+    whole: u16,
+    excluding: u16,
+    searches: u16,
+    entered: u16,
+    differences: u16,
+}
 
-const REFUSED: usize = 1;
-
-const WHOLE: usize = 2;
-
-const EXCLUDING: usize = 3;
-
-const SEARCHES: usize = 4;
-
-const ENTERED: usize = 5;
-
-const DIFFERENCES: usize = 6;
-
-// What stands in a lent table before a call.
-const UNTOUCHED: u16 = 54321;
-
-fn count(run: &mut [u16; 7], i: usize, n: u16) {
-    if i < 7 {
-        run[i] = std::num::wrapping_add_u16(run[i], n);
+impl fmt::Display for Run {
+    fn fmt<W: fmt::Write>(&self, f: &mut fmt::Formatter<W>) -> fmt::Result {
+        write!(
+            f,
+            ": plans, refused by, in one body, labelled with slugs, searches, entered, differences",
+        )?;
+        write!(f, " {} {} {}", self.plans, self.refused, self.whole)?;
+        write!(f, " {} {} {}", self.excluding, self.searches, self.entered)?;
+        write!(f, " {}", self.differences)
     }
 }
 
-// A difference, where something does not hold.
-fn require(run: &mut [u16; 7], holds: bool) {
-    if !holds {
-        count(run, DIFFERENCES, 1);
-    }
+fn add(count: &mut u16, n: u16) {
+    *count = count.wrapping_add(n);
 }
 
-fn is_same(a: &[u16], b: &[u16]) -> bool {
-    let mut i = 0;
-    while i < a.len() {
-        if a[i] != second::at(b, i) {
-            return false;
-        }
-        i += 1;
-    }
-    true
-}
-
-// All on one plan: the tables, and where it is admitted, the rest.
-pub(crate) fn tried(run: &mut [u16; 7], vertices: u16, ends: &[u16], excluded: &[u16], seed: u32) {
-    count(run, PLANS, 1);
-    let number = filled(run, vertices, ends);
-    if number == 0 {
-        searched(run, vertices, ends, seed);
-        labelled(run, vertices, ends, excluded);
-    } else {
-        count(run, REFUSED, number);
-    }
-}
-
-// The tables of a plan, and by what it is refused.
-fn filled(run: &mut [u16; 7], vertices: u16, ends: &[u16]) -> u16 {
-    let mut incident = [UNTOUCHED; 8000];
-    let mut begins = [UNTOUCHED; 1000];
-    let answer = incidence::fill(vertices, ends, &mut incident, &mut begins);
-    if answer.number == 0 {
-        grouped(run, vertices, ends, &incident, &begins);
-    }
-    answer.number
-}
-
-// The tables are those of the second implementation.
-fn grouped(run: &mut [u16; 7], vertices: u16, ends: &[u16], incident: &[u16], begins: &[u16]) {
-    let mut groups = [UNTOUCHED; 8000];
-    let mut places = [UNTOUCHED; 1000];
-    second::fill(vertices, ends, &mut groups, &mut places);
-    require(run, is_same(incident, &groups));
-    require(run, is_same(begins, &places));
-}
-
-// Searches over the tables as they are filled, and over damaged ones.
-fn searched(run: &mut [u16; 7], vertices: u16, ends: &[u16], seed: u32) {
-    let seen = explored(run, vertices, ends, begun(vertices, 0, seed), 0, 0);
-    if seen == vertices {
-        count(run, WHOLE, 1);
-    }
-    explored(run, vertices, ends, begun(vertices, 5, seed), 0, 0);
-    explored(run, vertices, ends, begun(vertices, 9, seed), 3, 0);
-    explored(run, vertices, ends, begun(vertices, 7, seed), 3, 4);
-}
-
-// One of so many numbers becomes another; none, if that is 0.
-fn damage(list: &mut [u16], times: u16, seed: u32) {
-    let mut i = 0;
-    while i < list.len() {
-        list[i] = damaged(list[i], (i % 8000) as u16, times, seed);
-        i += 1;
-    }
-}
-
-fn damaged(x: u16, i: u16, times: u16, seed: u32) -> u16 {
-    if draw(seed, (i as u32) + 500, times) == 1 {
-        return draw(seed, (i as u32) + 9000, 40);
-    }
-    x
-}
-
-fn kill(dead: &mut [u8], times: u16, seed: u32) {
-    let mut e = 0;
-    while e < dead.len() {
-        dead[e] = mark((e % 4000) as u16, times, seed);
-        e += 1;
-    }
-}
-
-fn mark(e: u16, times: u16, seed: u32) -> u8 {
-    if draw(seed, (e as u32) + 20000, times) == 1 {
-        1
-    } else {
-        0
-    }
-}
-
-// A search: from `root`, behind `seen` places of the order, where one of so many edges is dead and one of so many vertices has a mark.
+// A search over tables in which some numbers are damaged: one of so many marks, of edges and of vertices, and one of so many numbers in either
+// table; none, if that is 0.
 #[derive(Clone, Copy)]
 struct Walk {
-    root: u16,
-    seen: u16,
-    times: u16,
     seed: u32,
+    marks: u16,
+    incident: u16,
+    begins: u16,
 }
 
-fn begun(vertices: u16, times: u16, seed: u32) -> Walk {
-    Walk {
-        root: draw(seed, 1, vertices),
-        seen: draw(seed, 2, times),
-        times: times,
-        seed: seed,
+impl Walk {
+    // Where it begins.
+    fn root(self, vertices: u16) -> u16 {
+        draw(self.seed, 1, vertices)
+    }
+
+    // Behind how many places of the order.
+    fn seen(self) -> u16 {
+        draw(self.seed, 2, self.marks)
+    }
+
+    fn tables(self, alloc: Global, plan: Plan) -> Result<Tables, AllocError> {
+        let mut tables = plan.tables(alloc)?;
+        damage(&mut tables.incident, self.incident, self.seed);
+        damage(&mut tables.begins, self.begins, self.seed);
+        Ok(tables)
+    }
+
+    // The marks of the edges: 1 is dead.
+    fn dead(self, alloc: Global) -> Result<Vec<u8>, AllocError> {
+        let mut dead = vec![in alloc; 0; EDGES]?;
+        for (e, mark) in (0..4000u16).zip(dead.iter_mut()) {
+            if draw(self.seed, u32::from(e) + 20000, self.marks) == 1 {
+                *mark = 1;
+            }
+        }
+        Ok(dead)
+    }
+
+    // What is found before the search.
+    fn found(self, alloc: Global) -> Result<Found, AllocError> {
+        let mut first = vec![in alloc; 0; VERTICES]?;
+        damage(&mut first, self.marks, self.seed);
+        Ok(Found {
+            first,
+            order: vec![in alloc; UNTOUCHED; VERTICES]?,
+            count: self.seen(),
+        })
     }
 }
 
-// A search by both over tables in which one of so many numbers is damaged; how many vertices then stand in the order.
-fn explored(
-    run: &mut [u16; 7],
-    vertices: u16,
-    ends: &[u16],
-    walk: Walk,
-    of_incident: u16,
-    of_begins: u16,
-) -> u16 {
-    let mut incident = [UNTOUCHED; 8000];
-    let mut begins = [UNTOUCHED; 1000];
-    second::fill(vertices, ends, &mut incident, &mut begins);
-    damage(&mut incident, of_incident, walk.seed);
-    damage(&mut begins, of_begins, walk.seed);
-    walked(run, vertices, ends, &incident, &begins, walk)
-}
-
-fn walked(
-    run: &mut [u16; 7],
-    vertices: u16,
-    ends: &[u16],
-    incident: &[u16],
-    begins: &[u16],
-    walk: Walk,
-) -> u16 {
-    let mut marks = [0u8; 4000];
-    kill(&mut marks, walk.times, walk.seed);
-    let dead: &[u8] = &marks;
-    let mut found = [0u16; 1000];
-    damage(&mut found, walk.times, walk.seed);
-    let mut listed = [UNTOUCHED; 1000];
-    let n = second_search::search(
-        vertices,
-        ends,
-        incident,
-        begins,
-        dead,
-        walk.root,
-        walk.seen,
-        &mut found,
-        &mut listed,
-    );
-    compared(
-        run, vertices, ends, incident, begins, dead, walk, n, &found, &listed,
-    );
-    n
-}
-
-// The search finds what the second implementation has found, clears the cursors of what it entered, and leaves every other number; undone,
-// the marks are those of before.
-fn compared(
-    run: &mut [u16; 7],
-    vertices: u16,
-    ends: &[u16],
-    incident: &[u16],
-    begins: &[u16],
-    dead: &[u8],
-    walk: Walk,
-    n: u16,
-    found: &[u16],
-    listed: &[u16],
-) {
-    let mut first = [0u16; 1000];
-    damage(&mut first, walk.times, walk.seed);
-    let mut order = [UNTOUCHED; 1000];
-    let mut cursor = [UNTOUCHED; 1000];
-    let told = depth::explore(
-        vertices,
-        ends,
-        incident,
-        begins,
-        dead,
-        walk.root,
-        walk.seen,
-        &mut first,
-        &mut order,
-        &mut cursor,
-    );
-    require(run, is_seen(told, n));
-    require(run, is_same(&first, found));
-    require(run, is_same(&order, listed));
-    cleared(run, walk, n, listed, &cursor);
-    undone(run, walk, n, listed, &mut first);
-}
-
-fn is_seen(told: Result<u16, Answer>, count: u16) -> bool {
-    match told {
-        Err(_) => false,
-        Ok(n) => n == count,
+// One of so many numbers becomes another.
+fn damage(list: &mut [u16], times: u16, seed: u32) {
+    for (i, x) in (0..8000u16).zip(list.iter_mut()) {
+        if draw(seed, u32::from(i) + 500, times) == 1 {
+            *x = draw(seed, u32::from(i) + 9000, 40);
+        }
     }
 }
 
-// Undoing the search in a table that is untouched clears the same places as the search has.
-fn cleared(run: &mut [u16; 7], walk: Walk, n: u16, order: &[u16], cursor: &[u16]) {
-    let mut places = [UNTOUCHED; 1000];
-    depth::undo(order, walk.seen, n, &mut places);
-    require(run, is_same(cursor, &places));
-    count(run, SEARCHES, 1);
-    count(run, ENTERED, std::num::wrapping_sub_u16(n, walk.seen));
-}
+impl Run {
+    // A difference, where something does not hold.
+    fn require(&mut self, holds: bool) {
+        if !holds {
+            add(&mut self.differences, 1);
+        }
+    }
 
-fn undone(run: &mut [u16; 7], walk: Walk, n: u16, order: &[u16], first: &mut [u16]) {
-    let mut before = [0u16; 1000];
-    damage(&mut before, walk.times, walk.seed);
-    depth::undo(order, walk.seen, n, first);
-    require(run, is_same(first, &before));
-}
+    // All on one plan: the tables, and where it is admitted, the rest.
+    pub(crate) fn try_plan(
+        &mut self,
+        alloc: Global,
+        plan: Plan,
+        seed: u32,
+    ) -> Result<(), AllocError> {
+        add(&mut self.plans, 1);
+        match self.try_tables(alloc, plan)? {
+            Some(number) => add(&mut self.refused, number),
+            None => {
+                self.try_searches(alloc, plan, seed)?;
+                self.try_labels(alloc, plan)?;
+            }
+        }
+        Ok(())
+    }
 
-// The labels of a plan, in one body or in several.
-fn labelled(run: &mut [u16; 7], vertices: u16, ends: &[u16], excluded: &[u16]) {
-    let mut incident = [UNTOUCHED; 8000];
-    let mut begins = [UNTOUCHED; 1000];
-    let mut dead = [9u8; 4000];
-    let mut first = [UNTOUCHED; 1000];
-    let mut order = [UNTOUCHED; 1000];
-    let mut cursor = [UNTOUCHED; 1000];
-    let mut labels = [9u64; 4000];
-    let mut sums = [9u64; 1000];
-    let answer = labels::label(
-        vertices,
-        ends,
-        excluded,
-        &mut incident,
-        &mut begins,
-        &mut dead,
-        &mut first,
-        &mut order,
-        &mut cursor,
-        &mut labels,
-        &mut sums,
-    );
-    balanced(
-        run,
-        answer.number,
-        vertices,
-        ends,
-        excluded,
-        &dead,
-        &labels,
-        &sums,
-    );
-}
+    // The tables of a plan are those of the second implementation, or by what it is refused.
+    fn try_tables(&mut self, alloc: Global, plan: Plan) -> Result<Option<u16>, AllocError> {
+        let mut incident = vec![in alloc; UNTOUCHED; 2 * EDGES]?;
+        let mut begins = vec![in alloc; UNTOUCHED; VERTICES]?;
+        let answer = incidence::fill(plan.vertices, plan.ends, &mut incident, &mut begins);
+        if let Err(refused) = told::passed(answer) {
+            return Ok(Some(refused.number));
+        }
+        let tables = plan.tables(alloc)?;
+        self.require(incident == tables.incident);
+        self.require(begins == tables.begins);
+        Ok(None)
+    }
 
-// The answer is right; and where it is 0, so are the marks, the labels cancel, and the sums are theirs.
-fn balanced(
-    run: &mut [u16; 7],
-    number: u16,
-    vertices: u16,
-    ends: &[u16],
-    excluded: &[u16],
-    dead: &[u8],
-    labels: &[u64],
-    sums: &[u64],
-) {
-    require(run, number == refusal(vertices, excluded));
-    if number == 0 {
-        require(run, second_labels::is_masked(ends, excluded, dead, labels));
-        require(run, second_labels::is_balanced(vertices, ends, labels));
-        require(run, second_labels::is_summed(vertices, ends, labels, sums));
-        count(run, EXCLUDING, (excluded.len() != 0) as u16);
+    // Searches over the tables as they are filled, and over damaged ones.
+    fn try_searches(&mut self, alloc: Global, plan: Plan, seed: u32) -> Result<(), AllocError> {
+        for (marks, incident, begins) in [(0, 0, 0), (5, 0, 0), (9, 3, 0), (7, 3, 4)] {
+            let walk = Walk {
+                seed,
+                marks,
+                incident,
+                begins,
+            };
+            let count = self.try_walk(alloc, plan, walk)?;
+            if marks == 0 && count == plan.vertices {
+                add(&mut self.whole, 1);
+            }
+        }
+        Ok(())
+    }
+
+    // A search by both; how many vertices then stand in the order.
+    fn try_walk(&mut self, alloc: Global, plan: Plan, walk: Walk) -> Result<u16, AllocError> {
+        let tables = walk.tables(alloc, plan)?;
+        let dead = walk.dead(alloc)?;
+        let search = Search {
+            plan,
+            tables: &tables,
+            dead: &dead,
+        };
+        let mut found = walk.found(alloc)?;
+        search.run(walk.root(plan.vertices), &mut found);
+        self.compare(alloc, search, walk, &found)?;
+        add(&mut self.searches, 1);
+        add(&mut self.entered, found.count.wrapping_sub(walk.seen()));
+        Ok(found.count)
+    }
+
+    // The search finds what the second implementation has found, clears the cursors of what it entered, and leaves every other number; undone,
+    // the marks are those of before.
+    fn compare(
+        &mut self,
+        alloc: Global,
+        search: Search,
+        walk: Walk,
+        found: &Found,
+    ) -> Result<(), AllocError> {
+        let before = walk.found(alloc)?;
+        let mut first = before.first.clone()?;
+        let mut order = before.order.clone()?;
+        let mut cursor = vec![in alloc; UNTOUCHED; VERTICES]?;
+        let told = depth::explore(
+            search.plan.vertices,
+            search.plan.ends,
+            &search.tables.incident,
+            &search.tables.begins,
+            search.dead,
+            walk.root(search.plan.vertices),
+            before.count,
+            &mut first,
+            &mut order,
+            &mut cursor,
+        );
+        self.require(told.is_ok_and(|count| count == found.count));
+        self.require(first == found.first);
+        self.require(order == found.order);
+        let mut cleared = vec![in alloc; UNTOUCHED; VERTICES]?;
+        depth::undo(&found.order, before.count, found.count, &mut cleared);
+        self.require(cursor == cleared);
+        depth::undo(&found.order, before.count, found.count, &mut first);
+        self.require(first == before.first);
+        Ok(())
+    }
+
+    // The labels of a plan, in one body or in several: the answer is right; and where it passes, so are the marks, the labels cancel, and the sums
+    // are theirs.
+    fn try_labels(&mut self, alloc: Global, plan: Plan) -> Result<(), AllocError> {
+        let mut dead = vec![in alloc; 9; EDGES]?;
+        let mut labels = vec![in alloc; 9; EDGES]?;
+        let mut sums = vec![in alloc; 9; VERTICES]?;
+        let answer = labels::label(
+            plan.vertices,
+            plan.ends,
+            plan.excluded,
+            &mut vec![in alloc; UNTOUCHED; 2 * EDGES]?,
+            &mut vec![in alloc; UNTOUCHED; VERTICES]?,
+            &mut dead,
+            &mut vec![in alloc; UNTOUCHED; VERTICES]?,
+            &mut vec![in alloc; UNTOUCHED; VERTICES]?,
+            &mut vec![in alloc; UNTOUCHED; VERTICES]?,
+            &mut labels,
+            &mut sums,
+        );
+        let number = told::passed(answer).err().map(|refused| refused.number);
+        self.require(number == refusal(plan));
+        if number.is_none() {
+            self.require(plan.is_masked(&dead, &labels));
+            self.require(plan.is_balanced(&labels));
+            self.require(plan.is_summed(&labels, &sums));
+            add(&mut self.excluding, u16::from(!plan.excluded.is_empty()));
+        }
+        Ok(())
     }
 }
 
-// The refusal for an ascending list of excluded vertices.
-fn refusal(vertices: u16, excluded: &[u16]) -> u16 {
-    let n = excluded.len();
-    if 0 < n && vertices <= second::at(excluded, n - 1) {
-        18
-    } else if (vertices as usize) < n || (vertices as usize) - n < 2 {
-        19
+// By what an ascending list of excluded vertices is refused: one that is none, or fewer than two others.
+fn refusal(plan: Plan) -> Option<u16> {
+    if plan.excluded.last().is_some_and(|v| plan.vertices <= *v) {
+        Some(18)
+    } else if usize::from(plan.vertices) < plan.excluded.len() + 2 {
+        Some(19)
     } else {
-        0
+        None
     }
 }

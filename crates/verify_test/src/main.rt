@@ -28,29 +28,44 @@
 #![tactic(auto)]
 
 use graph::Answer;
+use std::alloc::{AllocError, Global};
 use std::io;
-use std::io::Write;
+use std::io::{Read, Write};
 
-fn say(rt: &impl Print, text: &[u8]) -> io::Result<()> {
-    io::writer(rt).write_all(text)
+// How much of the input is read.
+const MOST: u64 = 65536;
+
+// How many numbers a list of a case takes: ends or numbers of the verdict, and excluded vertices. Further ones are left out.
+const LONGEST: usize = 36;
+
+const MOST_EXCLUDED: usize = 8;
+
+// What is given to the check.
+#[derive(Drop)]
+struct Case {
+    vertices: u16,
+    ends: Vec<u16>,
+    kind: u16,
+    list: Vec<u16>,
+    excluded: Vec<u16>,
 }
 
-fn number(rt: &impl Print, x: u16) -> io::Result<()> {
-    rt.print(x)
-}
-
-fn tell(rt: &impl Print, answer: Answer) -> io::Result<()> {
-    say(rt, b": ")?;
-    number(rt, answer.number)?;
-    say(rt, b" ")?;
-    number(rt, answer.place)?;
-    say(rt, b"\n")
+impl Case {
+    fn check(&self) -> Answer {
+        verify::check(
+            self.vertices,
+            &self.ends,
+            &self.excluded,
+            self.kind,
+            &self.list,
+        )
+    }
 }
 
 // The number that a byte stands for.
 fn worth(byte: u8) -> u16 {
     match byte {
-        b'0'..=b'9' => (byte % 48) as u16,
+        b'0'..=b'9' => u16::from(byte - b'0'),
         b'a' => 10,
         b'b' => 11,
         b'm' => 1000,
@@ -62,161 +77,58 @@ fn worth(byte: u8) -> u16 {
     }
 }
 
-// The first n numbers, or all where there are fewer.
-fn front(list: &[u16], n: usize) -> &[u16] {
-    if list.len() < n {
-        return list;
-    }
-    &list[0..n]
+// The numbers of a field, at most so many. What parts the fields, and a blank, stands for nothing.
+fn numbers(alloc: Global, field: &[u8], most: usize) -> Result<Vec<u16>, AllocError> {
+    let digits = field.iter().filter(|byte| !matches!(**byte, b' ' | b';'));
+    digits.map(|byte| worth(*byte)).take(most).collect(alloc)
 }
 
-// The field of a case that is read: its name, then the vertices, the ends, the kind and the list of the verdict, and the excluded vertices.
-const NAME: u8 = 0;
-
-const VERTICES: u8 = 1;
-
-const ENDS: u8 = 2;
-
-const KIND: u8 = 3;
-
-const LIST: u8 = 4;
-
-const EXCLUDED: u8 = 5;
-
-// A case as far as it is read.
-#[derive(Drop)]
-struct Case {
-    field: u8,
-    vertices: u16,
-    ends: [u16; 36],
-    ends_length: usize,
-    kind: u16,
-    list: [u16; 36],
-    list_length: usize,
-    excluded: [u16; 8],
-    excluded_length: usize,
+// The number of a field: the last one in it.
+fn number(field: &[u8]) -> u16 {
+    let digit = field.iter().rev().find(|byte| **byte != b' ');
+    digit.map_or(0, |byte| worth(*byte))
 }
 
-impl Case {
-    fn new() -> Case {
-        Case {
-            field: NAME,
-            vertices: 0,
-            ends: [0; 36],
-            ends_length: 0,
-            kind: 0,
-            list: [0; 36],
-            list_length: 0,
-            excluded: [0; 8],
-            excluded_length: 0,
-        }
+// The ends of a case, which may be many and all 0.
+fn ends(alloc: Global, field: &[u8]) -> Result<Vec<u16>, AllocError> {
+    let many = field
+        .iter()
+        .rev()
+        .map(|byte| worth(*byte))
+        .find(|x| *x / 8000 == 1);
+    match many {
+        Some(count) => vec![in alloc; 0; usize::from(count)],
+        None => numbers(alloc, field, LONGEST),
     }
+}
 
-    // Takes up a byte. A semicolon ends a field, a line feed the case; the name is shown, and else a blank stands for nothing.
-    fn take(mut self, rt: &impl Print, byte: u8) -> io::Result<Case> {
-        let field = self.field;
-        if byte == b'\n' {
-            self.run(rt)?;
-            return Ok(Case::new());
-        }
-        if byte == b';' {
-            if field < EXCLUDED {
-                self.field = field + 1;
-            }
-            return Ok(self);
-        }
-        if field == NAME {
-            say(rt, &[byte])?;
-            return Ok(self);
-        }
-        if byte == b' ' {
-            return Ok(self);
-        }
-        Ok(self.put(worth(byte)))
-    }
+// A field of a line: the name, the vertices, the ends, the kind, the list of the verdict, the excluded vertices. Nothing where the line has fewer.
+fn field(line: &[u8], i: usize) -> &[u8] {
+    line.splitn(6, |byte| *byte == b';').nth(i).unwrap_or(&[])
+}
 
-    // Takes up a number of the field that is read.
-    fn put(mut self, x: u16) -> Case {
-        let field = self.field;
-        if field == VERTICES {
-            self.vertices = x;
-            return self;
-        }
-        if field == ENDS {
-            return self.end(x);
-        }
-        if field == KIND {
-            self.kind = x;
-            return self;
-        }
-        if field == LIST {
-            return self.listed(x);
-        }
-        let at = self.excluded_length;
-        if at < 8 {
-            self.excluded[at] = x;
-            self.excluded_length = at + 1;
-        }
-        self
-    }
-
-    // Takes up a number of the verdict.
-    fn listed(mut self, x: u16) -> Case {
-        let at = self.list_length;
-        if at < 36 {
-            self.list[at] = x;
-            self.list_length = at + 1;
-        }
-        self
-    }
-
-    // Takes up an end, or how many there are, where they are many and all 0.
-    fn end(mut self, x: u16) -> Case {
-        if x / 8000 == 1 {
-            self.ends_length = x as usize;
-            return self;
-        }
-        let at = self.ends_length;
-        if at < 36 {
-            self.ends[at] = x;
-            self.ends_length = at + 1;
-        }
-        self
-    }
-
-    fn run(self, rt: &impl Print) -> io::Result<()> {
-        let ends = self.ends;
-        if 36 < self.ends_length {
-            self.check(rt, &[0; 8002])
-        } else {
-            self.check(rt, &ends)
-        }
-    }
-
-    fn check(self, rt: &impl Print, ends: &[u16]) -> io::Result<()> {
-        let excluded = self.excluded;
-        let list = self.list;
-        tell(
-            rt,
-            verify::check(
-                self.vertices,
-                front(ends, self.ends_length),
-                front(&excluded, self.excluded_length),
-                self.kind,
-                front(&list, self.list_length),
-            ),
-        )
-    }
+// Shows the name of a case, and how it is answered. A line that is cut off where the input ends has only a name.
+fn run(rt: &(impl Print + AllocGlobal), line: &[u8]) -> io::Result<()> {
+    let Some(whole) = line.strip_suffix(b"\n") else {
+        return io::writer(rt).write_all(field(line, 0));
+    };
+    io::writer(rt).write_all(field(whole, 0))?;
+    let case = Case {
+        vertices: number(field(whole, 1)),
+        ends: ends(rt.alloc(), field(whole, 2))?,
+        kind: number(field(whole, 3)),
+        list: numbers(rt.alloc(), field(whole, 4), LONGEST)?,
+        excluded: numbers(rt.alloc(), field(whole, 5), MOST_EXCLUDED)?,
+    };
+    let answer = case.check();
+    println!(rt; ": {} {}", answer.number, answer.place)
 }
 
 fn main(rt: HostRuntime) -> io::Result<()> {
-    let mut text = [0u8; 65536];
-    let n = bytes_io::read_full(&mut rt.stdin(), &mut text)?;
-    let mut case = Case::new();
-    let mut i = 0;
-    while i < n {
-        case = case.take(&rt, text[i])?;
-        i += 1;
+    let mut text = Vec::new(rt.alloc());
+    rt.stdin().take(MOST).read_to_end(&mut text)?;
+    for line in text.split_inclusive(|byte| *byte == b'\n') {
+        run(&rt, line)?;
     }
     Ok(())
 }

@@ -1,9 +1,0 @@
--- `name` is safe and ends.
-use Rattle.std.proofs.Common.{◌-◌, ◌≤◌}
-use Rattle.certify_test.proofs.plan.name.Given as goal
-
-abbrev pub invariant-loop-v : goal.invariant-loop-v
-invariant-loop-v l = l.v ≤ l.plan.named
-
-abbrev pub decreases-loop-v : goal.decreases-loop-v
-decreases-loop-v l = l.plan.named - l.v
