@@ -2,7 +2,6 @@
 use crate::library;
 use crate::plan::{Laying, Plan, Rule, Seed};
 use crate::table::{Numbers, UNTOUCHED, fingerprint, groups};
-use std::alloc::{AllocError, Global};
 use std::io;
 use std::io::Write;
 
@@ -37,11 +36,14 @@ fn worth(byte: u8) -> u16 {
     }
 }
 
-// The bytes of a part of a line that stand for numbers.
-fn digits(text: &[u8]) -> usize {
-    text.iter()
-        .filter(|byte| !matches!(**byte, b' ' | b';'))
-        .count()
+// A blank and a semicolon stand for no number.
+fn is_number(byte: u8) -> bool {
+    !matches!(byte, b' ' | b';')
+}
+
+// How many numbers a part of a line has.
+fn count(text: &[u8]) -> usize {
+    text.iter().filter(|byte| is_number(**byte)).count()
 }
 
 // The numbers of a line, behind a first one that tells where its slugs begin. What a line does not write over stays from the lines before it.
@@ -56,17 +58,14 @@ impl Places {
 
     const NONE: u16 = 64;
 
-    // Takes up what stands behind the name of a line, and tells how many places that has. Further numbers are left out.
+    // Takes up what stands behind the name of a line, and tells up to where. Further numbers are left out.
     fn read(&mut self, text: &[u8]) -> usize {
         self.0[0] = Places::begin(text);
-        let numbers = text
-            .iter()
-            .filter(|byte| !matches!(**byte, b' ' | b';'))
-            .map(|byte| worth(*byte));
-        for (place, number) in self.0[1..].iter_mut().zip(numbers) {
+        let numbers = text.iter().copied().filter(|byte| is_number(*byte));
+        for (place, number) in self.0[1..].iter_mut().zip(numbers.map(worth)) {
             *place = number;
         }
-        1 + digits(text).min(63)
+        1 + count(text).min(63)
     }
 
     // Where the slugs begin: behind the last semicolon, but not behind the one or two that are before the ends.
@@ -79,13 +78,19 @@ impl Places {
         if !before.contains(&b';') {
             return Places::NONE;
         }
-        1 + digits(before).min(63) as u16
+        1 + count(before).min(63) as u16
     }
 
-    // The plan of so many places, and whether it is a large one. Where there is no length that is lent before the slugs, all places are ends.
-    fn plan(&self, alloc: Global, count: usize) -> Result<(Plan, bool), AllocError> {
-        let line = self.0.get(..count).unwrap_or(&self.0);
-        let (front, slugs) = line.split_at(usize::from(self.0[0]).min(line.len()));
+    // What a line has before its slugs, and the slugs, where it takes up the places up to `end`.
+    fn parts(&self, end: usize) -> (&[u16], &[u16]) {
+        let line = self.0.get(..end).unwrap_or(&self.0);
+        line.split_at(usize::from(self.0[0]).min(line.len()))
+    }
+
+    // Runs the case, and prints it. All places are ends where no length is lent before the slugs.
+    fn run<R: Print + AllocGlobal>(&self, rt: &R, end: usize) -> io::Result<()> {
+        let alloc = rt.alloc();
+        let (front, slugs) = self.parts(end);
         let pieces = self.0[1];
         let laid = laid(front);
         let ends = match laid {
@@ -98,7 +103,7 @@ impl Places {
             slugs: slugs.to_vec(alloc)?,
             lent: usize::from(self.0[2]),
         };
-        Ok((plan, laid.is_some()))
+        show(rt, &plan, laid.is_some())
     }
 }
 
@@ -137,9 +142,8 @@ pub(crate) fn run<R: Print + AllocGlobal>(
     if whole.is_none() {
         return Ok(());
     }
-    let count = parts.next().map_or(0, |text| places.read(text));
-    let (plan, is_large) = places.plan(rt.alloc(), count)?;
-    show(rt, &plan, is_large)
+    let end = parts.next().map_or(0, |text| places.read(text));
+    places.run(rt, end)
 }
 
 // The answer and the lent table.
