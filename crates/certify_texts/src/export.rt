@@ -8,8 +8,8 @@ ghost use Rattle.certify.specs.Answered.{handed};
 ghost use Rattle.certify_texts.specs.Packed.{four, packed, Packed, Marks, TextSize};
 
 use certify::{Finding, Outcome};
-use removal::Fallen;
 use graph::Answer;
+use removal::Fallen;
 
 // The verdict on a plan; a firm one's record stands at the front of `rows`, the pieces that fall with a weak one are marked in `fallen`.
 pub fn hearthtansy_verdict(

@@ -7,7 +7,6 @@ ghost use Rattle.depth.specs.Parts.{Rooms};
 ghost use Rattle.labels.specs.Answered.{Spanned};
 ghost use Rattle.labels.specs.Planting.{Spacious, Open, Prepared, Planted};
 
-
 // Fills the tables by vertex of an admitted plan, marks the edges of excluded vertices, and searches from one vertex after the other until each
 // has been seen.
 pub(crate) fn plant(

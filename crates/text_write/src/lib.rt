@@ -14,7 +14,12 @@ use graph::{Answer, Graph};
 use text::{ANSWER_SIZE, HEADER, SHORTEST, WIDTH};
 
 // Writes the text of a plan: the plan's own 1 to 5, 18 and 19, then 6.
-pub fn write_plan(vertices: u16, ends: &[u16], excluded: &[u16], text: &mut [u8]) -> Result<usize, Answer>
+pub fn write_plan(
+    vertices: u16,
+    ends: &[u16],
+    excluded: &[u16],
+    text: &mut [u8],
+) -> Result<usize, Answer>
     ensures { WritesPlan five limits (plan vertices ends.now excluded.now) text.old text.new result }
 {
     Graph::new(vertices, ends, excluded)?;
@@ -22,7 +27,12 @@ pub fn write_plan(vertices: u16, ends: &[u16], excluded: &[u16], text: &mut [u8]
 }
 
 // The same of an admitted plan.
-fn write_admitted(vertices: u16, ends: &[u16], excluded: &[u16], text: &mut [u8]) -> Result<usize, Answer>
+fn write_admitted(
+    vertices: u16,
+    ends: &[u16],
+    excluded: &[u16],
+    text: &mut [u8],
+) -> Result<usize, Answer>
     requires { Admitted limits (plan vertices ends.now excluded.now) }
     ensures { WritesPlan five limits (plan vertices ends.now excluded.now) text.old text.new result }
 {
