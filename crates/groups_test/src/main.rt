@@ -10,7 +10,9 @@
 // as one, and a fingerprint of that table.
 #![tactic(auto)]
 
+use case::Places;
 use std::io;
+use std::io::Read;
 use tally::Tally;
 
 mod case; // case.rt: the cases
@@ -21,12 +23,18 @@ mod second; // second.rt: the second implementation
 mod table; // table.rt: what is told of a lent table
 mod tally; // tally.rt: both on one plan, and what a run has counted
 
+// How much of the input is read.
+const MOST: u64 = 65536;
+
 // How many random plans there are.
 const PLANS: u32 = 10000;
 
 fn main(rt: HostRuntime) -> io::Result<()> {
-    for line in rt.lines(rt.alloc()) {
-        case::run(&rt, line?.as_str())?;
+    let mut text = Vec::new(rt.alloc());
+    rt.stdin().take(MOST).read_to_end(&mut text)?;
+    let mut places = Places::EMPTY;
+    for line in text.split_inclusive(|byte| *byte == b'\n') {
+        case::run(&rt, &mut places, line)?;
     }
     let mut tally = Tally::default();
     for seed in 0..PLANS {
