@@ -32,7 +32,8 @@ use Rattle.cuts.proofs.Trying.{both, both_long, cutting}
 use Rattle.components.specs.Splitting.{unseen}
 use Rattle.components.specs.Stars.{Attempt}
 use Rattle.components.specs.Stars as stars
-use Rattle.components.specs.Tries.{far_end, PartedAt}
+use Rattle.graph.specs.Ends.{far_end}
+use Rattle.components.specs.Tries.{PartedAt}
 use Rattle.components.specs.Tries as tries
 
 -- an edge joins each of its ends to the other

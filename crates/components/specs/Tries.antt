@@ -1,5 +1,5 @@
 -- What the parts of a try promise one another, and what the cuts are tried over.
-use Rattle.std.specs.Prelude.{◌≡◌, cond, List, ℕ, ◌+◌, ◌*◌, ◌/◌, ◌≤◌, ◌<◌, eqb, length, get_or}
+use Rattle.std.specs.Prelude.{◌≡◌, List, ℕ, ◌/◌, ◌≤◌, ◌<◌, length, get_or}
 use Rattle.connectivity.specs.Plan.{Plan, graph, Limits}
 use Rattle.connectivity.specs.Component.{component_of}
 use Rattle.graph.specs.Marks.{read}
@@ -8,10 +8,6 @@ use Rattle.incidence.specs.Parts.{Kept}
 use Rattle.labels.specs.Label.{Balanced}
 use Rattle.components.specs.Splitting.{unseen, Parted}
 use Rattle.components.specs.Stars.{Grouping}
-
--- the end of d that is not v
-abbrev pub far_end : List ℕ → ℕ → ℕ → ℕ
-far_end ends d v = cond (eqb (get_or ends (2 * d) 0) v) (get_or ends (2 * d + 1) 0) (get_or ends (2 * d) 0)
 
 -- the groups are taken apart by the marks exactly where v has none
 pub data PartedAt (n : ℕ) (marks : List ℕ) (v : ℕ) (table₀ table : List ℕ) : ℕ → Type 0 where

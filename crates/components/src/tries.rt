@@ -8,11 +8,12 @@ ghost use Rattle.graph.specs.Tells.{Tells};
 ghost use Rattle.incidence.specs.Tables.{Tabled};
 ghost use Rattle.components.specs.Splitting.{Classes, unseen};
 ghost use Rattle.components.specs.Stars.{Attempt};
-ghost use Rattle.components.specs.Tries.{far_end, PartedAt};
+ghost use Rattle.components.specs.Tries.{PartedAt};
 
 use crate::split;
 use cuts::ends::{lower_end, mark};
 use graph::Graph;
+use graph::ends::far_end;
 
 // Searches from an end of d without e and d. Where that does not come to its other end, the groups are taken apart by what was seen, and the
 // answer is 1; else 0.
@@ -86,17 +87,4 @@ fn part(vertices: u16, v: u16, marks: &[u16], table: &mut [u16]) -> u8
     let mut other = [0u16; Graph::MAX_VERTICES];
     split::split(vertices, marks, &mut other, table);
     1
-}
-
-// The end of d that is not v.
-fn far_end(ends: &[u16], d: u16, v: u16) -> u16
-    requires { d < length ends.now / 2 }
-    ensures { result ≡ far_end ends.now d v }
-{
-    let at = 2 * (d as usize);
-    let left = ends[at];
-    if left == v {
-        return ends[at + 1];
-    }
-    left
 }

@@ -18,7 +18,12 @@ mod walk; // walk.rt: the ways up along first edges
 
 // The plan's own 1 to 5, 18 and 19; 6 unless `rows` has three numbers for each edge that is kept; then its lowest cut of at most two edges, or that it
 // has none, with the record at the front of `rows`.
-pub fn write_record(vertices: u16, ends: &[u16], excluded: &[u16], rows: &mut [u16]) -> Result<Option<Lowest>, Answer>
+pub fn write_record(
+    vertices: u16,
+    ends: &[u16],
+    excluded: &[u16],
+    rows: &mut [u16],
+) -> Result<Option<Lowest>, Answer>
     ensures { Answered limits (plan vertices ends.now excluded.now) rows.old rows.new result }
 {
     let graph = Graph::new(vertices, ends, excluded)?;

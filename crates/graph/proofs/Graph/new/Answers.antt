@@ -1,5 +1,5 @@
 -- `Graph::new` meets its contract: each way out cites the law for its tests.
-use Rattle.std.specs.Prelude.{Err, Ok}
+use Rattle.std.specs.Prelude.{Err}
 use mathlib.Core.Path.{sym, ap, ◌∙◌}
 use native.Mathlib.Omega.{arith}
 use Rattle.connectivity.specs.Plan.{limits}
