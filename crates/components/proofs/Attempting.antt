@@ -32,7 +32,8 @@ use Rattle.cuts.proofs.Trying.{both, both_long, cutting}
 use Rattle.components.specs.Splitting.{unseen}
 use Rattle.components.specs.Stars.{Attempt}
 use Rattle.components.specs.Stars as stars
-use Rattle.components.specs.Tries.{far_end, PartedAt}
+use Rattle.graph.specs.Ends.{far_end}
+use Rattle.components.specs.Tries.{PartedAt}
 use Rattle.components.specs.Tries as tries
 
 -- an edge joins each of its ends to the other
@@ -80,7 +81,7 @@ searched {most} {p} {incident} {begins} {dead₀} {dead} {marks₀} {marks} {ord
         (s.0, found_kept p cuts.masking s.2)
 
 -- the whole try
-pub attempted : {most : Limits} {p : Plan} {e d root far r : ℕ} {marks table₀ table : List ℕ} → Admitted most p → Edge (graph p) d
+pub attempted : {most : Limits} {p : Plan} {e d root far : ℕ} {r : Bool} {marks table₀ table : List ℕ} → Admitted most p → Edge (graph p) d
     → ((v : ℕ) → v < p.vertices → Tells (not (unseen marks v)) (Reach (graph p) (Without (e ∷ (d ∷ []))) root v))
     → EndOf p.ends d root → far ≡ far_end p.ends d root → PartedAt p.vertices marks far table₀ table r → Attempt (graph p) p.vertices (e ∷ (d ∷ [])) d table₀ table r
 attempted {p = p} {e = e} {d = d} {root = root} {far = far} {marks = marks} a l tells q z (tries.seen n same) =

@@ -1,5 +1,6 @@
 -- The edges tried alone, then those that are not claimed together with each later one of their label: what is kept from try to try, and that in the
 -- end the groups are those of the definition.
+use mathlib.Core.Bool.{Bool, cond}
 use mathlib.Core.Path.{◌≡◌, refl, sym, ap, ◌∙◌}
 use mathlib.Core.Logic.{inl, inr}
 use mathlib.Core.List.{List, [], ◌∷◌}
@@ -76,7 +77,7 @@ module _ {g : Graph} {n m : ℕ} {label : ℕ → ℕ} (t : Setting g n m label)
     singles_claimed ne = singles-keep (keeps_none (λ e. ne (s.fresh k (omega arith) h e)))
 
     -- a try tells whether it does
-    pub singles_try : {table : List ℕ} {r : ℕ} → k < length claimed → Attempt g n (k ∷ k ∷ []) k table₀ table r → Singles g n m (k + 1) (set claimed k r) table
+    pub singles_try : {table : List ℕ} {r : Bool} → k < length claimed → Attempt g n (k ∷ k ∷ []) k table₀ table r → Singles g n m (k + 1) (set claimed k (cond r 1 0)) table
     singles_try room (joined same root far j w) = let keeps = alone_keeps j w in record {
       groups = rw same s.groups;
       one = λ x l. rw same (elim (ℕ_discrete x k) [ yes q ↦ rw q (λ u v a b e. keeps u v (s.groups.whole u v a b e)) | no q ↦ s.one x (omega arith) ]);
@@ -158,8 +159,8 @@ module _ {g : Graph} {n m : ℕ} {label : ℕ → ℕ} (t : Setting g n m label)
           free r x o i z (inr a) c = elim (ℕ_discrete x d) [ yes q ↦ ne (rw q at z) | no q ↦ s.free r x o i z (inr (a.0, omega (arith, a.1))) c ]
 
       -- any other is tried
-      pub star_try : {table' : List ℕ} {r : ℕ} → d < length claimed → get_or claimed d 0 ≡ 0 → Edge g k → Keeps g (k ∷ []) → LowestPair g k k → Attempt g n (k ∷ d ∷ []) d table table' r
-          → Stars g n m k (d + 1) (set claimed d r) table'
+      pub star_try : {table' : List ℕ} {r : Bool} → d < length claimed → get_or claimed d 0 ≡ 0 → Edge g k → Keeps g (k ∷ []) → LowestPair g k k → Attempt g n (k ∷ d ∷ []) d table table' r
+          → Stars g n m k (d + 1) (set claimed d (cond r 1 0)) table'
       star_try room z ek kk low (joined same root far j w) = record {
         groups = rw same s.groups;
         one = rw same s.one;

@@ -1,5 +1,6 @@
 -- Turn by turn: what a turn makes of the claims and the groups, what it leaves of the tables, and the way along a chain.
 use mathlib.Core.Path.{◌≡◌, refl, sym, ap, ◌∙◌, subst}
+use mathlib.Core.Bool.{Bool, cond}
 use mathlib.Core.List.{List, [], ◌∷◌}
 use Prim.Native.Nat.{ℕ, ◌+◌, ◌-◌, ◌/◌, ◌≤◌, ◌<◌}
 use native.Mathlib.Omega.{arith}
@@ -22,7 +23,7 @@ use Rattle.components.proofs.Starring.{Setting, singles_pass, singles_claimed, s
 
 -- What is left of the tables.
 
-attempt_kept : {g : Graph} {n : ℕ} {cut : List ℕ} {d : ℕ} {table₀ table : List ℕ} {r : ℕ} → Attempt g n cut d table₀ table r → Kept n table₀ table
+attempt_kept : {g : Graph} {n : ℕ} {cut : List ℕ} {d : ℕ} {table₀ table : List ℕ} {r : Bool} → Attempt g n cut d table₀ table r → Kept n table₀ table
 attempt_kept (joined same root far j w) = record { long = ap length same; rest = λ k l. ap (λ (t : List ℕ). get_or t k 0) same }
 attempt_kept (parted long root far j ne side tells p) = record { long = long; rest = p.rest }
 
@@ -41,8 +42,8 @@ pub worked_turn : {g : Graph} {n label e d : ℕ} {labels claimed₀ table₀ cl
 worked_turn (other ne p q) = rw (p, q) worked_same
 worked_turn (taken ne p q) = rw (p, q) worked_same
 worked_turn {d = d} {claimed₀ = claimed₀} (tried {r} z p a) = record {
-  claimed_long = ap length p ∙ length-set claimed₀ d r;
-  claims = λ x y. elim (ℕ_discrete x d) [ yes q ↦ rw q z | no q ↦ sym (ap (λ (l : List ℕ). get_or l x 0) p ∙ get_or-set_other claimed₀ d x r 0 q) ∙ y ];
+  claimed_long = ap length p ∙ length-set claimed₀ d (cond r 1 0);
+  claims = λ x y. elim (ℕ_discrete x d) [ yes q ↦ rw q z | no q ↦ sym (ap (λ (l : List ℕ). get_or l x 0) p ∙ get_or-set_other claimed₀ d x (cond r 1 0) 0 q) ∙ y ];
   kept = attempt_kept a;
 }
 

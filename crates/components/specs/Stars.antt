@@ -1,5 +1,5 @@
 -- What is kept while cuts are tried: the groups so far, which edges are claimed, and what a try of one cut answers.
-use Rattle.std.specs.Prelude.{◌≡◌, Bool, not, ◌⊎◌, List, [], ◌∷◌, ℕ, ◌/◌, ◌≤◌, ◌<◌, length, get_or, set}
+use Rattle.std.specs.Prelude.{◌≡◌, Bool, true, false, cond, not, ◌⊎◌, List, [], ◌∷◌, ℕ, ◌/◌, ◌≤◌, ◌<◌, length, get_or, set}
 use Rattle.connectivity.specs.Plan.{Plan, graph, Limits}
 use Rattle.connectivity.specs.Graph.{Graph, Edge, Joins}
 use Rattle.connectivity.specs.Reach.{Reach, Without}
@@ -23,12 +23,12 @@ pub record Grouping (g : Graph) (n : ℕ) (at : ℕ → ℕ) : Type 0 where
   pub sound : (u v : ℕ) → u < n → v < n → Together g u v → at u ≡ at v
   pub whole : Respects g n at []
 
--- a try of `cut`, which has d in it: 0 where its ends are still joined, and nothing changes; else 1, and the groups are taken apart by what one
--- of its ends still reaches
-pub data Attempt (g : Graph) (n : ℕ) (cut : List ℕ) (d : ℕ) (table₀ table : List ℕ) : ℕ → Type 0 where
-  joined : table ≡ table₀ → (root far : ℕ) → Joins g d root far → Reach g (Without cut) root far → Attempt g n cut d table₀ table 0
+-- a try of `cut`, which has d in it, and whether it parts: where its ends are still joined, nothing changes; else the groups are taken apart by
+-- what one of its ends still reaches
+pub data Attempt (g : Graph) (n : ℕ) (cut : List ℕ) (d : ℕ) (table₀ table : List ℕ) : Bool → Type 0 where
+  joined : table ≡ table₀ → (root far : ℕ) → Joins g d root far → Reach g (Without cut) root far → Attempt g n cut d table₀ table false
   parted : length table ≡ length table₀ → (root far : ℕ) → Joins g d root far → (Reach g (Without cut) root far → ⊥)
-      → (side : ℕ → Bool) → ((v : ℕ) → v < n → Tells (not (side v)) (Reach g (Without cut) root v)) → Parted n side (read table₀) (read table) → Attempt g n cut d table₀ table 1
+      → (side : ℕ → Bool) → ((v : ℕ) → v < n → Tells (not (side v)) (Reach g (Without cut) root v)) → Parted n side (read table₀) (read table) → Attempt g n cut d table₀ table true
 
 -- the edges below k have been tried alone: those that part something are claimed; what is no edge of the graph is claimed from the start
 pub record Singles (g : Graph) (n m k : ℕ) (claimed table : List ℕ) : Type 0 where
@@ -62,7 +62,7 @@ pub record Stars (g : Graph) (n m k y : ℕ) (claimed table : List ℕ) : Type 0
 pub data Turn (g : Graph) (n label e d : ℕ) (labels claimed₀ table₀ claimed table : List ℕ) : Type 0 where
   other : (get_or labels d 0 ≡ label → ⊥) → claimed ≡ claimed₀ → table ≡ table₀ → Turn g n label e d labels claimed₀ table₀ claimed table
   taken : (get_or claimed₀ d 0 ≡ 0 → ⊥) → claimed ≡ claimed₀ → table ≡ table₀ → Turn g n label e d labels claimed₀ table₀ claimed table
-  tried : {r : ℕ} → get_or claimed₀ d 0 ≡ 0 → claimed ≡ set claimed₀ d r → Attempt g n (e ∷ d ∷ []) d table₀ table r → Turn g n label e d labels claimed₀ table₀ claimed table
+  tried : {r : Bool} → get_or claimed₀ d 0 ≡ 0 → claimed ≡ set claimed₀ d (cond r 1 0) → Attempt g n (e ∷ d ∷ []) d table₀ table r → Turn g n label e d labels claimed₀ table₀ claimed table
 
 -- what the turns ask for: the tables of the plan, labels that cancel, room, and that what is not claimed is an edge of the graph
 pub record Working (most : Limits) (p : Plan) (incident begins first labels claimed table : List ℕ) : Type 0 where

@@ -1,5 +1,5 @@
 -- What the parts of a try promise one another, and what the cuts are tried over.
-use Rattle.std.specs.Prelude.{◌≡◌, cond, List, ℕ, ◌+◌, ◌*◌, ◌/◌, ◌≤◌, ◌<◌, eqb, length, get_or}
+use Rattle.std.specs.Prelude.{◌≡◌, Bool, true, false, List, ℕ, ◌/◌, ◌≤◌, ◌<◌, length, get_or}
 use Rattle.connectivity.specs.Plan.{Plan, graph, Limits}
 use Rattle.connectivity.specs.Component.{component_of}
 use Rattle.graph.specs.Marks.{read}
@@ -9,14 +9,10 @@ use Rattle.labels.specs.Label.{Balanced}
 use Rattle.components.specs.Splitting.{unseen, Parted}
 use Rattle.components.specs.Stars.{Grouping}
 
--- the end of d that is not v
-abbrev pub far_end : List ℕ → ℕ → ℕ → ℕ
-far_end ends d v = cond (eqb (get_or ends (2 * d) 0) v) (get_or ends (2 * d + 1) 0) (get_or ends (2 * d) 0)
-
 -- the groups are taken apart by the marks exactly where v has none
-pub data PartedAt (n : ℕ) (marks : List ℕ) (v : ℕ) (table₀ table : List ℕ) : ℕ → Type 0 where
-  seen : (get_or marks v 0 ≡ 0 → ⊥) → table ≡ table₀ → PartedAt n marks v table₀ table 0
-  cut_off : get_or marks v 0 ≡ 0 → length table ≡ length table₀ → Parted n (unseen marks) (read table₀) (read table) → PartedAt n marks v table₀ table 1
+pub data PartedAt (n : ℕ) (marks : List ℕ) (v : ℕ) (table₀ table : List ℕ) : Bool → Type 0 where
+  seen : (get_or marks v 0 ≡ 0 → ⊥) → table ≡ table₀ → PartedAt n marks v table₀ table false
+  cut_off : get_or marks v 0 ≡ 0 → length table ≡ length table₀ → Parted n (unseen marks) (read table₀) (read table) → PartedAt n marks v table₀ table true
 
 -- `part`: what it asks for: the tables of the plan, labels that cancel, room, and the bodies
 pub record Stage (most : Limits) (p : Plan) (incident begins first labels table : List ℕ) : Type 0 where

@@ -173,7 +173,7 @@ fn turn(
     if claimed[at] != 0 {
         return;
     }
-    claimed[at] = tries::attempt(
+    claimed[at] = u8::from(tries::attempt(
         vertices, ends, excluded, incident, begins, first, e, d, table,
-    );
+    ));
 }

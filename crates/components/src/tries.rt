@@ -8,14 +8,15 @@ ghost use Rattle.graph.specs.Tells.{Tells};
 ghost use Rattle.incidence.specs.Tables.{Tabled};
 ghost use Rattle.components.specs.Splitting.{Classes, unseen};
 ghost use Rattle.components.specs.Stars.{Attempt};
-ghost use Rattle.components.specs.Tries.{far_end, PartedAt};
+ghost use Rattle.components.specs.Tries.{PartedAt};
 
 use crate::split;
 use cuts::ends::{lower_end, mark};
 use graph::Graph;
+use graph::ends::far_end;
 
-// Searches from an end of d without e and d. Where that does not come to its other end, the groups are taken apart by what was seen, and the
-// answer is 1; else 0.
+// Searches from an end of d without e and d. Where that does not come to its other end, the groups are taken apart by what was seen; whether they
+// are.
 pub(crate) fn attempt(
     vertices: u16,
     ends: &[u16],
@@ -26,7 +27,7 @@ pub(crate) fn attempt(
     e: u16,
     d: u16,
     table: &mut [u16],
-) -> u8
+) -> bool
     requires { Tabled limits (plan vertices ends.now excluded.now) incident.now begins.now × (vertices ≤ length first.now) × (e < length ends.now / 2) × Edge (graph (plan vertices ends.now excluded.now)) d × (vertices ≤ length table.old) × Classes vertices (read table.old) }
     ensures { Attempt (graph (plan vertices ends.now excluded.now)) vertices (e ∷ (d ∷ [])) d table.old table.new result }
 {
@@ -75,28 +76,15 @@ fn search(
     );
 }
 
-// Where v has no mark, the groups are taken apart by the marks, and the answer is 1; else 0.
-fn part(vertices: u16, v: u16, marks: &[u16], table: &mut [u16]) -> u8
+// Where v has no mark, the groups are taken apart by the marks; whether they are.
+fn part(vertices: u16, v: u16, marks: &[u16], table: &mut [u16]) -> bool
     requires { (v < length marks.now) × (vertices ≤ limits.vertices) × (vertices ≤ length marks.now) × (vertices ≤ length table.old) × Classes vertices (read table.old) }
     ensures { PartedAt vertices marks.now v table.old table.new result }
 {
     if marks[v as usize] != 0 {
-        return 0;
+        return false;
     }
     let mut other = [0u16; Graph::MAX_VERTICES];
     split::split(vertices, marks, &mut other, table);
-    1
-}
-
-// The end of d that is not v.
-fn far_end(ends: &[u16], d: u16, v: u16) -> u16
-    requires { d < length ends.now / 2 }
-    ensures { result ≡ far_end ends.now d v }
-{
-    let at = 2 * (d as usize);
-    let left = ends[at];
-    if left == v {
-        return ends[at + 1];
-    }
-    left
+    true
 }

@@ -1,9 +1,10 @@
 -- The answer as it is handed back. And what the first search and the labels say of the plan, and the tables that they have.
-use mathlib.Core.Path.{◌≡◌, refl, sym, ap, ◌∙◌}
+use Rattle.std.specs.Prelude.{Option, Some, Ok}
+use Rattle.std.proofs.Math.Option as meaning
+use mathlib.Core.Path.{◌≡◌, refl, sym, ◌∙◌}
 use mathlib.Core.Logic.{◌↔◌}
 use mathlib.Core.List.Memᴰ.{not-nil as not_in}
 use mathlib.Core.List.{List, []}
-use mathlib.Core.Option.{Option}
 use Prim.Native.Nat.{ℕ, ◌/◌, ◌≤◌, ◌<◌}
 use native.Mathlib.Omega.{arith}
 use borrow.Author.Tests.{lt-ltb, le-ltb}
@@ -27,18 +28,17 @@ use Rattle.depth.proofs.Appending.{appended_forest}
 use Rattle.labels.specs.Answered.{ForestOf}
 use Rattle.labels.proofs.Labelled.{labelled_balanced}
 use Rattle.cuts.specs.declared.lowest.Lowest.{Lowest}
-use Rattle.cuts.specs.Verdict.{Lightest}
 use Rattle.cuts.specs.Lowest.{Told, parted, one, two, uncut, Whole}
 use Rattle.cuts.specs.Tries.{Tables, Ready, Spaces, SearchedBy, LabelledBy}
-use Rattle.cuts.specs.Verdict.{handed, lightest}
+use Rattle.cuts.specs.Verdict.{handed}
 use Rattle.cuts.proofs.Filter.{lowest_parted}
 
-same : {r : Lowest} {o : Option (List ℕ)} → Told r o → handed (lightest r) ≡ verdict_handed (verdict_on o)
+pub told-handed : {r : Option Lowest} {o : meaning.Option (List ℕ)} → Told r o → handed (Ok r) ≡ verdict_handed (verdict_on o)
 unfolding verdict_handed verdict_on
-same parted = refl
-same (one e) = refl
-same (two e d) = refl
-same uncut = refl
+told-handed parted = refl
+told-handed (one e) = refl
+told-handed (two e d) = refl
+told-handed uncut = refl
 
 -- no edge is lost before the first search
 pub uncut_yet : {p : Plan} {incident begins dead first order cursor labels marks other : List ℕ} → Tables limits p incident begins dead first order cursor → Spaces p dead labels marks other → Cutting p [] (read dead)
@@ -55,8 +55,8 @@ module _ {p : Plan} {incident begins dead first₀ order₀ cursor₀ labels₀ 
   fewer_seen : ltb count (kept_vertices p) ≡ disconnects (graph p) []
   fewer_seen = fewer t.tabled b.found (uncut_yet t s) t.fresh b.lowest.vertex
 
-  pub found_parted : count < most-seen → Told (record { count = 0; first = 0; second = 0 }) (lowest_cut (graph p))
-  found_parted l = rw (lowest_parted p (length p.ends / 2) refl (sym fewer_seen ∙ lt-ltb count (kept_vertices p) (omega (arith, l, k)))) parted
+  pub found_parted : {r : Option Lowest} → r ≡ Some (record { count = 0; first = 0; second = 0 }) → count < most-seen → Told r (lowest_cut (graph p))
+  found_parted q l = rw (q, lowest_parted p (length p.ends / 2) refl (sym fewer_seen ∙ lt-ltb count (kept_vertices p) (omega (arith, l, k)))) parted
 
   module _ (h : most-seen ≤ count) where
     forest : ForestOf p first order
@@ -133,6 +133,3 @@ module _ (p : Plan) where
         other_room = vertices_room;
       },
     )
-
-pub told-handed : {r : Lowest} {o : Option (List ℕ)} {l : Lightest} → l ≡ lightest r → Told r o → handed l ≡ verdict_handed (verdict_on o)
-told-handed q t = ap handed q ∙ same t

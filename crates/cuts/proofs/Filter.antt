@@ -6,10 +6,9 @@ use mathlib.Core.List.Memᴰ.{cases_cons as in-cons}
 use mathlib.Core.List.Memᴰ.{not-nil as not_in}
 use mathlib.Core.List.{List, [], ◌∷◌, ◌++◌, Memᴰ as In}
 use mathlib.Core.Option.{Option, none, some}
-use Prim.Native.Nat.{ℕ, ◌-◌, ◌/◌, ◌≤◌, ◌<◌}
+use Prim.Native.Nat.{ℕ, ◌-◌, ◌/◌}
 use native.Mathlib.Omega.{arith}
 use lib.ListN.{length}
-use borrow.Author.Tests.{lt-ltb, le-ltb}
 use Rattle.connectivity.specs.Lists.{range, keep}
 use Rattle.connectivity.specs.Plan.{Plan, graph, Limits}
 use Rattle.connectivity.specs.Graph.{Graph, Edge, is_edge, edges}
@@ -20,6 +19,7 @@ use Rattle.connectivity.proofs.Kept.{edge_size_lem}
 use Rattle.connectivity.proofs.LowestCut.{singles_in}
 use Rattle.graph.specs.Marks.{read}
 use Rattle.labels.proofs.CutLabels.{no_loops, skip_one, skip_two}
+use Rattle.std.specs.Prelude.{Some}
 use Rattle.cuts.specs.Lowest.{cut_by, Shown, ShownBoth, Whole, one_told, first_one, first_two}
 use Rattle.cuts.proofs.First.{none_some, first_yes, first_no, first_some, first_later}
 use Rattle.cuts.proofs.Likes.{not_one, not_two, by_one, by_two, no_with}
@@ -134,12 +134,8 @@ module _ (p : Plan) (m : ℕ) (q : m ≡ length p.ends / 2) where
         ∙ first_both (disconnects kept) (cut_by kept) (singles (keep (is_edge kept) (range 0 (m - 0)))) (singles (range 0 (m - 0))) (pairs (keep (is_edge kept) (range 0 (m - 0)))) (pairs (range 0 (m - 0)))
         (all_singles kept (range 0 (m - 0))) (all_pairs kept (range 0 (m - 0)))
 
-    pub lowest_one : (e : ℕ) → e < m → first_one kept m ≡ one_told m e → lowest_cut kept ≡ some (e ∷ [])
-    lowest_one e h z = sets ∙ first_some (cut_by kept) (singles (range 0 (m - 0))) (pairs (range 0 (m - 0))) (rw (lt-ltb e m h) at z)
+    pub lowest_one : (e : ℕ) → first_one kept m ≡ one_told (Some e) → lowest_cut kept ≡ some (e ∷ [])
+    lowest_one e z = sets ∙ first_some (cut_by kept) (singles (range 0 (m - 0))) (pairs (range 0 (m - 0))) z
 
     pub lowest_two : first_one kept m ≡ none → lowest_cut kept ≡ first_two kept m
     lowest_two z = sets ∙ first_later (cut_by kept) (singles (range 0 (m - 0))) (pairs (range 0 (m - 0))) z
-
--- an edge m stands for none
-pub none_one : (g : Graph) (m e : ℕ) → m ≤ e → first_one g m ≡ one_told m e → first_one g m ≡ none
-none_one g m e h q = rw (le-ltb e m h) at q

@@ -5,9 +5,9 @@ use mathlib.Core.List.{List, [], ◌∷◌, ◌++◌}
 use mathlib.Core.Option.{Option, none, some}
 use Prim.Native.Nat.{ℕ, zero, suc, ◌+◌, ◌-◌, ◌≤◌, ◌<◌}
 use native.Mathlib.Omega.{arith}
-use borrow.Author.Tests.{lt-ltb, le-ltb}
 use Rattle.connectivity.specs.Lists.{range}
 use Rattle.connectivity.specs.Cut.{singles, pairs_with, pairs, first_of}
+use Rattle.std.specs.Prelude.{Some, None}
 use Rattle.cuts.specs.Lowest.{one_told, two_told}
 
 -- the numbers from e on below m
@@ -78,15 +78,15 @@ module _ (f : List ℕ → Bool) where
     unfolding singles
     one_cons = rw (from_cons e m h)
 
-    pub one_found : f (e ∷ []) ≡ true → first_of f (singles (from e m)) ≡ one_told m e
-    one_found p = ap (first_of f) one_cons ∙ first_yes (e ∷ []) _ p ∙ rw (lt-ltb e m h)
+    pub one_found : f (e ∷ []) ≡ true → first_of f (singles (from e m)) ≡ one_told (Some e)
+    one_found p = ap (first_of f) one_cons ∙ first_yes (e ∷ []) _ p
 
     pub one_next : f (e ∷ []) ≡ false → first_of f (singles (from e m)) ≡ first_of f (singles (from (e + 1) m))
     one_next p = ap (first_of f) one_cons ∙ first_no (e ∷ []) _ p
 
-  pub one_over : (e m : ℕ) → e ≡ m → first_of f (singles (from e m)) ≡ one_told m m
+  pub one_over : (e m : ℕ) → e ≡ m → first_of f (singles (from e m)) ≡ one_told None
   unfolding singles
-  one_over e m p = rw (p, from_over m, le-ltb m m (omega arith)) first_none
+  one_over e m p = rw (p, from_over m) first_none
 
   -- with a first edge a
   module _ (a d m : ℕ) (h : d < m) where
@@ -94,28 +94,28 @@ module _ (f : List ℕ → Bool) where
     unfolding pairs_with
     with_cons = rw (from_cons d m h)
 
-    pub with_found : f (a ∷ (d ∷ [])) ≡ true → first_of f (pairs_with a (from d m)) ≡ two_told m a d
-    with_found p = ap (first_of f) with_cons ∙ first_yes (a ∷ (d ∷ [])) _ p ∙ rw (lt-ltb d m h)
+    pub with_found : f (a ∷ (d ∷ [])) ≡ true → first_of f (pairs_with a (from d m)) ≡ two_told a (Some d)
+    with_found p = ap (first_of f) with_cons ∙ first_yes (a ∷ (d ∷ [])) _ p
 
     pub with_next : f (a ∷ (d ∷ [])) ≡ false → first_of f (pairs_with a (from d m)) ≡ first_of f (pairs_with a (from (d + 1) m))
     with_next p = ap (first_of f) with_cons ∙ first_no (a ∷ (d ∷ [])) _ p
 
-  pub with_over : (a d m : ℕ) → d ≡ m → first_of f (pairs_with a (from d m)) ≡ two_told m a m
+  pub with_over : (a d m : ℕ) → d ≡ m → first_of f (pairs_with a (from d m)) ≡ two_told a None
   unfolding pairs_with
-  with_over a d m p = rw (p, from_over m, le-ltb m m (omega arith)) first_none
+  with_over a d m p = rw (p, from_over m) first_none
 
   -- pairs
-  module _ (e d m : ℕ) (h : e < m) where
+  module _ (e m : ℕ) (h : e < m) where
     two_cons : pairs (from e m) ≡ pairs_with e (from (e + 1) m) ++ pairs (from (e + 1) m)
     unfolding pairs
     two_cons = rw (from_cons e m h)
 
-    pub two_found : d < m → first_of f (pairs_with e (from (e + 1) m)) ≡ two_told m e d → first_of f (pairs (from e m)) ≡ two_told m e d
-    two_found b p = ap (first_of f) two_cons ∙ rw (lt-ltb d m b) (first_some (pairs_with e (from (e + 1) m)) (pairs (from (e + 1) m)) (rw (lt-ltb d m b) at p))
+    pub two_found : (d : ℕ) → first_of f (pairs_with e (from (e + 1) m)) ≡ two_told e (Some d) → first_of f (pairs (from e m)) ≡ two_told e (Some d)
+    two_found d p = ap (first_of f) two_cons ∙ first_some (pairs_with e (from (e + 1) m)) (pairs (from (e + 1) m)) p
 
-    pub two_next : m ≤ d → first_of f (pairs_with e (from (e + 1) m)) ≡ two_told m e d → first_of f (pairs (from e m)) ≡ first_of f (pairs (from (e + 1) m))
-    two_next b p = ap (first_of f) two_cons ∙ first_later (pairs_with e (from (e + 1) m)) (pairs (from (e + 1) m)) (rw (le-ltb d m b) at p)
+    pub two_next : first_of f (pairs_with e (from (e + 1) m)) ≡ none → first_of f (pairs (from e m)) ≡ first_of f (pairs (from (e + 1) m))
+    two_next p = ap (first_of f) two_cons ∙ first_later (pairs_with e (from (e + 1) m)) (pairs (from (e + 1) m)) p
 
-  pub two_over : (e m : ℕ) → e ≡ m → first_of f (pairs (from e m)) ≡ two_told m m m
+  pub two_over : (e m : ℕ) → e ≡ m → first_of f (pairs (from e m)) ≡ none
   unfolding pairs
-  two_over e m p = rw (p, from_over m, le-ltb m m (omega arith)) first_none
+  two_over e m p = rw (p, from_over m) first_none

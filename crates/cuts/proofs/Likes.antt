@@ -5,7 +5,6 @@ use mathlib.Core.List.{List, [], ◌∷◌}
 use mathlib.Core.Option.{none}
 use Prim.Native.Nat.{ℕ, ◌+◌, ◌-◌, ◌≤◌, ◌<◌}
 use native.Mathlib.Omega.{arith}
-use borrow.Author.Tests.{le-ltb}
 use native.Mathlib.Decide.{ℕ_discrete, dec_lt}
 use lib.ListN.{length, get_or}
 use Rattle.connectivity.specs.Lists.{all}
@@ -19,8 +18,9 @@ use Rattle.chains.specs.Chains.{key_of, keys, named, Lowest, Chained}
 use Rattle.chains.proofs.Lowest.{named_some}
 use Rattle.chains.proofs.OnChain.{chained_served, next_long, next_lowest, other_label}
 use Rattle.cuts.specs.Lowest.{cut_by, Shown, ShownBoth, first_with}
-use Rattle.cuts.specs.Alike.{Chaining, Like, LowestLike, Paired}
-use Rattle.cuts.proofs.First.{from, steps, first_no, one_next, with_next, two_next}
+use Rattle.std.specs.Prelude.{Option, Some, None}
+use Rattle.cuts.specs.Alike.{Chaining, Like, NoneLike, FirstLike, LowestLike, Paired}
+use Rattle.cuts.proofs.First.{from, steps, first_no, one_next, with_next, with_over, two_next}
 
 -- the chains that are made serve
 pub chained : {m : ℕ} {labels next₀ heads₀ next heads : List ℕ} {r : Answer} → Chained m labels next₀ heads₀ next heads r
@@ -51,15 +51,15 @@ module _ {m : ℕ} {labels next : List ℕ} (dead : List ℕ) (c : Chaining m la
   walk_start = let l = c.follows e h in record { inside = l.inside; on = l.on; above = omega (arith, l.low); between = λ d b o q. other_label c.size labels l d (omega arith) b (sym q.1) }
 
   module _ {x : ℕ} (w : Reached x) where
-    pub walk_over : x ≡ 0 → LowestLike labels dead (get_or labels e 0) (e + 1) m m
-    walk_over z = record { low = omega arith; high = omega arith; like = λ b. absurd (omega arith); between = λ d b. w.between d (rw z b) }
+    pub walk_over : x ≡ 0 → NoneLike labels dead (get_or labels e 0) (e + 1) m
+    walk_over z = λ d b. w.between d (rw z b)
 
     module _ (some : 0 < x) where
       at : named m x ≡ x - 1
       at = named_some m x some
 
-      pub walk_found : Like labels dead (get_or labels e 0) (x - 1) → LowestLike labels dead (get_or labels e 0) (e + 1) m (x - 1)
-      walk_found q = record { low = omega (arith, w.above, at); high = omega (arith, w.inside); like = λ b. q; between = λ d b. w.between d (omega (arith, at)) }
+      pub walk_found : Like labels dead (get_or labels e 0) (x - 1) → FirstLike labels dead (get_or labels e 0) (e + 1) m (x - 1)
+      walk_found q = record { low = omega (arith, w.above, at); high = omega (arith, w.inside); like = q; between = λ d b. w.between d (omega (arith, at)) }
 
       follows : Lowest key (key e) (x - 1 + 1) m (get_or next (x - 1) 0)
       follows = rw (w.on some) at (c.follows (x - 1) (omega (arith, w.inside)))
@@ -115,9 +115,23 @@ module _ (g : Graph) where
 -- those above e before d are no cut together with e, and d has its label
 pub record With (g : Graph) (labels dead : List ℕ) (m e d : ℕ) : Type 0 where
   pub above : e < d
-  pub high : d ≤ m
-  pub like : d < m → Like labels dead (get_or labels e 0) d
+  pub high : d < m
+  pub like : Like labels dead (get_or labels e 0) d
   pub so_far : first_with g m e ≡ first_of (cut_by g) (pairs_with e (from d m))
+
+-- the edge that is tried next together with e, or none: then none of them is such a cut
+abbrev pub Reaching : Graph → List ℕ → List ℕ → ℕ → ℕ → Option ℕ → Type 0
+Reaching g labels dead m e (Some d) = With g labels dead m e d
+Reaching g labels dead m e None = first_with g m e ≡ none
+
+-- what is left to try
+abbrev pub rest : ℕ → Option ℕ → ℕ
+rest m (Some d) = m - d
+rest m None = 0
+
+pub rest_less : (labels dead : List ℕ) (label : ℕ) {d m : ℕ} (r : Option ℕ) → d < m → LowestLike labels dead label (d + 1) m r → rest m r < m - d
+rest_less labels dead label (Some r) h l = omega (arith, h, l.low, l.high)
+rest_less labels dead label None h l = omega (arith, h)
 
 -- marks that are the same
 pub with_same : {g : Graph} {labels dead dead' : List ℕ} {m e d : ℕ} → dead' ≡ dead → With g labels dead m e d → With g labels dead' m e d
@@ -129,7 +143,7 @@ module _ (p : Plan) (dead : List ℕ) (live : (e : ℕ) → Edge (graph p) e →
 
   -- an entry with a mark is no edge, and no first one of a cut
   pub pass_two : {m e : ℕ} → e < m → (get_or dead e 0 ≡ 0 → ⊥) → first_of (cut_by g) (pairs (from e m)) ≡ first_of (cut_by g) (pairs (from (e + 1) m))
-  pass_two {m} {e} h n = two_next (cut_by g) e m m h (omega arith) (no_with g e (from (e + 1) m) (λ x. n (live e x)) ∙ rw (le-ltb m m (omega arith)))
+  pass_two {m} {e} h n = two_next (cut_by g) e m h (no_with g e (from (e + 1) m) (λ x. n (live e x)))
 
   module _ {labels : List ℕ} {m : ℕ} where
     pub pass_one : {e : ℕ} → Shown p labels m → e < m → (Like labels dead 0 e → ⊥) → first_of (cut_by g) (singles (from e m)) ≡ first_of (cut_by g) (singles (from (e + 1) m))
@@ -148,18 +162,18 @@ module _ (p : Plan) (dead : List ℕ) (live : (e : ℕ) → Edge (graph p) e →
         ]
       ]
 
-      pass_with : {e d r : ℕ} → e < d → first_with g m e ≡ first_of (cut_by g) (pairs_with e (from d m)) → LowestLike labels dead (get_or labels e 0) d m r → With g labels dead m e r
-      pass_with {e} {d} {r} o q l = record {
-        above = omega (arith, l.low);
-        high = l.high;
-        like = l.like;
-        so_far = q ∙ steps (λ (k : ℕ). first_of (cut_by g) (pairs_with e (from k m))) d r l.low
-            (λ k a b. let h : k < m = omega (arith, l.high) in with_next (cut_by g) e k m h (other e k (omega arith) (λ t. l.between k b a t.1)));
-      }
+      skip : (e d r : ℕ) → e < d → d ≤ r → r ≤ m → NoneLike labels dead (get_or labels e 0) d r
+          → first_of (cut_by g) (pairs_with e (from d m)) ≡ first_of (cut_by g) (pairs_with e (from r m))
+      skip e d r o low high n = steps (λ (k : ℕ). first_of (cut_by g) (pairs_with e (from k m))) d r low
+          (λ k a b. let h : k < m = omega (arith, high) in with_next (cut_by g) e k m h (other e k (omega arith) (λ t. n k b a t.1)))
 
-      pub with_start : {e d : ℕ} → LowestLike labels dead (get_or labels e 0) (e + 1) m d → With g labels dead m e d
-      with_start {e} l = pass_with (omega arith) refl l
+      pass_with : (e d : ℕ) (r : Option ℕ) → e < d → d ≤ m → first_with g m e ≡ first_of (cut_by g) (pairs_with e (from d m)) → LowestLike labels dead (get_or labels e 0) d m r → Reaching g labels dead m e r
+      pass_with e d (Some r) o h q l = record { above = omega (arith, l.low); high = l.high; like = l.like; so_far = q ∙ skip e d r o l.low (omega (arith, l.high)) l.between }
+      pass_with e d None o h q l = q ∙ skip e d m o h (omega arith) l ∙ with_over (cut_by g) e m m refl
 
-      pub with_on : {e d r : ℕ} → With g labels dead m e d → d < m → cut_by g (e ∷ (d ∷ [])) ≡ false → LowestLike labels dead (get_or labels d 0) (d + 1) m r → With g labels dead m e r
-      with_on {e} {d} {r} w h t l = pass_with (omega (arith, w.above)) (w.so_far ∙ with_next (cut_by g) e d m h t)
-          (subst (λ (x : ℕ). LowestLike labels dead x (d + 1) m r) (w.like h).1 l)
+      pub with_start : (e : ℕ) (r : Option ℕ) → e < m → LowestLike labels dead (get_or labels e 0) (e + 1) m r → Reaching g labels dead m e r
+      with_start e r h l = pass_with e (e + 1) r (omega arith) (omega (arith, h)) refl l
+
+      pub with_on : (e d : ℕ) (r : Option ℕ) → With g labels dead m e d → cut_by g (e ∷ (d ∷ [])) ≡ false → LowestLike labels dead (get_or labels d 0) (d + 1) m r → Reaching g labels dead m e r
+      with_on e d r w t l = pass_with e (d + 1) r (omega (arith, w.above)) (omega (arith, w.high)) (w.so_far ∙ with_next (cut_by g) e d m w.high t)
+          (subst (λ (x : ℕ). LowestLike labels dead x (d + 1) m r) w.like.1 l)

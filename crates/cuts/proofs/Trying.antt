@@ -7,7 +7,7 @@ use mathlib.Core.List.Memᴰ.{not-nil as not_in}
 use mathlib.Core.List.Memᴰ.{tail as later}
 use mathlib.Core.Bool.{Bool, true, false, cond}
 use mathlib.Core.List.{List, [], ◌∷◌, Memᴰ as In}
-use Prim.Native.Nat.{ℕ, ◌+◌, ◌*◌, ◌≤◌, ◌<◌}
+use Prim.Native.Nat.{ℕ, ◌+◌, ◌*◌, ◌<◌}
 use native.Mathlib.Omega.{arith}
 use native.Mathlib.Decide.{ℕ_discrete}
 use lib.Dec.{T, eqb, ltb}
@@ -16,13 +16,13 @@ use lib.Seq.{ext_get_or, get_or-set_same, get_or-set_other}
 use Rattle.connectivity.specs.Plan.{Plan, graph, Limits}
 use Rattle.connectivity.specs.Graph.{Graph, Vertex, Edge}
 use Rattle.connectivity.specs.Cut.{disconnects}
-use Rattle.connectivity.specs.Admission.{kept_vertices, Admitted}
+use Rattle.connectivity.specs.Admission.{kept_vertices}
 use Rattle.connectivity.proofs.Lists.{T-dec, T_true, T_false}
 use Rattle.connectivity.proofs.Disconnects.{disconnects_is, connected_less}
 use Rattle.connectivity.proofs.Kept.{edge_is, edge_size_lem}
 use Rattle.graph.specs.Marks.{read}
 use Rattle.depth.specs.Depth.{Masking, Cutting}
-use Rattle.cuts.specs.Tries.{Tables, Ready, Restored, EndOf, EndsBelow, lower_end}
+use Rattle.cuts.specs.Tries.{Tables, Ready, Restored, EndOf, lower_end}
 
 -- both marks
 abbrev pub both : List ℕ → ℕ → ℕ → ℕ → List ℕ
@@ -120,10 +120,6 @@ restored_more a b = record {
   order_long = b.order_long ∙ a.order_long;
   cursor_long = b.cursor_long ∙ a.cursor_long;
 }
-
--- the ends of every entry are below n
-pub ends_below : {most : Limits} {p : Plan} (n : ℕ) → Admitted most p → p.vertices ≤ n → EndsBelow p.ends n
-ends_below n a h e l = let f = a.fit e l in (omega (arith, f.left), omega (arith, f.right))
 
 -- what is found over an edge is an end of it
 pub end_of : (ends first : List ℕ) (e : ℕ) {r : ℕ} → r ≡ lower_end ends first e → EndOf ends e r

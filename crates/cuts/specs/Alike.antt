@@ -1,5 +1,5 @@
 -- Edges with like labels, in their order.
-use Rattle.std.specs.Prelude.{◌≡◌, List, ℕ, ◌+◌, ◌≤◌, ◌<◌, length, get_or}
+use Rattle.std.specs.Prelude.{◌≡◌, List, ℕ, ◌+◌, ◌≤◌, ◌<◌, length, get_or, Option, Some, None}
 use Rattle.chains.specs.Chains.{keys, Lowest}
 
 -- what follows each edge on its chain
@@ -12,12 +12,21 @@ pub record Chaining (m : ℕ) (labels next : List ℕ) : Type 0 where
 abbrev pub Like : List ℕ → List ℕ → ℕ → ℕ → Type 0
 Like labels dead label d = (get_or dead d 0 ≡ 0) × (get_or labels d 0 ≡ label)
 
--- r is the lowest of such edges from e on, below m, or m for none
-pub record LowestLike (labels dead : List ℕ) (label e m r : ℕ) : Type 0 where
+-- no edge from e on, below m, is such
+abbrev pub NoneLike : List ℕ → List ℕ → ℕ → ℕ → ℕ → Type 0
+NoneLike labels dead label e m = (d : ℕ) → d < m → e ≤ d → Like labels dead label d → ⊥
+
+-- r is the lowest of such edges from e on, below m
+pub record FirstLike (labels dead : List ℕ) (label e m r : ℕ) : Type 0 where
   pub low : e ≤ r
-  pub high : r ≤ m
-  pub like : r < m → Like labels dead label r
-  pub between : (d : ℕ) → d < r → e ≤ d → Like labels dead label d → ⊥
+  pub high : r < m
+  pub like : Like labels dead label r
+  pub between : NoneLike labels dead label e r
+
+-- the lowest of such edges from e on, below m, if there is one
+abbrev pub LowestLike : List ℕ → List ℕ → ℕ → ℕ → ℕ → Option ℕ → Type 0
+LowestLike labels dead label e m (Some r) = FirstLike labels dead label e m r
+LowestLike labels dead label e m None = NoneLike labels dead label e m
 
 -- e has no mark, and d has none and its label
 abbrev pub Paired : List ℕ → List ℕ → ℕ → ℕ → Type 0

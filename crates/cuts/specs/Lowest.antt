@@ -1,6 +1,7 @@
 -- What the parts of the search for the lowest cut answer.
-use Rattle.std.specs.Prelude.{◌≡◌, Bool, false, cond, ◌&&◌, List, [], ◌∷◌, ℕ, ◌+◌, ◌-◌, ◌/◌, ◌≤◌, ◌<◌, ltb, length, get_or}
-use Rattle.std.proofs.Math.Option.{Option, none, some}
+use Rattle.std.specs.Prelude.{◌≡◌, Bool, false, ◌&&◌, List, [], ◌∷◌, ℕ, ◌+◌, ◌-◌, ◌/◌, ◌≤◌, ◌<◌, length, get_or, Option, Some, None}
+use Rattle.std.proofs.Math.Option.{none, some}
+use Rattle.std.proofs.Math.Option as meaning
 use Rattle.connectivity.specs.Lists.{range, all}
 use Rattle.connectivity.specs.Plan.{Plan, graph, Limits}
 use Rattle.connectivity.specs.Graph.{Graph, Edge, is_edge}
@@ -31,29 +32,31 @@ pub record ShownBoth (p : Plan) (labels : List ℕ) (m : ℕ) : Type 0 where
   pub shown : Shown p labels m
   pub two : ShowsTwo (graph p) labels
 
--- an edge below m, or m for none
-abbrev pub one_told : ℕ → ℕ → Option (List ℕ)
-one_told m e = cond (ltb e m) (some (e ∷ [])) none
+-- the set of an edge that was found, if one was; that of e and such an edge
+abbrev pub one_told : Option ℕ → meaning.Option (List ℕ)
+one_told (Some e) = some (e ∷ [])
+one_told None = none
 
-abbrev pub two_told : ℕ → ℕ → ℕ → Option (List ℕ)
-two_told m e d = cond (ltb d m) (some (e ∷ (d ∷ []))) none
+abbrev pub two_told : ℕ → Option ℕ → meaning.Option (List ℕ)
+two_told e (Some d) = some (e ∷ (d ∷ []))
+two_told e None = none
 
 -- the first of the sets of one edge; of those of e and a higher one; of two
-abbrev pub first_one : Graph → ℕ → Option (List ℕ)
+abbrev pub first_one : Graph → ℕ → meaning.Option (List ℕ)
 first_one g m = first_of (cut_by g) (singles (range 0 (m - 0)))
 
-abbrev pub first_with : Graph → ℕ → ℕ → Option (List ℕ)
+abbrev pub first_with : Graph → ℕ → ℕ → meaning.Option (List ℕ)
 first_with g m e = first_of (cut_by g) (pairs_with e (range (e + 1) (m - (e + 1))))
 
-abbrev pub first_two : Graph → ℕ → Option (List ℕ)
+abbrev pub first_two : Graph → ℕ → meaning.Option (List ℕ)
 first_two g m = first_of (cut_by g) (pairs (range 0 (m - 0)))
 
--- how many edges, and which, unused places 0; three for none
-pub data Told : Lowest → Option (List ℕ) → Type 0 where
-  parted : Told (record { count = 0; first = 0; second = 0 }) (some [])
-  one : (e : ℕ) → Told (record { count = 1; first = e; second = 0 }) (some (e ∷ []))
-  two : (e d : ℕ) → Told (record { count = 2; first = e; second = d }) (some (e ∷ (d ∷ [])))
-  uncut : Told (record { count = 3; first = 0; second = 0 }) none
+-- how many edges, and which, unused places 0
+pub data Told : Option Lowest → meaning.Option (List ℕ) → Type 0 where
+  parted : Told (Some (record { count = 0; first = 0; second = 0 })) (some [])
+  one : (e : ℕ) → Told (Some (record { count = 1; first = e; second = 0 })) (some (e ∷ []))
+  two : (e d : ℕ) → Told (Some (record { count = 2; first = e; second = d })) (some (e ∷ (d ∷ [])))
+  uncut : Told None none
 
 -- a connected plan with labels that cancel around every vertex
 pub record Whole (most : Limits) (p : Plan) (labels : List ℕ) : Type 0 where

@@ -72,10 +72,6 @@ pub record Restored (dead₀ marks₀ order₀ cursor₀ dead marks order cursor
 abbrev pub EndOf : List ℕ → ℕ → ℕ → Type 0
 EndOf ends e r = (r ≡ get_or ends (2 * e) 0) ⊎ (r ≡ get_or ends (2 * e + 1) 0)
 
--- the ends of every edge are below n
-abbrev pub EndsBelow : List ℕ → ℕ → Type 0
-EndsBelow ends n = (e : ℕ) → e < length ends / 2 → (get_or ends (2 * e) 0 < n) × (get_or ends (2 * e + 1) 0 < n)
-
 -- the end of e of which it is the first edge, if there is one; else the second
 abbrev pub lower_end : List ℕ → List ℕ → ℕ → ℕ
 lower_end ends first e = cond (eqb (get_or first (get_or ends (2 * e) 0) 0) (e + 1)) (get_or ends (2 * e) 0) (get_or ends (2 * e + 1) 0)

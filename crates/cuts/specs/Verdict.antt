@@ -30,7 +30,3 @@ unfoldable pub lowest_after : Answer → Plan → Handed
 lowest_after a p =
     let found = verdict_handed (verdict_on (lowest_cut (graph p))) in
     cond (eqb a.number 0) found (refusal a)
-
--- three stands for none
-abbrev pub lightest : Lowest → Lightest
-lightest r = cond (eqb r.count 3) (Ok None) (Ok (Some r))

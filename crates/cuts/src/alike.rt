@@ -13,8 +13,14 @@ pub(crate) fn is_like(labels: &[u64], dead: &[u8], label: u64, d: u16) -> bool
     dead[at] == 0 && labels[at] == label
 }
 
-// The lowest edge above `e` that has its label, or `edges` for none: it is on the chain of `e`.
-pub(crate) fn next_like(labels: &[u64], dead: &[u8], next: &[u16], edges: u16, e: u16) -> u16
+// The lowest edge above `e` that has its label, if there is one: it is on the chain of `e`.
+pub(crate) fn next_like(
+    labels: &[u64],
+    dead: &[u8],
+    next: &[u16],
+    edges: u16,
+    e: u16,
+) -> Option<u16>
     requires { (edges ≤ length labels.now) × (edges ≤ length dead.now) × Chaining edges labels.now next.now × (e < edges) }
     ensures { LowestLike labels.now dead.now (get_or labels.now e 0) (e + 1) edges result }
 {
@@ -23,9 +29,9 @@ pub(crate) fn next_like(labels: &[u64], dead: &[u8], next: &[u16], edges: u16, e
     while x != 0 {
         let d = x - 1;
         if is_like(labels, dead, label, d) {
-            return d;
+            return Some(d);
         }
         x = next[d as usize];
     }
-    edges
+    None
 }

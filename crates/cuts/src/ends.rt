@@ -1,25 +1,35 @@
-// What a try needs of its edges: the end that was found over one, and a mark for two.
-ghost use Rattle.std.specs.Prelude.{◌≡◌, ◌/◌, ◌<◌, length, set};
-ghost use Rattle.cuts.specs.Tries.{lower_end, EndsBelow};
+// What a try needs of its edges: the end that was found over one, and a mark for two. A place behind a table's end counts as 0, and is given no mark.
+ghost use Rattle.std.specs.Prelude.{◌≡◌, set};
+ghost use Rattle.cuts.specs.Tries.{lower_end};
+
+use graph::ends::number_at;
 
 // The end of `e` of which it is the first edge, if there is one; else the second.
 pub fn lower_end(ends: &[u16], first: &[u16], e: u16) -> u16
-    requires { EndsBelow ends.now (length first.now) × (e < length ends.now / 2) × (e < 65535) }
     ensures { result ≡ lower_end ends.now first.now e }
 {
-    let at = 2 * (e as usize);
-    let v = ends[at];
-    if first[v as usize] == e + 1 {
+    let at = 2 * usize::from(e);
+    let v = number_at(ends, at);
+    let found = number_at(first, usize::from(v));
+    if usize::from(found) == usize::from(e) + 1 {
         return v;
     }
-    ends[at + 1]
+    number_at(ends, at + 1)
 }
 
 // Gives both edges a mark.
-pub fn mark(e: u16, d: u16, x: u8, dead: &mut [u8])
-    requires { (e < length dead.old) × (d < length dead.old) }
-    ensures { dead.new ≡ set (set dead.old e x) d x }
+pub fn mark(e: u16, d: u16, value: u8, dead: &mut [u8])
+    ensures { dead.new ≡ set (set dead.old e value) d value }
 {
-    dead[e as usize] = x;
-    dead[d as usize] = x;
+    put(e, value, dead);
+    put(d, value, dead);
+}
+
+fn put(e: u16, value: u8, dead: &mut [u8])
+    ensures { dead.new ≡ set dead.old e value }
+{
+    let place = usize::from(e);
+    if place < dead.len() {
+        dead[place] = value;
+    }
 }

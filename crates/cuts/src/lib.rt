@@ -9,7 +9,7 @@ ghost use Rattle.graph.specs.Tells.{Tells};
 ghost use Rattle.incidence.specs.Tables.{Tabled};
 ghost use Rattle.cuts.specs.Lowest.{Told};
 ghost use Rattle.cuts.specs.Tries.{Tables, Spaces, LabelledBy, Searched};
-ghost use Rattle.cuts.specs.Verdict.{handed, lightest};
+ghost use Rattle.cuts.specs.Verdict.{handed};
 ghost use Rattle.cuts.specs.Answered.{SearchedFrom, Answered};
 
 use graph::{Answer, Graph};
@@ -78,7 +78,7 @@ fn lowest_filled(
     let mut labels = [0u64; Graph::MAX_EDGES];
     let mut marks = [0u16; Graph::MAX_VERTICES];
     let mut other = [0u16; Graph::MAX_VERTICES];
-    told(lowest_over(
+    Ok(lowest_over(
         vertices,
         ends,
         excluded,
@@ -109,7 +109,7 @@ fn lowest_over(
     labels: &mut [u64],
     marks: &mut [u16],
     other: &mut [u16],
-) -> Lowest
+) -> Option<Lowest>
     requires { Tables limits (plan vertices ends.now excluded.now) incident.now begins.now dead.old first.old order.old cursor.old × Spaces (plan vertices ends.now excluded.now) dead.old labels.old marks.old other.old }
     ensures { Told result (lowest_cut (graph (plan vertices ends.now excluded.now))) × Searched (plan vertices ends.now excluded.now) incident.now begins.now dead.old first.old order.old cursor.old first.new order.new }
 {
@@ -117,7 +117,7 @@ fn lowest_over(
         vertices, ends, excluded, incident, begins, dead, first, order, cursor,
     );
     if count < vertices - excluded.len() as u16 {
-        return lowest::cut(0, 0, 0);
+        return Some(lowest::cut(0, 0, 0));
     }
     label(vertices, ends, excluded, first, order, labels);
     lowest::small_cut(
@@ -138,14 +138,4 @@ fn label(
 {
     let mut sums = [0u64; Graph::MAX_VERTICES];
     labels::balance(vertices, ends, excluded, first, order, labels, &mut sums);
-}
-
-// Three edges stand for no cut.
-fn told(cut: Lowest) -> Result<Option<Lowest>, Answer>
-    ensures { result ≡ lightest cut }
-{
-    if cut.count == 3 {
-        return Ok(None);
-    }
-    Ok(Some(cut))
 }

@@ -13,7 +13,7 @@ use graph::Graph;
 // How many chains there are for edges with like labels. More would be shorter, and take more of the stack.
 const HEADS: usize = 1024;
 
-// A cut of at most two edges: how many, and which; unused places are 0. Three for none.
+// A cut of at most two edges: how many, and which; unused places are 0.
 #[derive(Clone, Copy)]
 pub struct Lowest {
     pub count: u16,
@@ -46,25 +46,25 @@ pub(crate) fn small_cut(
     marks: &mut [u16],
     order: &mut [u16],
     cursor: &mut [u16],
-) -> Lowest
+) -> Option<Lowest>
     requires { Whole limits (plan vertices ends.now excluded.now) labels.now × Ready limits (plan vertices ends.now excluded.now) incident.now begins.now first.now dead.old marks.old order.old cursor.old }
     ensures { Told result (lowest_cut (graph (plan vertices ends.now excluded.now))) }
 {
     let edges = (ends.len() / 2) as u16;
-    let e = lowest_one(
+    let single = lowest_one(
         vertices, ends, excluded, incident, begins, first, labels, edges, dead, marks, order,
         cursor,
     );
-    if e < edges {
-        return cut(1, e, 0);
+    match single {
+        Some(e) => Some(cut(1, e, 0)),
+        None => lowest_pair(
+            vertices, ends, excluded, incident, begins, first, labels, edges, dead, marks, order,
+            cursor,
+        ),
     }
-    lowest_pair(
-        vertices, ends, excluded, incident, begins, first, labels, edges, dead, marks, order,
-        cursor,
-    )
 }
 
-// The lowest edge that disconnects, or `edges` for none. One whose label is not 0 need not be tried.
+// The lowest edge that disconnects, if there is one. One whose label is not 0 need not be tried.
 fn lowest_one(
     vertices: u16,
     ends: &[u16],
@@ -78,9 +78,9 @@ fn lowest_one(
     marks: &mut [u16],
     order: &mut [u16],
     cursor: &mut [u16],
-) -> u16
+) -> Option<u16>
     requires { Shown (plan vertices ends.now excluded.now) labels.now edges × Ready limits (plan vertices ends.now excluded.now) incident.now begins.now first.now dead.old marks.old order.old cursor.old }
-    ensures { (result ≤ edges) × (first_one (graph (plan vertices ends.now excluded.now)) edges ≡ one_told edges result) × Restored dead.old marks.old order.old cursor.old dead.new marks.new order.new cursor.new }
+    ensures { (first_one (graph (plan vertices ends.now excluded.now)) edges ≡ one_told result) × Restored dead.old marks.old order.old cursor.old dead.new marks.new order.new cursor.new }
 {
     for e in 0..edges {
         if alike::is_like(labels, dead, 0, e)
@@ -88,13 +88,13 @@ fn lowest_one(
                 vertices, ends, excluded, incident, begins, first, e, e, dead, marks, order, cursor,
             )
         {
-            return e;
+            return Some(e);
         }
     }
-    edges
+    None
 }
 
-// The lowest pair that disconnects, or three edges for none. Edges with like labels are put on chains.
+// The lowest pair that disconnects, if there is one. Edges with like labels are put on chains.
 fn lowest_pair(
     vertices: u16,
     ends: &[u16],
@@ -108,7 +108,7 @@ fn lowest_pair(
     marks: &mut [u16],
     order: &mut [u16],
     cursor: &mut [u16],
-) -> Lowest
+) -> Option<Lowest>
     requires { ShownBoth (plan vertices ends.now excluded.now) labels.now edges × Ready limits (plan vertices ends.now excluded.now) incident.now begins.now first.now dead.old marks.old order.old cursor.old }
     ensures { Told result (first_two (graph (plan vertices ends.now excluded.now)) edges) }
 {
@@ -121,7 +121,7 @@ fn lowest_pair(
     )
 }
 
-// The lowest pair that disconnects, or three edges for none, over chains. One whose label no later edge has need not be tried.
+// The lowest pair that disconnects, if there is one, over chains. An edge whose label no later edge has need not be tried.
 fn lowest_two(
     vertices: u16,
     ends: &[u16],
@@ -136,7 +136,7 @@ fn lowest_two(
     marks: &mut [u16],
     order: &mut [u16],
     cursor: &mut [u16],
-) -> Lowest
+) -> Option<Lowest>
     requires { ShownBoth (plan vertices ends.now excluded.now) labels.now edges × Chaining edges labels.now next.now × Ready limits (plan vertices ends.now excluded.now) incident.now begins.now first.now dead.old marks.old order.old cursor.old }
     ensures { Told result (first_two (graph (plan vertices ends.now excluded.now)) edges) }
 {
@@ -144,18 +144,18 @@ fn lowest_two(
         if dead[e as usize] != 0 {
             continue;
         }
-        let d = lowest_with(
+        let other = lowest_with(
             vertices, ends, excluded, incident, begins, first, labels, next, edges, e, dead, marks,
             order, cursor,
         );
-        if d < edges {
-            return cut(2, e, d);
+        if let Some(d) = other {
+            return Some(cut(2, e, d));
         }
     }
-    cut(3, 0, 0)
+    None
 }
 
-// The lowest edge above `e` that disconnects together with it, or `edges` for none. Those with another label need not be tried.
+// The lowest edge above `e` that disconnects together with it, if there is one. Those with another label need not be tried.
 fn lowest_with(
     vertices: u16,
     ends: &[u16],
@@ -171,18 +171,18 @@ fn lowest_with(
     marks: &mut [u16],
     order: &mut [u16],
     cursor: &mut [u16],
-) -> u16
+) -> Option<u16>
     requires { ShownBoth (plan vertices ends.now excluded.now) labels.now edges × Chaining edges labels.now next.now × Ready limits (plan vertices ends.now excluded.now) incident.now begins.now first.now dead.old marks.old order.old cursor.old × (e < edges) × (get_or dead.old e 0 ≡ 0) }
-    ensures { (first_with (graph (plan vertices ends.now excluded.now)) edges e ≡ two_told edges e result) × Restored dead.old marks.old order.old cursor.old dead.new marks.new order.new cursor.new }
+    ensures { (first_with (graph (plan vertices ends.now excluded.now)) edges e ≡ two_told e result) × Restored dead.old marks.old order.old cursor.old dead.new marks.new order.new cursor.new }
 {
-    let mut d = alike::next_like(labels, dead, next, edges, e);
-    while d < edges {
+    let mut other = alike::next_like(labels, dead, next, edges, e);
+    while let Some(d) = other {
         if is_cut(
             vertices, ends, excluded, incident, begins, first, e, d, dead, marks, order, cursor,
         ) {
-            return d;
+            return Some(d);
         }
-        d = alike::next_like(labels, dead, next, edges, d);
+        other = alike::next_like(labels, dead, next, edges, d);
     }
-    edges
+    None
 }

@@ -6,6 +6,7 @@ ghost use Rattle.connectivity.specs.Plan.{plan, limits};
 ghost use Rattle.connectivity.specs.Admission.{answer, edge_number, ends_answer, passed};
 ghost use Rattle.graph.specs.Admission.{told_by, handed, constructed, lent, Listed};
 
+pub mod ends; // ends.rt: the two ends of an edge
 pub mod excluded; // excluded.rt: excluded vertices, and the edges that end there
 
 // An answer to every question asked of these crates (01): a number and a place; 0 and 0 is success.

@@ -20,7 +20,8 @@ use Rattle.tree.specs.Tree.{Pointers, Child, Back}
 use Rattle.tree.proofs.Above.{above_cases, above_rank, first_leads, tree_cases}
 use Rattle.graph.specs.Marks.{read}
 use Rattle.graph.proofs.Joined.{joins_edge, joins_ends}
-use Rattle.numbers.specs.Tables.{far_end, lower_end, least_number, higher_of, mark_of}
+use Rattle.graph.specs.Ends.{far_end}
+use Rattle.numbers.specs.Tables.{lower_end, least_number, higher_of, mark_of}
 use Rattle.numbers.specs.Standing.{Rooted, DepthFirst, tree_of}
 use Rattle.numbers.proofs.Steps.{edge_some, zero_none}
 use Rattle.numbers.proofs.Overs.{Higher, next, stays}

@@ -11,7 +11,8 @@ use borrow.Author.Tests.{eq-eqb, ne_eqb, lt-ltb, le-ltb, le-leb, eqb-false, ltb-
 use Rattle.connectivity.specs.Plan.{Plan, Limits}
 use Rattle.connectivity.proofs.Admission.{cond_both}
 use Rattle.graph.specs.Marks.{read}
-use Rattle.numbers.specs.Tables.{far_end, lower_end, is_none, higher_of, mark_of, hand_to, own_at, raise_to, lower_last, lower_over, owns_to, lasts_down, overs_down}
+use Rattle.graph.specs.Ends.{far_end}
+use Rattle.numbers.specs.Tables.{lower_end, is_none, higher_of, mark_of, hand_to, own_at, raise_to, lower_last, lower_over, owns_to, lasts_down, overs_down}
 use Rattle.numbers.specs.Parts.{EndsBelow, Owning}
 
 -- Bounds.

@@ -1,12 +1,9 @@
 -- What the three tables become, for any marks and any order. In `first` and `over` an edge is given as one more than its number, 0 for none.
 use Rattle.std.specs.Prelude.{Bool, cond, ◌||◌, List, ℕ, zero, suc, ◌+◌, ◌-◌, ◌*◌, ◌/◌, eqb, leb, ltb, length, get_or, set}
+use Rattle.graph.specs.Ends.{far_end}
 use Rattle.graph.specs.Marks.{read}
 
 -- Ends and marks.
-
--- the end of e that is not v
-abbrev pub far_end : List ℕ → ℕ → ℕ → ℕ
-far_end ends e v = cond (eqb (get_or ends (2 * e) 0) v) (get_or ends (2 * e + 1) 0) (get_or ends (2 * e) 0)
 
 -- the end of e that has the higher number
 abbrev pub lower_end : List ℕ → List ℕ → ℕ → ℕ

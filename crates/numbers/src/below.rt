@@ -5,6 +5,7 @@ ghost use Rattle.numbers.specs.Tables.{hand_to, own_at, owns_to, raise_to, lower
 ghost use Rattle.numbers.specs.Parts.{EndsBelow, Owning, Lowering};
 
 use crate::ends;
+use graph::ends::far_end;
 
 // Each edge that is not in the tree stands for itself, and for the first edge of its lower end if none there is higher.
 pub(crate) fn own_all(vertices: u16, ends: &[u16], first: &[u16], number: &[u16], over: &mut [u16])
@@ -78,7 +79,7 @@ fn lower_one(
     let edges = ends.len() / 2;
     let t = ends::mark(vertices, edges, first, v);
     if t != 0 {
-        let up = ends::far(ends, t - 1, v);
+        let up = far_end(ends, t - 1, v);
         raise(last, up, v);
         let d = ends::mark(vertices, edges, first, up);
         let x = over[t as usize - 1];

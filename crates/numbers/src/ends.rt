@@ -1,20 +1,7 @@
 // The ends of edges by their numbers, and the marks of vertices. An edge is given as one more than its number where there may be none.
 ghost use Rattle.std.specs.Prelude.{◌≡◌, ◌/◌, ◌≤◌, ◌<◌, length};
-ghost use Rattle.numbers.specs.Tables.{far_end, lower_end, least_number, is_none, higher_of, mark_of};
+ghost use Rattle.numbers.specs.Tables.{lower_end, least_number, is_none, higher_of, mark_of};
 ghost use Rattle.numbers.specs.Parts.{EndsBelow};
-
-// The end of `e` that is not `v`.
-pub(crate) fn far(ends: &[u16], e: u16, v: u16) -> u16
-    requires { e < length ends.now / 2 }
-    ensures { result ≡ far_end ends.now e v }
-{
-    let k = 2 * (e as usize);
-    let l = ends[k];
-    if l == v {
-        return ends[k + 1];
-    }
-    l
-}
 
 // The end of `e` that has the higher number.
 pub(crate) fn lower(ends: &[u16], number: &[u16], e: u16) -> u16

@@ -8,7 +8,7 @@ use Rattle.tree.proofs.Above.{parent_vertex, climb_end, way_up}
 use Rattle.tree.proofs.Begin.{meeting_child}
 use Rattle.graph.specs.Marks.{read}
 use Rattle.graph.proofs.Joined.{joins_edge}
-use Rattle.numbers.specs.Tables.{far_end}
+use Rattle.graph.specs.Ends.{far_end}
 use Rattle.record.specs.Ways.{next_up, Rises}
 use Rattle.numbers.specs.Standing.{Listed, tree_of}
 use Rattle.record.specs.Standing.{Ground}

@@ -10,7 +10,7 @@ use Rattle.tree.proofs.Above.{root_above, parent_vertex, tree_cases}
 use Rattle.tree.proofs.Passing.{one_passing, two_passing, passing_root}
 use Rattle.graph.specs.Marks.{read}
 use Rattle.graph.proofs.Joined.{joins_below, joins_edge}
-use Rattle.numbers.specs.Tables.{far_end}
+use Rattle.graph.specs.Ends.{far_end}
 use Rattle.numbers.specs.Standing.{Listed, tree_of}
 use Rattle.record.specs.Standing.{Ground}
 use Rattle.record.specs.Opening.{Door, DoorFits, DoorAt, Doors, NextDoor}

@@ -14,7 +14,7 @@ use Rattle.tree.proofs.Stuck.{exit_there}
 use Rattle.tree.proofs.Along.{along_stage}
 use Rattle.graph.specs.Marks.{read}
 use Rattle.graph.proofs.Joined.{joins_below, joins_edge}
-use Rattle.numbers.specs.Tables.{far_end}
+use Rattle.graph.specs.Ends.{far_end}
 use Rattle.record.specs.Ways.{upper_end, Rises, next_up}
 use Rattle.numbers.specs.Standing.{tree_of}
 use Rattle.record.specs.Leaving.{Leaving, Exit}

@@ -11,7 +11,7 @@ use Rattle.tree.proofs.Along.{along_end}
 use Rattle.graph.specs.Marks.{read}
 use Rattle.graph.proofs.Barring.{edges_few}
 use Rattle.connectivity.proofs.Lists.{in_dec}
-use Rattle.numbers.specs.Tables.{far_end}
+use Rattle.graph.specs.Ends.{far_end}
 use Rattle.record.specs.Ways.{Written, MetFirst, OverUp, upper_end}
 use Rattle.numbers.specs.Standing.{Rooted, tree_of}
 use Rattle.record.specs.Linking.{BothBy, WalkedBy}

@@ -1,5 +1,5 @@
 -- What the search for the lowest cut leaves, where there is none, is what the tables of the tree are made from.
-use Rattle.std.specs.Prelude.{Err, Ok, None, Some}
+use Rattle.std.specs.Prelude.{Ok, None}
 use Rattle.std.proofs.Common.{◌≡◌, ℕ, ◌+◌, ◌*◌, ◌<◌, ◌≤◌, T, List, [], length, set, replicate, sym, ◌∙◌, subst, arith, lt-ltb}
 use native.Mathlib.Decide.{dec_lt}
 use Rattle.connectivity.specs.Plan.{Plan, plan, graph, Limits, limits}

@@ -25,7 +25,7 @@ use Rattle.tree.proofs.State.{filed_marked, state_step, belows_map}
 use Rattle.tree.proofs.Shelving.{filed_built, filed_own, marked-map}
 use Rattle.graph.specs.Marks.{read}
 use Rattle.graph.proofs.Joined.{joins_edge}
-use Rattle.numbers.specs.Tables.{far_end}
+use Rattle.graph.specs.Ends.{far_end}
 use Rattle.record.specs.Ways.{Toward, MetFirst, OneMore, OverUp, Written, Ended, upper_end}
 use Rattle.numbers.specs.Standing.{Rooted, tree_of}
 use Rattle.record.specs.Linking.{top_of, bottom_of, Filing, Splitting, Ending, BothParted, BothBy, Building, Walked, WalkedBy}

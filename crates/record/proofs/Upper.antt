@@ -6,7 +6,7 @@ use Rattle.connectivity.proofs.Kept.{edge_size_lem}
 use Rattle.tree.specs.Tree.{Back}
 use Rattle.graph.specs.Marks.{read}
 use Rattle.graph.proofs.Joined.{joins_ends, ends_below}
-use Rattle.numbers.specs.Tables.{far_end}
+use Rattle.graph.specs.Ends.{far_end}
 use Rattle.numbers.specs.Standing.{Rooted, tree_of}
 use Rattle.numbers.proofs.Marking.{joins_differ, back_child}
 use Rattle.record.specs.Ways.{Ended, upper_end}

@@ -1,7 +1,7 @@
 -- What the way out of a link is found by: the numbers below the link, the test at an edge, and the edges at a vertex.
 use Rattle.std.specs.Prelude.{◌≡◌, ℕ, suc, ◌+◌, ◌-◌, ◌<◌, ◌≤◌, List, length, ◌≢◌}
 use Rattle.graph.specs.Marks.{read}
-use Rattle.numbers.specs.Tables.{far_end}
+use Rattle.graph.specs.Ends.{far_end}
 use Rattle.record.specs.Ways.{Ended, upper_end}
 
 -- what `range_below` asks: the child that is noted below the bottom has its numbers

@@ -8,7 +8,7 @@ use Rattle.connectivity.specs.Admission.{kept_edges, Admitted}
 use Rattle.connectivity.proofs.Legs.{leg}
 use Rattle.tree.specs.Tree.{Pointers, Child, Above, Passing, Climb}
 use Rattle.graph.specs.Marks.{read}
-use Rattle.numbers.specs.Tables.{far_end}
+use Rattle.graph.specs.Ends.{far_end}
 use Rattle.record.specs.Ways.{Written}
 use Rattle.numbers.specs.Standing.{Rooted, Listed, tree_of}
 use Rattle.record.specs.Standing.{Grouped, Ground}

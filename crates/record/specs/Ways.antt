@@ -9,7 +9,7 @@ use Rattle.connectivity.specs.Mader.{step_rows}
 use Rattle.connectivity.specs.Admission.{Admitted}
 use Rattle.connectivity.proofs.Legs.{leg}
 use Rattle.graph.specs.Marks.{read, Marked}
-use Rattle.numbers.specs.Tables.{far_end}
+use Rattle.graph.specs.Ends.{far_end}
 
 -- the rows with one written after the first `count`
 abbrev pub with_row : List ℕ → ℕ → ℕ → ℕ → ℕ → List ℕ

@@ -7,6 +7,7 @@ ghost use Rattle.record.specs.Leaving.{Leaving, LeftBy};
 ghost use Rattle.record.specs.Exits.{Ranging, Under, Passes, Testing, Looking, ExitAt, Chosen};
 
 use crate::walk;
+use graph::ends::far_end;
 
 // Some numbers in the order, from the first to the last; none if that is less.
 #[derive(Drop)]
@@ -134,6 +135,6 @@ fn is_exit(
     if places[s as usize] != own {
         return true;
     }
-    let w = number[walk::other_end(ends, f, s) as usize];
+    let w = number[far_end(ends, f, s) as usize];
     from <= w && w <= to
 }

@@ -4,6 +4,7 @@ ghost use Rattle.record.specs.Recording.{Nexting, NextBy};
 ghost use Rattle.record.specs.Progress.{Adding, AddedBy};
 
 use crate::{exit, link, open, walk};
+use graph::ends::far_end;
 
 // How far the building has come: the links before `empty` have no inside; the vertices of the order before `at` have only built edges, and of the
 // next one those before `slot` are built; and the edge that the next Mader-path begins with.
@@ -84,7 +85,7 @@ pub(crate) fn add_path(
     ensures { AddedBy limits ends.now first.now number.now f done.row done.step done.next places.old below.old tips.old over.old rows.old places.new below.new tips.new over.new rows.new result.row result.step result.next }
 {
     let s = walk::upper(ends, number, f);
-    let w = walk::other_end(ends, f, s);
+    let w = far_end(ends, f, s);
     let x = walk::first_marked(ends, first, places, w);
     let from = 3 * (done.row as usize);
     let count = walk::write_walk(ends, first, f, s, w, x, done.step, &mut rows[from..]);

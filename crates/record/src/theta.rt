@@ -9,6 +9,7 @@ ghost use Rattle.record.specs.Opening.{Door, DoorFits, Doors, NextDoorBy, Meets,
 
 use crate::step::Progress;
 use crate::{link, walk};
+use graph::ends::far_end;
 
 // Where two edges from the root `r` lead: over `f` to `w` and over `d` to `u`. `x` is the first vertex on the way up from `u` that is also on the
 // way up from `w`, and `e` leads from it to its parent `p`.
@@ -74,11 +75,11 @@ fn find(
     let k = next_door(ends, incident, first, number, end, r, j + 1);
     let f = incident[j as usize];
     let d = incident[k as usize];
-    let w = walk::other_end(ends, f, r);
-    let u = walk::other_end(ends, d, r);
+    let w = far_end(ends, f, r);
+    let u = far_end(ends, d, r);
     let x = meeting(ends, first, w, u, r, places);
     let e = first[x as usize] - 1;
-    let p = walk::other_end(ends, e, x);
+    let p = far_end(ends, e, x);
     Fork {
         x,
         e,
@@ -106,7 +107,7 @@ fn next_door(
 {
     for k in from..ends.len() as u16 {
         let e = incident[k as usize];
-        if is_door(first, number, end, e, walk::other_end(ends, e, r)) {
+        if is_door(first, number, end, e, far_end(ends, e, r)) {
             return k;
         }
     }

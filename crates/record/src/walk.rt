@@ -1,8 +1,9 @@
 // The ways up along first edges, as a search leaves them.
 ghost use Rattle.std.specs.Prelude.{◌≡◌, ◌+◌, ◌*◌, ◌/◌, ◌<◌, ◌≤◌, length};
 ghost use Rattle.connectivity.specs.Plan.{limits};
-ghost use Rattle.numbers.specs.Tables.{far_end};
 ghost use Rattle.record.specs.Ways.{with_row, next_up, upper_end, Ended, Rises, Climbing, Climbed, OneMore, OverUp, Marking, MarkedUp, Toward, MetFirst, Raising, RaisedUp};
+
+use graph::ends::far_end;
 
 // Writes the rows of step `step` from `v` up to `stop` along first edges at the front of `rows`; how many there are.
 pub(crate) fn climb(
@@ -21,7 +22,7 @@ pub(crate) fn climb(
     while at != stop {
         let e = first[at as usize] - 1;
         write_row(rows, count, step, e, at);
-        at = other_end(ends, e, at);
+        at = far_end(ends, e, at);
         count += 1;
     }
     count
@@ -36,19 +37,6 @@ pub(crate) fn write_row(rows: &mut [u16], count: u16, step: u16, e: u16, v: u16)
     rows[k] = step;
     rows[k + 1] = e;
     rows[k + 2] = v;
-}
-
-// The end of `e` that is not `v`.
-pub(crate) fn other_end(ends: &[u16], e: u16, v: u16) -> u16
-    requires { e < length ends.now / 2 }
-    ensures { result ≡ far_end ends.now e v }
-{
-    let k = 2 * (e as usize);
-    let l = ends[k];
-    if l == v {
-        return ends[k + 1];
-    }
-    l
 }
 
 // The end of an edge that has the lower number.
@@ -70,7 +58,7 @@ pub(crate) fn above(ends: &[u16], first: &[u16], v: u16) -> u16
     requires { Rises ends.now first.now v }
     ensures { result ≡ next_up ends.now first.now v }
 {
-    other_end(ends, first[v as usize] - 1, v)
+    far_end(ends, first[v as usize] - 1, v)
 }
 
 // The first marked vertex from `v` up.
@@ -116,7 +104,7 @@ pub(crate) fn build_up(
         let e = first[at as usize] - 1;
         over[e as usize] = 0;
         top = at;
-        at = other_end(ends, e, top);
+        at = far_end(ends, e, top);
         below[at as usize] = top + 1;
     }
     top

@@ -1,5 +1,5 @@
 // The check of a firm verdict: its rows in turn, then every vertex a branch. Vertices and edges are those that the plan keeps (02).
-ghost use Rattle.std.specs.Prelude.{◌≡◌, cond, [], ◌*◌, ◌≤◌, ◌<◌, length};
+ghost use Rattle.std.specs.Prelude.{◌≡◌, [], ◌*◌, ◌≤◌, ◌<◌, length};
 ghost use Rattle.connectivity.specs.Plan.{plan, graph, limits};
 ghost use Rattle.connectivity.specs.Judge.{rows_of, judge_rows, judge_firm};
 ghost use Rattle.graph.specs.Admission.{told_by};
@@ -82,13 +82,7 @@ fn branches(degree: &[u16], vertices: u16) -> u16
 {
     let mut count: u16 = 0;
     for &built in &degree[..vertices as usize] {
-        count += one_if(3 <= built);
+        count += u16::from(3 <= built);
     }
     count
-}
-
-fn one_if(test: bool) -> u16
-    ensures { result ≡ cond test 1 0 }
-{
-    if test { 1 } else { 0 }
 }

@@ -4,6 +4,7 @@ ghost use Rattle.connectivity.specs.Plan.{limits};
 ghost use Rattle.graph.specs.Tells.{Tells};
 ghost use Rattle.verify_firm.specs.Marks.{row_mark, StaysFresh, WentOn, Opens, Parallels, FitsEar, Joined, FitsLinks, StepTold, Whole, Reads, RowsFit, EdgeReady, EdgeAdded, RowsReady, RowsAdded, Begins, Ready, Stepped};
 
+use graph::ends::far_end;
 use graph::{Answer, Graph};
 
 // The step that runs: its first row, where it began, where it has come to. It is fresh while it has left no vertex twice and its inner
@@ -71,7 +72,7 @@ impl State {
             return rejected(self, number, row);
         }
         used[e as usize] = 1;
-        let to = far(ends, e, v);
+        let to = far_end(ends, e, v);
         let built = self.degree[v as usize];
         let on = go_on(run, row, v, to, built, &mut self.left);
         self.run = on;
@@ -174,19 +175,6 @@ fn is_end(l: u16, r: u16, v: u16) -> bool
         return true;
     }
     r == v
-}
-
-// The end of `e` that is not `v`.
-fn far(ends: &[u16], e: u16, v: u16) -> u16
-    requires { e < length ends.now / 2 }
-    ensures { result ≡ cond (eqb (get_or ends.now (2 * e) 0) v) (get_or ends.now (2 * e + 1) 0) (get_or ends.now (2 * e) 0) }
-{
-    let k = 2 * (e as usize);
-    let l = ends[k];
-    if l == v {
-        return ends[k + 1];
-    }
-    l
 }
 
 // The step leaves `v`, which has `built` edges in whole steps: as its first vertex, or as an inner one, which is then marked.

@@ -14,7 +14,7 @@ pub overflow_sub-vertices : goal.overflow_sub-vertices
 overflow_sub-vertices c = omega (arith, admitted_count c.requires.0.tabled.admitted)
 
 pub returns-then-count-vertices : goal.returns-then-count-vertices
-returns-then-count-vertices c = let s = c.requires in let b = c.survey-count.ensures in (rw c.cut.ensures (found_parted s.0 s.1 b (omega (arith, admitted_count s.0.tabled.admitted)) c.if-count-vertices.true), record { count = _; cursor = _; by = b })
+returns-then-count-vertices c = let s = c.requires in let b = c.survey-count.ensures in (found_parted s.0 s.1 b (omega (arith, admitted_count s.0.tabled.admitted)) (cc) c.if-count-vertices.true, record { count = _; cursor = _; by = b })
 
 pub small_cut-requires : goal.small_cut-requires
 small_cut-requires c = let s = c.requires in found_whole s.0 s.1 c.survey-count.ensures (omega (arith, admitted_count s.0.tabled.admitted)) c.if-count-vertices.false c.label.ensures

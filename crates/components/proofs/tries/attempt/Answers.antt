@@ -5,15 +5,9 @@ use lib.ListN.{length-replicate}
 use Rattle.connectivity.specs.Plan.{limits}
 use Rattle.connectivity.proofs.Kept.{edge_size_lem}
 use Rattle.graph.proofs.Tally.{zeros}
-use Rattle.cuts.proofs.Trying.{ends_below, end_of, end_vertex}
+use Rattle.cuts.proofs.Trying.{end_of, end_vertex}
 use Rattle.components.proofs.Attempting.{far_below, attempted}
 use Rattle.components.proofs.tries.attempt.Goals as goal
-
-pub lower_end-root-requires : goal.lower_end-root-requires
-lower_end-root-requires c = let s = c.requires in let a = s.0.admitted in let l = edge_size_lem _ s.3 in (ends_below _ a s.1, l, omega (arith, l, a.edges))
-
-pub far_end-far-requires : goal.far_end-far-requires
-far_end-far-requires c = edge_size_lem _ c.requires.3
 
 pub search-requires : goal.search-requires
 search-requires c =

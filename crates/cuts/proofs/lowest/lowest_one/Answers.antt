@@ -23,7 +23,7 @@ returns-then-is_cut c =
     let t = c.is_cut.ensures in
     let l = c.loop-e in
     let h = c.loop-e-test.true in
-    (omega (arith, h), l.invariant.0 ∙ one_found _ _ _ h (by_one _ _ edge ∙ sym (one_twice _ _) ∙ sym t.0 ∙ c.if-is_cut.true), restored_more l.invariant.1 t.1)
+    (l.invariant.0 ∙ one_found _ _ _ h (by_one _ _ edge ∙ sym (one_twice _ _) ∙ sym t.0 ∙ c.if-is_cut.true), restored_more l.invariant.1 t.1)
 
 pub loop-e-preserved : goal.loop-e-preserved
 loop-e-preserved c =
@@ -39,4 +39,4 @@ loop-e-preserved c =
     ]
 
 pub returns : goal.returns
-returns c = let l = c.loop-e in (omega arith, l.invariant.0 ∙ one_over _ l.e _ (omega (arith, c.loop-e-test.false, l.auto.e-end)), l.invariant.1)
+returns c = let l = c.loop-e in (l.invariant.0 ∙ one_over _ l.e _ (omega (arith, c.loop-e-test.false, l.auto.e-end)), l.invariant.1)

@@ -5,77 +5,53 @@ use lib.ListN.{length}
 use Rattle.connectivity.specs.Plan.{plan, graph, limits}
 use Rattle.connectivity.specs.Graph.{Edge}
 use Rattle.cuts.specs.Tries.{Ready}
-use Rattle.cuts.proofs.First.{with_found, with_over}
-use Rattle.cuts.proofs.Likes.{by_two, with_same, with_start, with_on}
+use Rattle.cuts.proofs.First.{with_found}
+use Rattle.cuts.proofs.Likes.{With, rest_less, by_two, with_same, with_start, with_on}
 use Rattle.cuts.proofs.Trying.{ready_again, restored_same, restored_more}
 use Rattle.cuts.proofs.lowest.lowest_with.Goals as goal
 
-pub next_like-d-requires : goal.next_like-d-requires
-next_like-d-requires c = let s = c.requires in (s.0.shown.room, omega (arith, s.0.shown.edges, s.2.tables.dead_room), s.1, s.3)
+pub next_like-other-requires : goal.next_like-other-requires
+next_like-other-requires c = let s = c.requires in (s.0.shown.room, omega (arith, s.0.shown.edges, s.2.tables.dead_room), s.1, s.3)
 
-pub loop-d-init : goal.loop-d-init
-loop-d-init c = let s = c.requires in (with_start _ _ s.2.live s.0 c.next_like-d.ensures, restored_same)
+pub loop-other-init : goal.loop-other-init
+loop-other-init c = let s = c.requires in (with_start _ _ s.2.live s.0 _ _ s.3 c.next_like-other.ensures, restored_same)
 
 pub is_cut-requires : goal.is_cut-requires
 is_cut-requires c =
-    let ready : let a = c.args in let l = c.loop-d in Ready limits (plan a.vertices a.ends.now a.excluded.now) a.incident.now a.begins.now a.first.now l.dead l.marks l.order l.cursor = ready_again c.requires.2 c.loop-d.invariant.1 in
+    let ready : let a = c.args in let l = c.loop-other in Ready limits (plan a.vertices a.ends.now a.excluded.now) a.incident.now a.begins.now a.first.now l.dead l.marks l.order l.cursor = ready_again c.requires.2 c.loop-other.invariant.1 in
+    let tried : let a = c.args in With (graph (plan a.vertices a.ends.now a.excluded.now)) a.labels.now c.loop-other.dead a.edges a.e c.in-Some.d = rw c.in-Some.is at c.loop-other.invariant.0 in
     let edge : let a = c.args in Edge (graph (plan a.vertices a.ends.now a.excluded.now)) a.e = let s = c.requires in s.2.tables.masking _ (omega (arith, s.3, s.0.shown.edges)) s.4 in
-    let other : let a = c.args in Edge (graph (plan a.vertices a.ends.now a.excluded.now)) c.loop-d.d = ready.tables.masking _ (omega (arith, c.loop-d-test.true, c.requires.0.shown.edges)) (c.loop-d.invariant.0.like c.loop-d-test.true).0 in
+    let other : let a = c.args in Edge (graph (plan a.vertices a.ends.now a.excluded.now)) c.in-Some.d = ready.tables.masking _ (omega (arith, tried.high, c.requires.0.shown.edges)) tried.like.0 in
     (ready, edge, other)
-
-pub shape_of-dead-then-is_cut : goal.shape_of-dead-then-is_cut
-shape_of-dead-then-is_cut c = ap length (c.is_cut.ensures.1.dead_same ∙ c.loop-d.invariant.1.dead_same)
-
-pub shape_of-marks-then-is_cut : goal.shape_of-marks-then-is_cut
-shape_of-marks-then-is_cut c = ap length (c.is_cut.ensures.1.marks_same ∙ c.loop-d.invariant.1.marks_same)
-
-pub shape_of-order-then-is_cut : goal.shape_of-order-then-is_cut
-shape_of-order-then-is_cut c = c.is_cut.ensures.1.order_long ∙ c.loop-d.invariant.1.order_long
-
-pub shape_of-cursor-then-is_cut : goal.shape_of-cursor-then-is_cut
-shape_of-cursor-then-is_cut c = c.is_cut.ensures.1.cursor_long ∙ c.loop-d.invariant.1.cursor_long
 
 pub returns-then-is_cut : goal.returns-then-is_cut
 returns-then-is_cut c =
+    let ready : let a = c.args in let l = c.loop-other in Ready limits (plan a.vertices a.ends.now a.excluded.now) a.incident.now a.begins.now a.first.now l.dead l.marks l.order l.cursor = ready_again c.requires.2 c.loop-other.invariant.1 in
+    let tried : let a = c.args in With (graph (plan a.vertices a.ends.now a.excluded.now)) a.labels.now c.loop-other.dead a.edges a.e c.in-Some.d = rw c.in-Some.is at c.loop-other.invariant.0 in
     let edge : let a = c.args in Edge (graph (plan a.vertices a.ends.now a.excluded.now)) a.e = let s = c.requires in s.2.tables.masking _ (omega (arith, s.3, s.0.shown.edges)) s.4 in
-    let ready : let a = c.args in let l = c.loop-d in Ready limits (plan a.vertices a.ends.now a.excluded.now) a.incident.now a.begins.now a.first.now l.dead l.marks l.order l.cursor = ready_again c.requires.2 c.loop-d.invariant.1 in
-    let other : let a = c.args in Edge (graph (plan a.vertices a.ends.now a.excluded.now)) c.loop-d.d = ready.tables.masking _ (omega (arith, c.loop-d-test.true, c.requires.0.shown.edges)) (c.loop-d.invariant.0.like c.loop-d-test.true).0 in
+    let other : let a = c.args in Edge (graph (plan a.vertices a.ends.now a.excluded.now)) c.in-Some.d = ready.tables.masking _ (omega (arith, tried.high, c.requires.0.shown.edges)) tried.like.0 in
     let t = c.is_cut.ensures in
-    let l = c.loop-d in
-    (l.invariant.0.so_far ∙ with_found _ _ _ _ c.loop-d-test.true (by_two _ _ _ edge other ∙ sym t.0 ∙ c.if-is_cut.true), restored_more l.invariant.1 t.1)
+    (tried.so_far ∙ with_found _ _ _ _ tried.high (by_two _ _ _ edge other ∙ sym t.0 ∙ c.if-is_cut.true), restored_more c.loop-other.invariant.1 t.1)
 
-pub next_like-d-requires-in-loop-d : goal.next_like-d-requires-in-loop-d
-next_like-d-requires-in-loop-d c =
-    let ready : let a = c.args in let l = c.loop-d in Ready limits (plan a.vertices a.ends.now a.excluded.now) a.incident.now a.begins.now a.first.now l.dead l.marks l.order l.cursor = ready_again c.requires.2 c.loop-d.invariant.1 in
+pub next_like-other-requires-in-Some : goal.next_like-other-requires-in-Some
+next_like-other-requires-in-Some c =
+    let ready : let a = c.args in let l = c.loop-other in Ready limits (plan a.vertices a.ends.now a.excluded.now) a.incident.now a.begins.now a.first.now l.dead l.marks l.order l.cursor = ready_again c.requires.2 c.loop-other.invariant.1 in
+    let tried : let a = c.args in With (graph (plan a.vertices a.ends.now a.excluded.now)) a.labels.now c.loop-other.dead a.edges a.e c.in-Some.d = rw c.in-Some.is at c.loop-other.invariant.0 in
     let s = c.requires in
-    (s.0.shown.room, omega (arith, s.0.shown.edges, ready.tables.dead_room, ap length c.is_cut.ensures.1.dead_same), s.1, c.loop-d-test.true)
+    (s.0.shown.room, omega (arith, s.0.shown.edges, ready.tables.dead_room, ap length c.is_cut.ensures.1.dead_same), s.1, tried.high)
 
-pub loop-d-smaller : goal.loop-d-smaller
-loop-d-smaller c = let z = c.next_like-d-in-loop-d.ensures in omega (arith, z.low, z.high, c.loop-d-test.true)
+pub loop-other-smaller : goal.loop-other-smaller
+loop-other-smaller c =
+    let tried : let a = c.args in With (graph (plan a.vertices a.ends.now a.excluded.now)) a.labels.now c.loop-other.dead a.edges a.e c.in-Some.d = rw c.in-Some.is at c.loop-other.invariant.0 in
+    rw c.in-Some.is (rest_less _ _ _ c.next_like-other-in-Some.result tried.high c.next_like-other-in-Some.ensures)
 
-pub loop-d-preserved : goal.loop-d-preserved
-loop-d-preserved c =
-    let ready : let a = c.args in let l = c.loop-d in Ready limits (plan a.vertices a.ends.now a.excluded.now) a.incident.now a.begins.now a.first.now l.dead l.marks l.order l.cursor = ready_again c.requires.2 c.loop-d.invariant.1 in
+pub loop-other-preserved : goal.loop-other-preserved
+loop-other-preserved c =
+    let ready : let a = c.args in let l = c.loop-other in Ready limits (plan a.vertices a.ends.now a.excluded.now) a.incident.now a.begins.now a.first.now l.dead l.marks l.order l.cursor = ready_again c.requires.2 c.loop-other.invariant.1 in
+    let tried : let a = c.args in With (graph (plan a.vertices a.ends.now a.excluded.now)) a.labels.now c.loop-other.dead a.edges a.e c.in-Some.d = rw c.in-Some.is at c.loop-other.invariant.0 in
     let edge : let a = c.args in Edge (graph (plan a.vertices a.ends.now a.excluded.now)) a.e = let s = c.requires in s.2.tables.masking _ (omega (arith, s.3, s.0.shown.edges)) s.4 in
-    let other : let a = c.args in Edge (graph (plan a.vertices a.ends.now a.excluded.now)) c.loop-d.d = ready.tables.masking _ (omega (arith, c.loop-d-test.true, c.requires.0.shown.edges)) (c.loop-d.invariant.0.like c.loop-d-test.true).0 in
+    let other : let a = c.args in Edge (graph (plan a.vertices a.ends.now a.excluded.now)) c.in-Some.d = ready.tables.masking _ (omega (arith, tried.high, c.requires.0.shown.edges)) tried.like.0 in
     let t = c.is_cut.ensures in
-    let l = c.loop-d in
-    let h = c.loop-d-test.true in
     let r = ready_again ready t.1 in
-    let w = with_same t.1.dead_same l.invariant.0 in
-    (with_on _ _ r.live c.requires.0 w h (by_two _ _ _ edge other ∙ sym t.0 ∙ c.if-is_cut.false) c.next_like-d-in-loop-d.ensures, restored_more l.invariant.1 t.1)
-
-pub shape_of-dead : goal.shape_of-dead
-shape_of-dead c = ap length c.loop-d.invariant.1.dead_same
-
-pub shape_of-marks : goal.shape_of-marks
-shape_of-marks c = ap length c.loop-d.invariant.1.marks_same
-
-pub shape_of-order : goal.shape_of-order
-shape_of-order c = c.loop-d.invariant.1.order_long
-
-pub shape_of-cursor : goal.shape_of-cursor
-shape_of-cursor c = c.loop-d.invariant.1.cursor_long
-
-pub returns : goal.returns
-returns c = let l = c.loop-d in (l.invariant.0.so_far ∙ with_over _ _ l.d _ (omega (arith, c.loop-d-test.false, l.invariant.0.high)), l.invariant.1)
+    let w = with_same t.1.dead_same tried in
+    (with_on _ _ r.live c.requires.0 _ _ c.next_like-other-in-Some.result w (by_two _ _ _ edge other ∙ sym t.0 ∙ c.if-is_cut.false) c.next_like-other-in-Some.ensures, restored_more c.loop-other.invariant.1 t.1)

@@ -1,29 +1,14 @@
 -- `is_cut` meets its contract: a search over what is left without the two edges.
 use mathlib.Core.Path.{◌∙◌}
 use native.Mathlib.Omega.{arith}
-use Rattle.connectivity.proofs.Kept.{edge_size_lem, admitted_count}
-use Rattle.cuts.proofs.Trying.{ends_below, end_of, end_vertex, try_tables, tried}
+use Rattle.connectivity.proofs.Kept.{admitted_count}
+use Rattle.cuts.proofs.Trying.{end_of, end_vertex, try_tables, tried}
 use Rattle.cuts.proofs.tries.is_cut.Goals as goal
-
-pub lower_end-root-requires : goal.lower_end-root-requires
-lower_end-root-requires c =
-    let s = c.requires in
-    let a = s.0.tables.tabled.admitted in
-    (ends_below _ a s.0.first_room, edge_size_lem _ s.1, omega (arith, edge_size_lem _ s.1, a.edges))
-
-pub mark-requires : goal.mark-requires
-mark-requires c = let s = c.requires in (omega (arith, edge_size_lem _ s.1, s.0.tables.dead_room), omega (arith, edge_size_lem _ s.2, s.0.tables.dead_room))
 
 pub seen-count-requires : goal.seen-count-requires
 seen-count-requires c =
     let s = c.requires in
     (try_tables s.0 s.1 s.2 c.mark.ensures, end_vertex _ s.1 (end_of c.args.ends.now c.args.first.now c.args.e c.lower_end-root.ensures))
-
-pub mark-requires-2 : goal.mark-requires-2
-mark-requires-2 c =
-    let s = c.requires in
-    let q = c.mark.auto.dead in
-    (omega (arith, edge_size_lem _ s.1, s.0.tables.dead_room, q), omega (arith, edge_size_lem _ s.2, s.0.tables.dead_room, q))
 
 pub overflow_cast-result : goal.overflow_cast-result
 overflow_cast-result c = omega (arith, admitted_count c.requires.0.tables.tabled.admitted, c.ranges.vertices)

@@ -8,12 +8,9 @@ use Rattle.record.proofs.step.add_path.Goals as goal
 pub upper-s-requires : goal.upper-s-requires
 upper-s-requires c = f_ended (stepping c.requires)
 
-pub other_end-w-requires : goal.other_end-w-requires
-other_end-w-requires c = (f_ended (stepping c.requires)).below
-
 pub first_marked-x-requires : goal.first_marked-x-requires
 first_marked-x-requires c =
-    toward_at (stepping c.requires) c.upper-s.ensures c.other_end-w.ensures
+    toward_at (stepping c.requires) c.upper-s.ensures c.far_end-w.ensures
 
 pub slice_bounds-write_walk-count : goal.slice_bounds-write_walk-count
 slice_bounds-write_walk-count c = row_room c.requires
@@ -23,30 +20,30 @@ slice_bounds-write_walk-start c = omega (arith, row_room c.requires)
 
 pub write_walk-count-requires : goal.write_walk-count-requires
 write_walk-count-requires c =
-    one_more_at (stepping c.requires) c.upper-s.ensures c.other_end-w.ensures c.first_marked-x.ensures
+    one_more_at (stepping c.requires) c.upper-s.ensures c.far_end-w.ensures c.first_marked-x.ensures
 
 pub split_both-two-requires : goal.split_both-two-requires
 split_both-two-requires c =
-    ending_at (stepping c.requires) c.upper-s.ensures c.other_end-w.ensures c.first_marked-x.ensures
+    ending_at (stepping c.requires) c.upper-s.ensures c.far_end-w.ensures c.first_marked-x.ensures
 
 pub build_walk-three-requires : goal.build_walk-three-requires
 build_walk-three-requires c =
-    building_at (stepping c.requires) c.upper-s.ensures c.other_end-w.ensures c.first_marked-x.ensures
+    building_at (stepping c.requires) c.upper-s.ensures c.far_end-w.ensures c.first_marked-x.ensures
     c.split_both-two.new.places c.split_both-two.new.tips c.split_both-two.ensures
 
 pub overflow_add-result : goal.overflow_add-result
 overflow_add-result c =
     let fits : (c.args.done.row + c.write_walk-count.result ≤ limits.edges) × (c.args.done.step + 1 ≤ limits.edges) = path_fits c.write_walk-count.result c.split_both-two.new.places c.split_both-two.new.tips c.build_walk-three.new.places c.build_walk-three.new.below c.build_walk-three.new.tips
-    c.build_walk-three.new.over c.write_walk-count.new.rows c.upper-s.ensures c.other_end-w.ensures c.first_marked-x.ensures c.write_walk-count.ensures c.split_both-two.ensures c.build_walk-three.ensures c.requires in
+    c.build_walk-three.new.over c.write_walk-count.new.rows c.upper-s.ensures c.far_end-w.ensures c.first_marked-x.ensures c.write_walk-count.ensures c.split_both-two.ensures c.build_walk-three.ensures c.requires in
     omega (arith, fits)
 
 pub overflow_add-result-2 : goal.overflow_add-result-2
 overflow_add-result-2 c =
     let fits : (c.args.done.row + c.write_walk-count.result ≤ limits.edges) × (c.args.done.step + 1 ≤ limits.edges) = path_fits c.write_walk-count.result c.split_both-two.new.places c.split_both-two.new.tips c.build_walk-three.new.places c.build_walk-three.new.below c.build_walk-three.new.tips
-    c.build_walk-three.new.over c.write_walk-count.new.rows c.upper-s.ensures c.other_end-w.ensures c.first_marked-x.ensures c.write_walk-count.ensures c.split_both-two.ensures c.build_walk-three.ensures c.requires in
+    c.build_walk-three.new.over c.write_walk-count.new.rows c.upper-s.ensures c.far_end-w.ensures c.first_marked-x.ensures c.write_walk-count.ensures c.split_both-two.ensures c.build_walk-three.ensures c.requires in
     omega (arith, fits)
 
 pub returns : goal.returns
 returns c =
     path_added c.write_walk-count.result c.split_both-two.new.places c.split_both-two.new.tips c.build_walk-three.new.places c.build_walk-three.new.below c.build_walk-three.new.tips
-    c.build_walk-three.new.over c.write_walk-count.new.rows c.upper-s.ensures c.other_end-w.ensures c.first_marked-x.ensures c.write_walk-count.ensures c.split_both-two.ensures c.build_walk-three.ensures
+    c.build_walk-three.new.over c.write_walk-count.new.rows c.upper-s.ensures c.far_end-w.ensures c.first_marked-x.ensures c.write_walk-count.ensures c.split_both-two.ensures c.build_walk-three.ensures

@@ -4,7 +4,7 @@ use Rattle.connectivity.specs.Plan.{limits}
 use Rattle.graph.specs.Marks.{read}
 use Rattle.record.specs.Opening.{NextDoor, Finding}
 use Rattle.record.proofs.Doors.{eldest_below, root_below, some_door, other_door}
-use Rattle.record.proofs.Beginning.{one_place, other_place, one_edge, other_edge, find_meets, find_rises, forked}
+use Rattle.record.proofs.Beginning.{one_place, other_place, find_meets, find_rises, forked}
 use Rattle.record.proofs.theta.find.Goals as goal
 
 pub overflow_cast-end : goal.overflow_cast-end
@@ -52,29 +52,13 @@ bounds-incident-k c =
     let other : (q : Given) → let a = c.args in NextDoor a.ends.now a.incident.now a.begins.now a.first.now a.number.now (read a.last.now (read a.order.now 1)) a.r (c.next_door-j.result + 1) c.next_door-k.result = λ q. c.next_door-k.ensures (other_door q.ground q.listing (one q)) in
     let p = c.requires in other_place p.ground p.listing (one p) (other p)
 
-pub other_end-w-requires : goal.other_end-w-requires
-other_end-w-requires c =
-    let Given : Type 0 = let a = c.args in
-    Finding limits a.ends.now a.incident.now a.begins.now a.first.now a.order.now a.number.now a.last.now a.r a.places.now in
-    let one : (q : Given) → let a = c.args in NextDoor a.ends.now a.incident.now a.begins.now a.first.now a.number.now (read a.last.now (read a.order.now 1)) a.r (read a.begins.now a.r) c.next_door-j.result = λ q. c.next_door-j.ensures (some_door q.ground q.listing) in
-    let other : (q : Given) → let a = c.args in NextDoor a.ends.now a.incident.now a.begins.now a.first.now a.number.now (read a.last.now (read a.order.now 1)) a.r (c.next_door-j.result + 1) c.next_door-k.result = λ q. c.next_door-k.ensures (other_door q.ground q.listing (one q)) in
-    let p = c.requires in one_edge p.ground p.listing (one p) (other p)
-
-pub other_end-u-requires : goal.other_end-u-requires
-other_end-u-requires c =
-    let Given : Type 0 = let a = c.args in
-    Finding limits a.ends.now a.incident.now a.begins.now a.first.now a.order.now a.number.now a.last.now a.r a.places.now in
-    let one : (q : Given) → let a = c.args in NextDoor a.ends.now a.incident.now a.begins.now a.first.now a.number.now (read a.last.now (read a.order.now 1)) a.r (read a.begins.now a.r) c.next_door-j.result = λ q. c.next_door-j.ensures (some_door q.ground q.listing) in
-    let other : (q : Given) → let a = c.args in NextDoor a.ends.now a.incident.now a.begins.now a.first.now a.number.now (read a.last.now (read a.order.now 1)) a.r (c.next_door-j.result + 1) c.next_door-k.result = λ q. c.next_door-k.ensures (other_door q.ground q.listing (one q)) in
-    let p = c.requires in other_edge p.ground p.listing (one p) (other p)
-
 pub meeting-x-requires : goal.meeting-x-requires
 meeting-x-requires c =
     let Given : Type 0 = let a = c.args in
     Finding limits a.ends.now a.incident.now a.begins.now a.first.now a.order.now a.number.now a.last.now a.r a.places.now in
     let one : (q : Given) → let a = c.args in NextDoor a.ends.now a.incident.now a.begins.now a.first.now a.number.now (read a.last.now (read a.order.now 1)) a.r (read a.begins.now a.r) c.next_door-j.result = λ q. c.next_door-j.ensures (some_door q.ground q.listing) in
     let other : (q : Given) → let a = c.args in NextDoor a.ends.now a.incident.now a.begins.now a.first.now a.number.now (read a.last.now (read a.order.now 1)) a.r (c.next_door-j.result + 1) c.next_door-k.result = λ q. c.next_door-k.ensures (other_door q.ground q.listing (one q)) in
-    let p = c.requires in find_meets p (one p) (other p) c.other_end-w.ensures c.other_end-u.ensures
+    let p = c.requires in find_meets p (one p) (other p) c.far_end-w.ensures c.far_end-u.ensures
 
 pub bounds-first-x : goal.bounds-first-x
 bounds-first-x c =
@@ -82,7 +66,7 @@ bounds-first-x c =
     Finding limits a.ends.now a.incident.now a.begins.now a.first.now a.order.now a.number.now a.last.now a.r a.places.now in
     let one : (q : Given) → let a = c.args in NextDoor a.ends.now a.incident.now a.begins.now a.first.now a.number.now (read a.last.now (read a.order.now 1)) a.r (read a.begins.now a.r) c.next_door-j.result = λ q. c.next_door-j.ensures (some_door q.ground q.listing) in
     let other : (q : Given) → let a = c.args in NextDoor a.ends.now a.incident.now a.begins.now a.first.now a.number.now (read a.last.now (read a.order.now 1)) a.r (c.next_door-j.result + 1) c.next_door-k.result = λ q. c.next_door-k.ensures (other_door q.ground q.listing (one q)) in
-    let p = c.requires in (find_rises p (one p) (other p) c.other_end-w.ensures c.other_end-u.ensures c.meeting-x.new.marks c.meeting-x.ensures).long
+    let p = c.requires in (find_rises p (one p) (other p) c.far_end-w.ensures c.far_end-u.ensures c.meeting-x.new.marks c.meeting-x.ensures).long
 
 pub overflow_sub-e : goal.overflow_sub-e
 overflow_sub-e c =
@@ -90,15 +74,7 @@ overflow_sub-e c =
     Finding limits a.ends.now a.incident.now a.begins.now a.first.now a.order.now a.number.now a.last.now a.r a.places.now in
     let one : (q : Given) → let a = c.args in NextDoor a.ends.now a.incident.now a.begins.now a.first.now a.number.now (read a.last.now (read a.order.now 1)) a.r (read a.begins.now a.r) c.next_door-j.result = λ q. c.next_door-j.ensures (some_door q.ground q.listing) in
     let other : (q : Given) → let a = c.args in NextDoor a.ends.now a.incident.now a.begins.now a.first.now a.number.now (read a.last.now (read a.order.now 1)) a.r (c.next_door-j.result + 1) c.next_door-k.result = λ q. c.next_door-k.ensures (other_door q.ground q.listing (one q)) in
-    let p = c.requires in (find_rises p (one p) (other p) c.other_end-w.ensures c.other_end-u.ensures c.meeting-x.new.marks c.meeting-x.ensures).seen
-
-pub other_end-p-requires : goal.other_end-p-requires
-other_end-p-requires c =
-    let Given : Type 0 = let a = c.args in
-    Finding limits a.ends.now a.incident.now a.begins.now a.first.now a.order.now a.number.now a.last.now a.r a.places.now in
-    let one : (q : Given) → let a = c.args in NextDoor a.ends.now a.incident.now a.begins.now a.first.now a.number.now (read a.last.now (read a.order.now 1)) a.r (read a.begins.now a.r) c.next_door-j.result = λ q. c.next_door-j.ensures (some_door q.ground q.listing) in
-    let other : (q : Given) → let a = c.args in NextDoor a.ends.now a.incident.now a.begins.now a.first.now a.number.now (read a.last.now (read a.order.now 1)) a.r (c.next_door-j.result + 1) c.next_door-k.result = λ q. c.next_door-k.ensures (other_door q.ground q.listing (one q)) in
-    let p = c.requires in (find_rises p (one p) (other p) c.other_end-w.ensures c.other_end-u.ensures c.meeting-x.new.marks c.meeting-x.ensures).edge
+    let p = c.requires in (find_rises p (one p) (other p) c.far_end-w.ensures c.far_end-u.ensures c.meeting-x.new.marks c.meeting-x.ensures).seen
 
 pub returns : goal.returns
 returns c =
@@ -107,6 +83,6 @@ returns c =
     let one : (q : Given) → let a = c.args in NextDoor a.ends.now a.incident.now a.begins.now a.first.now a.number.now (read a.last.now (read a.order.now 1)) a.r (read a.begins.now a.r) c.next_door-j.result = λ q. c.next_door-j.ensures (some_door q.ground q.listing) in
     let other : (q : Given) → let a = c.args in NextDoor a.ends.now a.incident.now a.begins.now a.first.now a.number.now (read a.last.now (read a.order.now 1)) a.r (c.next_door-j.result + 1) c.next_door-k.result = λ q. c.next_door-k.ensures (other_door q.ground q.listing (one q)) in (
       c.meeting-x.ensures.0,
-      λ p. forked p (one p) (other p) c.other_end-w.ensures c.other_end-u.ensures c.meeting-x.new.marks c.meeting-x.ensures
-          c.other_end-p.ensures,
+      λ p. forked p (one p) (other p) c.far_end-w.ensures c.far_end-u.ensures c.meeting-x.new.marks c.meeting-x.ensures
+          c.far_end-p.ensures,
     )

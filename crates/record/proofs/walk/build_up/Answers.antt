@@ -58,12 +58,6 @@ bounds-over-e c =
     omega (arith, pre.edges, (c.loop-at.invariant pre).sets.long) in
     omega (arith, rises.edge, edge_room)
 
-pub other_end-at-requires : goal.other_end-at-requires
-other_end-at-requires c =
-    let rises : let a = c.args in Rises a.ends.now a.first.now c.loop-at.at = let pre = c.requires in
-    onward_rises (c.loop-at.invariant pre).on c.loop-at-test.true in
-    rises.edge
-
 pub overflow_add-below : goal.overflow_add-below
 overflow_add-below c =
     let pre = c.requires in
@@ -74,30 +68,30 @@ overflow_cast-below c =
     let next_room : let a = c.args in next_up a.ends.now a.first.now c.loop-at.at < length c.loop-at.below = let pre = c.requires in
     let r = c.loop-at.invariant pre in
     omega (arith, (onward_next r.on c.loop-at-test.true).leads, pre.room, r.long) in
-    rw c.other_end-at.ensures (omega (arith, next_room))
+    rw c.far_end-at.ensures (omega (arith, next_room))
 
 pub offset_bounds-below-at : goal.offset_bounds-below-at
 offset_bounds-below-at c =
     let next_room : let a = c.args in next_up a.ends.now a.first.now c.loop-at.at < length c.loop-at.below = let pre = c.requires in
     let r = c.loop-at.invariant pre in
     omega (arith, (onward_next r.on c.loop-at-test.true).leads, pre.room, r.long) in
-    rw c.other_end-at.ensures (omega (arith, next_room))
+    rw c.far_end-at.ensures (omega (arith, next_room))
 
 pub bounds-below-at : goal.bounds-below-at
 bounds-below-at c =
     let next_room : let a = c.args in next_up a.ends.now a.first.now c.loop-at.at < length c.loop-at.below = let pre = c.requires in
     let r = c.loop-at.invariant pre in
     omega (arith, (onward_next r.on c.loop-at-test.true).leads, pre.room, r.long) in
-    rw c.other_end-at.ensures next_room
+    rw c.far_end-at.ensures next_room
 
 pub loop-at-smaller : goal.loop-at-smaller
 loop-at-smaller c =
     let pre = c.requires in
-    rw c.other_end-at.ensures (left_less (c.loop-at.invariant pre).on c.loop-at-test.true)
+    rw c.far_end-at.ensures (left_less (c.loop-at.invariant pre).on c.loop-at-test.true)
 
 pub loop-at-preserved : goal.loop-at-preserved
 loop-at-preserved c =
-    λ d. rw c.other_end-at.ensures (lifts_step (c.loop-at.invariant d) c.loop-at-test.true d.room d.edges)
+    λ d. rw c.far_end-at.ensures (lifts_step (c.loop-at.invariant d) c.loop-at-test.true d.room d.edges)
 
 pub shape_of-below : goal.shape_of-below
 shape_of-below c = (c.loop-at.invariant c.requires).long

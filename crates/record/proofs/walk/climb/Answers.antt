@@ -36,11 +36,6 @@ write_row-requires c =
     let r = c.loop-at.invariant pre in
     omega (arith, rising_few r c.loop-at-test.true, rising_length r pre.fits, pre.fits)
 
-pub other_end-at-requires : goal.other_end-at-requires
-other_end-at-requires c =
-    let rises : let a = c.args in Rises a.ends.now a.first.now c.loop-at.at = let pre = c.requires in onward_rises (c.loop-at.invariant pre).on c.loop-at-test.true in
-    rises.edge
-
 pub overflow_add-count : goal.overflow_add-count
 overflow_add-count c =
     let pre = c.requires in
@@ -49,11 +44,11 @@ overflow_add-count c =
 pub loop-at-smaller : goal.loop-at-smaller
 loop-at-smaller c =
     let pre = c.requires in
-    rw c.other_end-at.ensures (left_less (c.loop-at.invariant pre).on c.loop-at-test.true)
+    rw c.far_end-at.ensures (left_less (c.loop-at.invariant pre).on c.loop-at-test.true)
 
 pub loop-at-preserved : goal.loop-at-preserved
 loop-at-preserved c =
-    λ d. rw c.write_row.ensures (rw c.other_end-at.ensures (rising_step (c.loop-at.invariant d) c.loop-at-test.true d.fits))
+    λ d. rw c.write_row.ensures (rw c.far_end-at.ensures (rising_step (c.loop-at.invariant d) c.loop-at-test.true d.fits))
 
 pub shape_of-rows : goal.shape_of-rows
 shape_of-rows c =

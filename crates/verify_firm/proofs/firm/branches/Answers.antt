@@ -1,9 +1,10 @@
 -- `branches` meets its contract: one vertex more is one branch more or none.
-use mathlib.Core.Path.{◌≡◌, sym, ap, ◌∙◌}
-use mathlib.Core.Bool.{cond}
+use mathlib.Core.Path.{◌≡◌, refl, sym, ap, ◌∙◌}
+use mathlib.Core.Bool.{Bool, true, false, cond}
 use mathlib.Core.List.{List}
 use Prim.Native.Nat.{ℕ, ◌+◌, ◌≤◌, ◌<◌}
 use native.Mathlib.Omega.{arith}
+use mir.Val.{bool_byte}
 use lib.Dec.{leb}
 use lib.ListN.{get_or, take}
 use lib.Seq.{get_or-take, length-take-le}
@@ -12,11 +13,16 @@ use Rattle.graph.proofs.Rank.{rank-none, rank_next, rank_most}
 use Rattle.verify_firm.specs.Marks.{is_forked}
 use Rattle.verify_firm.proofs.firm.branches.Goals as goal
 
+-- a test as a number
+byte : (t : Bool) → bool_byte t ≡ cond t 1 0
+byte true = refl
+byte false = refl
+
 -- the next vertex, in the part of the table that is asked
-turn : (degree : List ℕ) (n v count one : ℕ) → v < n → count ≡ rank (is_forked degree) v → one ≡ cond (leb 3 (get_or (take n degree) v 0)) 1 0
+turn : (degree : List ℕ) (n v count one : ℕ) → v < n → count ≡ rank (is_forked degree) v → one ≡ bool_byte (leb 3 (get_or (take n degree) v 0))
     → (count + one ≡ rank (is_forked degree) (v + 1)) × (count + one ≤ n)
 turn degree n v count one h p q =
-    let here : one ≡ cond (is_forked degree v) 1 0 = q ∙ ap (λ (x : ℕ). cond (leb 3 x) 1 0) (get_or-take n degree v 0 h) in
+    let here : one ≡ cond (is_forked degree v) 1 0 = q ∙ ap (λ (x : ℕ). bool_byte (leb 3 x)) (get_or-take n degree v 0 h) ∙ byte (is_forked degree v) in
     let more : count + one ≡ rank (is_forked degree) (v + 1) = omega (arith, p, here, rank_next (is_forked degree) v) in
     (more, omega (arith, more, rank_most (is_forked degree) (v + 1)))
 
@@ -27,13 +33,13 @@ pub overflow_add-count : goal.overflow_add-count
 overflow_add-count c =
     let a = c.args in
     let l = c.loop-built in
-    omega (arith, (turn a.degree.now a.vertices l.built-index l.count c.one_if-count.result (omega (arith, length-take-le c.args.vertices c.args.degree.now c.requires)) l.invariant c.one_if-count.ensures).1, c.ranges.vertices)
+    omega (arith, (turn a.degree.now a.vertices l.built-index l.count c.from-count.result (omega (arith, length-take-le c.args.vertices c.args.degree.now c.requires)) l.invariant c.from-count.ensures).1, c.ranges.vertices)
 
 pub loop-built-preserved : goal.loop-built-preserved
 loop-built-preserved c =
     let a = c.args in
     let l = c.loop-built in
-    (turn a.degree.now a.vertices l.built-index l.count c.one_if-count.result (omega (arith, length-take-le c.args.vertices c.args.degree.now c.requires)) l.invariant c.one_if-count.ensures).0
+    (turn a.degree.now a.vertices l.built-index l.count c.from-count.result (omega (arith, length-take-le c.args.vertices c.args.degree.now c.requires)) l.invariant c.from-count.ensures).0
 
 pub returns : goal.returns
 returns c =
