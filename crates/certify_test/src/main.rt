@@ -4,7 +4,8 @@
 
 ghost use Rattle.std.specs.Prelude.{◌≤◌};
 
-use certify::{Finding, Outcome};
+use certify::Finding;
+use graph::Answer;
 use plan::Plan;
 use random::{draw, later};
 use removal::Fallen;
@@ -176,7 +177,7 @@ fn written(
     excluded: &[u16],
     space: usize,
     rows: &mut [u16],
-) -> Finding {
+) -> Result<Finding, Answer> {
     let lent = least(space, rows.len());
     certify::verdict(vertices, ends, excluded, &mut rows[..lent])
 }
@@ -188,20 +189,19 @@ fn least(a: usize, b: usize) -> usize
 }
 
 // The verdict, in the second implementation's terms.
-fn told(finding: Finding) -> [u16; 6] {
-    let outcome = finding.outcome;
-    let cut = finding.cut;
-    match outcome {
-        Outcome::Refused(answer) => [
-            second::REFUSED,
-            answer.number,
-            answer.place,
-            cut.count,
-            cut.first,
-            cut.second,
-        ],
-        Outcome::Weak => [second::WEAK, 0, 0, cut.count, cut.first, cut.second],
-        Outcome::Firm => [second::FIRM, 0, 0, cut.count, cut.first, cut.second],
+fn told(finding: Result<Finding, Answer>) -> [u16; 6] {
+    match finding {
+        Err(answer) => [second::REFUSED, answer.number, answer.place, 0, 0, 0],
+        Ok(Finding::Weak { cut, .. }) => [second::WEAK, 0, 0, cut.count, cut.first, cut.second],
+        Ok(Finding::Firm) => [second::FIRM, 0, 0, 0, 0, 0],
+    }
+}
+
+// The marks beside it; none where it is not weak.
+fn fallen_in(finding: Result<Finding, Answer>) -> Fallen {
+    match finding {
+        Ok(Finding::Weak { fallen, .. }) => fallen,
+        _ => Fallen::none(),
     }
 }
 
@@ -301,7 +301,7 @@ fn judged(rt: &impl Print, run: &mut [u32; 52], plan: Plan, sheet: &[u16; 48]) -
     let verdict = told(finding);
     noted(run, verdict, plan.kept < plan.named);
     differs(rt, run, fault(plan, sheet, verdict, &rows))?;
-    marked(rt, run, plan, sheet, verdict, finding.fallen)?;
+    marked(rt, run, plan, sheet, verdict, fallen_in(finding))?;
     if verdict[0] == second::FIRM {
         firm(rt, run, plan, sheet, &rows)
     } else {
@@ -359,7 +359,7 @@ fn moved(
     if !same(told(finding), verdict) {
         differs(rt, run, MOVED)?;
     }
-    let fallen = finding.fallen;
+    let fallen = fallen_in(finding);
     weighed(rt, run, fallen, due, offset)
 }
 

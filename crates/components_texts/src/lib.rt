@@ -46,7 +46,12 @@ fn write_read(counts: Graph, table: &[u16], bytes: &mut [u8]) -> Result<usize, A
     write_admitted(counts.vertices, &table[..size], &table[size..end], bytes)
 }
 
-fn write_admitted(vertices: u16, ends: &[u16], excluded: &[u16], bytes: &mut [u8]) -> Result<usize, Answer>
+fn write_admitted(
+    vertices: u16,
+    ends: &[u16],
+    excluded: &[u16],
+    bytes: &mut [u8],
+) -> Result<usize, Answer>
     requires { Admitted limits (plan vertices ends.now excluded.now) }
     ensures { WritesLines five 2 (group_pairs (graph (plan vertices ends.now excluded.now))) bytes.old bytes.new result }
 {

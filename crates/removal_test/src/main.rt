@@ -245,9 +245,11 @@ fn tell(
     excluded: &[u16],
     cut: &[u16],
 ) -> io::Result<()> {
-    let removed = removal::remove(pieces, ends, excluded, cut);
-    let fallen = removed.fallen;
-    outcome(rt, removed.answer, fallen.count)?;
+    let (answer, fallen) = match removal::remove(pieces, ends, excluded, cut) {
+        Ok(fallen) => (Answer { number: 0, place: 0 }, fallen),
+        Err(answer) => (answer, Fallen::none()),
+    };
+    outcome(rt, answer, fallen.count)?;
     let words = fallen.words;
     marks(rt, &words)
 }
