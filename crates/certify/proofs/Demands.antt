@@ -3,6 +3,7 @@
 -- `Cut` 01's weak list (two tabs at most, ascending, the plan's, that part the sheet), `LowestCut` the fewest and lowest; `judge` is what
 -- the contract of the check says that it answers, `Answered` the contract of the writer. A plan carries its slugs (02); its tabs are the kept
 -- ones, its pieces the kept ones: `graph p` has no others.
+use Rattle.std.specs.Prelude.{Err, Ok}
 use mathlib.Core.Path.{◌≡◌, refl, sym, ap, ◌∙◌}
 use mathlib.Core.Logic.{◌⊎◌, inl, inr, ◌↔◌}
 use mathlib.Core.List.{List}
@@ -27,11 +28,11 @@ use Rattle.connectivity.proofs.LowestCut.{lowest_cut_lem, three_edge_connected}
 use Rattle.connectivity.proofs.Judge as judged
 use Rattle.connectivity.proofs.Verdict.{verdict-refused, verdict_short, verdict_firm, verdict_weak, weak_served}
 use Rattle.connectivity.proofs.Complete.{firm_exists}
+use Rattle.cuts.specs.declared.lowest.Lowest as code
+use Rattle.removal.specs.declared.Fallen.{Fallen}
 use Rattle.removal.specs.Fallen.{fallen_by, none as unmarked}
-use Rattle.certify.specs.declared.Finding.{Finding}
-use Rattle.certify.specs.declared.Outcome.{Outcome}
-use Rattle.certify.specs.declared.Outcome.TheVariants.{Refused, Weak, Firm}
-use Rattle.certify.specs.Answered.{Answered, handed, named}
+use Rattle.certify.specs.declared.Finding.TheVariants.{Firm, Weak}
+use Rattle.certify.specs.Answered.{Found, Answered, handed, fallen_in, named}
 use Rattle.certify.proofs.Outcomes.{firm_told, never_refused, found_firm, weak_outcome, weak_falls, found_falls, found_none}
 
 -- Demand 1. Every input is served or given the one refusal that 01 fixes; a refused or weak answer leaves the lent record unchanged.
@@ -43,7 +44,7 @@ module _ {most : Limits} {p : Plan} where
   check_refused h kind list = judged.judge-refused most p kind list h
 
   -- the writer
-  module _ {before after : List ℕ} {found : Finding} (c : Answered most p before after found) where
+  module _ {before after : List ℕ} {found : Found} (c : Answered most p before after found) where
     -- the plan's own refusal
     pub writer_refused : (Admitted most p → ⊥) → handed found ≡ refusal (admission most p)
     unfolding verdict_handed
@@ -54,7 +55,7 @@ module _ {most : Limits} {p : Plan} where
     unfolding verdict_handed
     writer_short a h = c.answer ∙ ap verdict_handed (verdict_short a (length before) h)
 
-    pub writer_unchanged : (found.outcome ≡ Firm → ⊥) → after ≡ before
+    pub writer_unchanged : (found ≡ Ok Firm → ⊥) → after ≡ before
     writer_unchanged h = c.kept.unchanged (λ v. h (firm_told c v))
 
 -- In what follows the plan is admitted.
@@ -66,23 +67,23 @@ module _ {most : Limits} {p : Plan} (a : Admitted most p) where
   -- Demand 2. The verdict is firm exactly when the plan is 3-edge-connected, otherwise weak, naming the fewest tabs whose loss parts the
   -- sheet, the lowest such set. (That texts survive writing and reading: `text/proofs/RoundTrip`.)
 
-  module _ {before after : List ℕ} {found : Finding} (room : 3 * kept_edges p ≤ length before) (c : Answered most p before after found) where
+  module _ {before after : List ℕ} {found : Found} (room : 3 * kept_edges p ≤ length before) (c : Answered most p before after found) where
     -- where three numbers for each kept tab are lent, the writer answers firm or weak
-    pub answers : (found.outcome ≡ Firm) ⊎ (found.outcome ≡ Weak)
-    answers = go found.outcome refl
+    pub answers : (found ≡ Ok Firm) ⊎ ((cut : code.Lowest) × (fallen : Fallen) × (found ≡ Ok (Weak cut fallen)))
+    answers = go found refl
       where
-        go : (o : Outcome) → found.outcome ≡ o → (found.outcome ≡ Firm) ⊎ (found.outcome ≡ Weak)
-        go (Refused x) q = absurd (never_refused a room c q)
-        go Weak q = inr q
-        go Firm q = inl q
+        go : (x : Found) → found ≡ x → (found ≡ Ok Firm) ⊎ ((cut : code.Lowest) × (fallen : Fallen) × (found ≡ Ok (Weak cut fallen)))
+        go (Err x) q = absurd (never_refused a room c q)
+        go (Ok (Weak cut fallen)) q = inr (cut, fallen, q)
+        go (Ok Firm) q = inl q
 
-    pub ours_firm : (found.outcome ≡ Firm) ↔ ThreeEdgeConnected (graph p)
+    pub ours_firm : (found ≡ Ok Firm) ↔ ThreeEdgeConnected (graph p)
     ours_firm =
         let v = verdict_firm a (length before) room in
         (λ q. v.0 (found_firm a room c q), λ t. firm_told c (v.1 t))
 
-    pub ours_weak : found.outcome ≡ Weak → LowestCut (graph p) (named found.cut)
-    ours_weak q = (verdict_weak a (length before) room (named found.cut)).0 (weak_outcome c q).1
+    pub ours_weak : {cut : code.Lowest} {fallen : Fallen} → found ≡ Ok (Weak cut fallen) → LowestCut (graph p) (named cut)
+    ours_weak {cut} q = (verdict_weak a (length before) room (named cut)).0 (weak_outcome c q).1
 
   -- Demand 3. Which verdicts pass, whatever kind and numbers anyone offers.
 
@@ -121,12 +122,12 @@ module _ {most : Limits} {p : Plan} (a : Admitted most p) where
   weak_some = (λ q. judged.weak_not_three most p q.0 q.1, λ h. elim some_passes [ inl q ↦ absurd (h (firm_some.0 q)) | inr q ↦ q ])
 
   -- our writer always writes one that passes
-  module _ {before after : List ℕ} {found : Finding} (room : 3 * kept_edges p ≤ length before) (c : Answered most p before after found) where
-    pub record_passes : found.outcome ≡ Firm → Passes 0 (take (3 * kept_edges p) after)
+  module _ {before after : List ℕ} {found : Found} (room : 3 * kept_edges p ≤ length before) (c : Answered most p before after found) where
+    pub record_passes : found ≡ Ok Firm → Passes 0 (take (3 * kept_edges p) after)
     record_passes q = c.kept.passes (found_firm a room c q)
 
-    pub tabs_pass : found.outcome ≡ Weak → Passes 1 (named found.cut)
-    tabs_pass q = (weak_list_lem (named found.cut)).1 (ours_weak room c q).cut
+    pub tabs_pass : {cut : code.Lowest} {fallen : Fallen} → found ≡ Ok (Weak cut fallen) → Passes 1 (named cut)
+    tabs_pass {cut} q = (weak_list_lem (named cut)).1 (ours_weak room c q).cut
 
 -- 02, note 4. Which pieces would fall.
 
@@ -149,21 +150,21 @@ module _ {most : Limits} {p : Plan} (a : Admitted most p) where
       (λ q. some.0 ((weak_list_lem a list).0 q).parts, λ m. (weak_list_lem a list).1 (record { set = set; small = small; parts = some.1 m }))
 
 -- our writer's answer, for every plan and whatever is lent
-module _ {most : Limits} {p : Plan} {before after : List ℕ} {found : Finding} (c : Answered most p before after found) where
-  -- a weak one carries the marks that are found without its named tabs, and how many are set: one at least
-  pub ours_fall : found.outcome ≡ Weak → found.fallen ≡ fallen_by most p (named found.cut)
-  ours_fall q = found_falls c q
+module _ {most : Limits} {p : Plan} {before after : List ℕ} {found : Found} (c : Answered most p before after found) where
+  module _ {cut : code.Lowest} {fall : Fallen} (q : found ≡ Ok (Weak cut fall)) where
+    -- a weak one carries the marks that are found without its named tabs, and how many are set: one at least
+    pub ours_fall : fall ≡ fallen_by most p (named cut)
+    ours_fall = found_falls c q
 
-  -- so a mark is set exactly for each kept piece that the lowest one, u, does not reach without the named tabs
-  pub ours_marks : found.outcome ≡ Weak → {u : ℕ} → Lowest (graph p) u → (v : ℕ)
-      → Marked found.fallen.words v ↔ (Vertex (graph p) v × (Reach (graph p) (Without (named found.cut)) u v → ⊥))
-  ours_marks q low v = rw (ours_fall q) (marks_are (weak_served most p (length before) (weak_outcome c q).1).0 low (named found.cut) v)
+    -- so a mark is set exactly for each kept piece that the lowest one, u, does not reach without the named tabs
+    pub ours_marks : {u : ℕ} → Lowest (graph p) u → (v : ℕ) → Marked fall.words v ↔ (Vertex (graph p) v × (Reach (graph p) (Without (named cut)) u v → ⊥))
+    ours_marks low v = rw ours_fall (marks_are (weak_served most p (length before) (weak_outcome c q).1).0 low (named cut) v)
 
-  pub ours_some : found.outcome ≡ Weak → (found.fallen.count ≡ marked found.fallen.words) × (1 ≤ found.fallen.count)
-  ours_some q =
-      let v = (weak_outcome c q).1 in
-      rw (ours_fall q) (sym (marks_count (weak_served most p (length before) v).0 (named found.cut)), weak_falls most p (length before) (named found.cut) v)
+    pub ours_some : (fall.count ≡ marked fall.words) × (1 ≤ fall.count)
+    ours_some =
+        let v = (weak_outcome c q).1 in
+        rw ours_fall (sym (marks_count (weak_served most p (length before) v).0 (named cut)), weak_falls most p (length before) (named cut) v)
 
   -- a firm or refused one marks none
-  pub ours_none : (found.outcome ≡ Weak → ⊥) → found.fallen ≡ unmarked most
+  pub ours_none : ((cut : code.Lowest) (fall : Fallen) → found ≡ Ok (Weak cut fall) → ⊥) → fallen_in most found ≡ unmarked most
   ours_none h = found_none c h

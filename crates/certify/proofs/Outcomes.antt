@@ -1,4 +1,5 @@
--- Which verdict has which outcome, and which edges a weak one names.
+-- Which verdict is found firm or weak, and which edges a weak one names.
+use Rattle.std.specs.Prelude.{Err, Ok}
 use mathlib.Core.Path.{◌≡◌, refl, sym, ap, ◌∙◌}
 use mathlib.Core.List.{List, [], ◌∷◌}
 use mathlib.Core.Option.{Option, none, some}
@@ -20,11 +21,10 @@ use Rattle.graph.specs.Admission.{answer_of}
 use Rattle.graph.specs.declared.Answer.{Answer}
 use Rattle.graph.proofs.Lent.{not_served}
 use Rattle.cuts.specs.declared.lowest.Lowest.{Lowest}
+use Rattle.removal.specs.declared.Fallen.{Fallen}
 use Rattle.removal.specs.Fallen.{fallen_of, fallen_by, none as unmarked}
-use Rattle.certify.specs.declared.Finding.{Finding}
-use Rattle.certify.specs.declared.Outcome.{Outcome}
-use Rattle.certify.specs.declared.Outcome.TheVariants.{Refused, Weak, Firm}
-use Rattle.certify.specs.Answered.{Answered, handed_by, named}
+use Rattle.certify.specs.declared.Finding.TheVariants.{Firm, Weak}
+use Rattle.certify.specs.Answered.{Found, Answered, handed, fallen_in, named}
 
 -- Firm is handed back of a firm verdict alone.
 
@@ -39,11 +39,11 @@ firm_only (meaning.weak []) p = absurd (omega (arith, ap size p))
 firm_only (meaning.weak (e ∷ [])) p = absurd (omega (arith, ap size p))
 firm_only (meaning.weak (e ∷ (d ∷ l))) p = absurd (omega (arith, ap size p))
 
-firm_back : (o : Outcome) (c : Lowest) → handed_by o c ≡ served (0 ∷ []) → o ≡ Firm
+firm_back : (r : Found) → handed r ≡ served (0 ∷ []) → r ≡ Ok Firm
 unfolding size
-firm_back (Refused a) c p = absurd (not_served p)
-firm_back Weak c p = absurd (omega (arith, ap size p))
-firm_back Firm c p = refl
+firm_back (Err a) p = absurd (not_served p)
+firm_back (Ok (Weak cut fallen)) p = absurd (omega (arith, ap size p))
+firm_back (Ok Firm) p = refl
 
 -- where nothing falls, no mark is set
 pub blank_falls : (most : Limits) (list : List ℕ) → list ≡ [] → fallen_of most list ≡ unmarked most
@@ -103,22 +103,22 @@ unrefused (some (e ∷ [])) p = not_served p
 unrefused (some (e ∷ (d ∷ l))) p = not_served p
 
 -- of every plan, whatever is lent
-pub firm_told : {most : Limits} {p : Plan} {before after : List ℕ} {f : Finding} → Answered most p before after f
-    → meaning.verdict most p (length before) ≡ meaning.firm → f.outcome ≡ Firm
+pub firm_told : {most : Limits} {p : Plan} {before after : List ℕ} {r : Found} → Answered most p before after r
+    → meaning.verdict most p (length before) ≡ meaning.firm → r ≡ Ok Firm
 unfolding meaning.verdict_handed
-firm_told {f = f} c v = firm_back f.outcome f.cut (c.answer ∙ ap meaning.verdict_handed v)
+firm_told {r = r} c v = firm_back r (c.answer ∙ ap meaning.verdict_handed v)
 
 -- of an admitted plan, where the lent record has three numbers for each edge that is kept
-module _ {most : Limits} {p : Plan} {before after : List ℕ} {f : Finding} (a : Admitted most p) (room : 3 * kept_edges p ≤ length before)
-    (c : Answered most p before after f) where
+module _ {most : Limits} {p : Plan} {before after : List ℕ} {r : Found} (a : Admitted most p) (room : 3 * kept_edges p ≤ length before)
+    (c : Answered most p before after r) where
   abbrev found : meaning.Verdict
   found = meaning.verdict most p (length before)
 
-  pub never_refused : {x : Answer} → f.outcome ≡ Refused x → ⊥
+  pub never_refused : {x : Answer} → r ≡ Err x → ⊥
   never_refused q = unrefused (lowest_cut (graph p))
       ((rw q at c.answer) ∙ ap meaning.verdict_handed (reaches a (length before) room))
 
-  pub found_firm : f.outcome ≡ Firm → found ≡ meaning.firm
+  pub found_firm : r ≡ Ok Firm → found ≡ meaning.firm
   found_firm q = firm_only found (rw q at c.answer)
 
 -- Space for a record is enough, and more changes nothing.
@@ -126,19 +126,19 @@ pub same-verdict : {most : Limits} {p : Plan} (a : Admitted most p) (space : ℕ
 same-verdict {p = p} a space room = reaches a space room ∙ sym (reaches a (3 * kept_edges p) (omega arith))
 
 -- What falls with an answer, whatever is lent.
-module _ {most : Limits} {p : Plan} {before after : List ℕ} {f : Finding} (c : Answered most p before after f) where
-  pub weak_outcome : f.outcome ≡ Weak → (f.cut.count ≤ 2) × (meaning.verdict most p (length before) ≡ meaning.weak (named f.cut))
-  weak_outcome q = weak_told most p (length before) f.cut (rw q at c.answer)
+module _ {most : Limits} {p : Plan} {before after : List ℕ} {r : Found} (c : Answered most p before after r) where
+  module _ {cut : Lowest} {fallen : Fallen} (q : r ≡ Ok (Weak cut fallen)) where
+    pub weak_outcome : (cut.count ≤ 2) × (meaning.verdict most p (length before) ≡ meaning.weak (named cut))
+    weak_outcome = weak_told most p (length before) cut (rw q at c.answer)
 
-  pub found_falls : f.outcome ≡ Weak → f.fallen ≡ fallen_by most p (named f.cut)
-  unfolding fall_with
-  found_falls q = c.fallen ∙ ap (λ (v : meaning.Verdict). fallen_of most (fall_with (graph p) v)) (weak_outcome q).1
+    pub found_falls : fallen ≡ fallen_by most p (named cut)
+    unfolding fall_with
+    found_falls = (rw q at c.fallen) ∙ ap (λ (v : meaning.Verdict). fallen_of most (fall_with (graph p) v)) weak_outcome.1
 
-  pub found_none : (f.outcome ≡ Weak → ⊥) → f.fallen ≡ unmarked most
-  unfolding fall_with
-  found_none h = go f.outcome refl
+  pub found_none : ((cut : Lowest) (fallen : Fallen) → r ≡ Ok (Weak cut fallen) → ⊥) → fallen_in most r ≡ unmarked most
+  found_none h = go r refl
     where
-      go : (o : Outcome) → f.outcome ≡ o → f.fallen ≡ unmarked most
-      go (Refused x) q = c.fallen ∙ blank_falls most (fall_with (graph p) (meaning.verdict most p (length before))) (refused_none (graph p) (meaning.verdict most p (length before)) (rw q at c.answer))
-      go Firm q = c.fallen ∙ blank_falls most (fall_with (graph p) (meaning.verdict most p (length before))) (ap (fall_with (graph p)) (firm_only (meaning.verdict most p (length before)) (rw q at c.answer)))
-      go Weak q = absurd (h q)
+      go : (x : Found) → r ≡ x → fallen_in most r ≡ unmarked most
+      go (Err x) q = rw q refl
+      go (Ok Firm) q = rw q refl
+      go (Ok (Weak cut fallen)) q = absurd (h cut fallen q)

@@ -1,7 +1,6 @@
 // The calls of the library, whose answers are told in the program's own terms.
 use crate::plan::Plan;
 use crate::verdict::{Claim, Cut, Refusal, Rule, Verdict};
-use certify::Outcome;
 use cuts::lowest::Lowest;
 use graph::Answer;
 use removal::Fallen;
@@ -14,6 +13,13 @@ pub struct Marks {
 }
 
 impl Marks {
+    fn none() -> Marks {
+        Marks {
+            count: 0,
+            words: [0; Fallen::WORDS],
+        }
+    }
+
     pub fn has(&self, vertex: u16) -> bool {
         match self.words.get(usize::from(vertex / 64)) {
             Some(word) => (word >> (vertex % 64)) % 2 == 1,
@@ -30,25 +36,33 @@ pub struct Finding {
 
 // What the writer says of a plan.
 pub fn verdict(plan: Plan<'_>, rows: &mut [u16]) -> Finding {
-    let finding = certify::verdict(plan.vertices, plan.ends, plan.excluded, rows);
-    let fallen = finding.fallen;
-    let words = fallen.words;
-    Finding {
-        verdict: told(finding.outcome, finding.cut),
-        marks: Marks {
-            count: fallen.count,
-            words,
+    match certify::verdict(plan.vertices, plan.ends, plan.excluded, rows) {
+        Err(answer) => Finding {
+            verdict: Err(refusal(answer)),
+            marks: Marks::none(),
         },
+        Ok(certify::Finding::Firm) => Finding {
+            verdict: Ok(Verdict::Firm),
+            marks: Marks::none(),
+        },
+        Ok(certify::Finding::Weak { cut, fallen }) => {
+            let words = fallen.words;
+            Finding {
+                verdict: told(cut),
+                marks: Marks {
+                    count: fallen.count,
+                    words,
+                },
+            }
+        }
     }
 }
 
-fn told(outcome: Outcome, cut: Lowest) -> Result<Verdict, Refusal> {
-    match (outcome, cut.count, cut.first, cut.second) {
-        (Outcome::Refused(answer), 0, 0, 0) => Err(refusal(answer)),
-        (Outcome::Firm, 0, 0, 0) => Ok(Verdict::Firm),
-        (Outcome::Weak, 0, 0, 0) => Ok(Verdict::Weak(Cut::Nothing)),
-        (Outcome::Weak, 1, edge, 0) => Ok(Verdict::Weak(Cut::One(edge))),
-        (Outcome::Weak, 2, first, second) => Ok(Verdict::Weak(Cut::Two(first, second))),
+fn told(cut: Lowest) -> Result<Verdict, Refusal> {
+    match (cut.count, cut.first, cut.second) {
+        (0, 0, 0) => Ok(Verdict::Weak(Cut::Nothing)),
+        (1, edge, 0) => Ok(Verdict::Weak(Cut::One(edge))),
+        (2, first, second) => Ok(Verdict::Weak(Cut::Two(first, second))),
         _ => Err(Rule::Unknown.at(0)),
     }
 }

@@ -1,6 +1,6 @@
 -- 01's own texts: the laws that are stated for every width, largest value and limits, cited for columns of five, 65,535 and 01's limits, which the
 -- entries name. Their premises hold for these.
-use Rattle.std.specs.Prelude.{Err, Ok}
+use Rattle.std.specs.Prelude.{Ok}
 use mathlib.Core.Path.{◌≡◌}
 use mathlib.Core.Bool.{true}
 use mathlib.Core.List.{List}

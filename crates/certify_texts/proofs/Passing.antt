@@ -1,6 +1,6 @@
 -- The text that is written for a plan text: its verdict has a text form, so that 6 is the only refusal; and of a plan that is read, the
 -- bytes that are left in the lent buffer pass the check of both texts.
-use Rattle.std.specs.Prelude.{Err, Ok}
+use Rattle.std.specs.Prelude.{Ok}
 use mathlib.Core.Path.{◌≡◌, refl, sym, ap, subst, ◌∙◌}
 use mathlib.Core.Logic.{inl, inr}
 use mathlib.Core.Bool.{true}

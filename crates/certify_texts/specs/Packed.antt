@@ -1,5 +1,5 @@
 -- What the writer answers to C: numbers in one number, and the length of a text.
-use Rattle.std.specs.Prelude.{◌≡◌, List, [], ◌∷◌, ℕ, ◌+◌, ◌*◌, length, get_or}
+use Rattle.std.specs.Prelude.{◌≡◌, List, [], ◌∷◌, ℕ, ◌+◌, ◌*◌, length, get_or, Err, Ok}
 use Rattle.connectivity.specs.Plan.{Plan, graph, Limits}
 use Rattle.connectivity.specs.Graph.{Graph}
 use Rattle.connectivity.specs.Admission.{Answer, Handed}
@@ -8,6 +8,8 @@ use Rattle.connectivity.specs.Fallen.{fallen, fall_with}
 use Rattle.text.specs.Verdict.{write_verdict}
 use Rattle.text_write.specs.Entry.{bytes_handed, size_of, after_writing}
 use Rattle.record.specs.Answered.{RecordKept}
+use Rattle.certify.specs.declared.Finding.TheVariants.{Firm, Weak}
+use Rattle.certify.specs.Answered.{Found}
 use Rattle.certify_texts.specs.Says.{Says}
 
 -- four numbers of sixteen bits, the first in the uppermost
@@ -32,6 +34,12 @@ unfoldable pub words_after : Limits → Graph → Verdict → List ℕ → List 
 words_after most g (weak cut) before = fallen most g cut
 words_after most g firm before = before
 words_after most g (refused a) before = before
+
+-- the same as it is found
+abbrev pub words_of : Found → List ℕ → List ℕ
+words_of (Err a) before = before
+words_of (Ok (Weak cut fallen)) before = fallen.words
+words_of (Ok Firm) before = before
 
 -- 02: the words, and how many pieces fall with the verdict
 pub record Marks (most : Limits) (p : Plan) (space : ℕ) (before after : List ℕ) (marked : ℕ) : Type 0 where

@@ -1,13 +1,11 @@
 // The writer as C takes it: `certify_texts_c` hands these functions to C.
-ghost use Rattle.std.specs.Prelude.{◌≡◌, cond, eqb, length};
+ghost use Rattle.std.specs.Prelude.{◌≡◌, length};
 ghost use Rattle.connectivity.specs.Plan.{plan, limits};
 ghost use Rattle.text.specs.Column.{five, largest};
-ghost use Rattle.text_write.specs.Entry as entry;
-ghost use Rattle.text_write.specs.Entry.{size_of};
-ghost use Rattle.certify.specs.Answered.{handed};
-ghost use Rattle.certify_texts.specs.Packed.{four, packed, Packed, Marks, TextSize};
+ghost use Rattle.certify.specs.Answered.{handed, fallen_in};
+ghost use Rattle.certify_texts.specs.Packed.{four, packed, words_of, Packed, Marks, TextSize};
 
-use certify::{Finding, Outcome};
+use certify::Finding;
 use graph::Answer;
 use removal::Fallen;
 
@@ -23,8 +21,7 @@ pub fn hearthtansy_verdict(
     ensures { Packed limits (plan vertices ends.now excluded.now) rows.old rows.new result × Marks limits (plan vertices ends.now excluded.now) (length rows.old) fallen.old fallen.new marked.new }
 {
     let found = certify::verdict(vertices, ends, excluded, rows);
-    let marks = found.fallen;
-    *marked = hand_over(marks, fallen);
+    *marked = hand_over(found, fallen);
     pack(found)
 }
 
@@ -32,30 +29,28 @@ pub fn hearthtansy_verdict(
 pub fn hearthtansy_verdict_text(plan: &[u8], text: &mut [u8]) -> usize
     ensures { TextSize five largest limits plan.now text.old text.new result }
 {
-    count(crate::verdict_text(plan, text))
+    crate::verdict_text(plan, text).unwrap_or(0)
 }
 
-// The words of those who fall, unless nobody does; and how many do.
-fn hand_over(fallen: Fallen, words: &mut [u64; Fallen::WORDS]) -> u16
-    ensures { (result ≡ fallen.count) × (words.new ≡ cond (eqb fallen.count 0) words.old fallen.words) }
+// The words of those who fall with a weak plan; and how many do.
+fn hand_over(found: Result<Finding, Answer>, words: &mut [u64; Fallen::WORDS]) -> u16
+    ensures { (result ≡ (fallen_in limits found).count) × (words.new ≡ words_of found words.old) }
 {
-    let count = fallen.count;
-    if count != 0 {
-        let marks = fallen.words;
-        *words = marks;
-    }
-    count
+    let Ok(Finding::Weak { fallen, .. }) = found else {
+        return 0;
+    };
+    let marks = fallen.words;
+    *words = marks;
+    fallen.count
 }
 
-fn pack(found: Finding) -> u64
+fn pack(found: Result<Finding, Answer>) -> u64
     ensures { result ≡ packed (handed found) }
 {
-    let cut = found.cut;
-    let outcome = found.outcome;
-    match outcome {
-        Outcome::Firm => 0,
-        Outcome::Weak => join(1, cut.count, cut.first, cut.second),
-        Outcome::Refused(answer) => join(2, answer.number, answer.place, 0),
+    match found {
+        Ok(Finding::Firm) => 0,
+        Ok(Finding::Weak { cut, .. }) => join(1, cut.count, cut.first, cut.second),
+        Err(answer) => join(2, answer.number, answer.place, 0),
     }
 }
 
@@ -64,13 +59,4 @@ fn join(a: u16, b: u16, c: u16, d: u16) -> u64
     ensures { result ≡ four a b c d }
 {
     ((a as u64 * 65536 + b as u64) * 65536 + c as u64) * 65536 + d as u64
-}
-
-fn count(written: Result<usize, Answer>) -> usize
-    ensures { result ≡ size_of (entry.handed written) }
-{
-    match written {
-        Ok(count) => count,
-        Err(_) => 0,
-    }
 }

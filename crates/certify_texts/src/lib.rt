@@ -10,7 +10,7 @@ ghost use Rattle.verify_texts.specs.Table.{Holds, plan_of};
 ghost use Rattle.certify.specs.Answered.{named};
 ghost use Rattle.certify_texts.specs.Says.{WritesFor, WritesOf};
 
-use certify::Outcome;
+use certify::Finding;
 use cuts::lowest::Lowest;
 use graph::{Answer, Graph};
 
@@ -64,11 +64,10 @@ fn write_admitted(
 {
     let mut rows = [0u16; 3 * Graph::MAX_EDGES];
     let found = certify::verdict(vertices, ends, excluded, &mut rows);
-    let outcome = found.outcome;
-    match outcome {
-        Outcome::Refused(answer) => write_refusal(answer.number, bytes),
-        Outcome::Weak => write_weak(found.cut, bytes),
-        Outcome::Firm => {
+    match found {
+        Err(answer) => write_refusal(answer.number, bytes),
+        Ok(Finding::Weak { cut, .. }) => write_weak(cut, bytes),
+        Ok(Finding::Firm) => {
             let size = 3 * kept as usize;
             text_write::write_verdict(0, &rows[..size], bytes)
         }

@@ -1,4 +1,5 @@
 -- What is written and answered: lines of a refusal or of the groups are the text that is meant; and to C the same in one number.
+use Rattle.std.specs.Result.{result_unwrap_or}
 use mathlib.Core.Path.{◌≡◌, sym, ap, ◌∙◌}
 use mathlib.Core.Bool.{Bool}
 use mathlib.Core.List.{List, [], ◌∷◌}
@@ -19,6 +20,7 @@ use Rattle.text.specs.Lines.{write_text, write_lines}
 use Rattle.text_write.specs.Entry.{handed, bytes_handed, size_of, after_writing, WritesLines}
 use Rattle.text_write.specs.Entry.{Written}
 use Rattle.verify_texts.specs.Board.{packed}
+use Rattle.text_write.proofs.Result.{size_told}
 use Rattle.verify_texts.specs.Texts.{plan_in}
 use Rattle.components.specs.Answered.{Answered}
 use Rattle.components_texts.specs.Groups.{text_of, write_groups, WritesGroups}
@@ -65,5 +67,5 @@ packs {most} {p} {before} {a = a} {r = r} c q =
     }
 
 pub sizes : {ws : List ℕ} {most : ℕ} {limits : Limits} {plan before after : List ℕ} {w : Written} {r : ℕ} → WritesGroups ws most limits plan before after w
-    → r ≡ size_of (handed w) → TextSize ws most limits plan before after r
-sizes c q = record { size = q ∙ ap size_of c.answer; memory = c.memory }
+    → r ≡ result_unwrap_or w 0 → TextSize ws most limits plan before after r
+sizes {w = w} c q = record { size = q ∙ size_told w ∙ ap size_of c.answer; memory = c.memory }

@@ -1,4 +1,5 @@
 -- What is marked is listed, and the lines of what is listed are the text that is meant; to C its length.
+use Rattle.std.specs.Result.{result_unwrap_or}
 use mathlib.Core.Path.{◌≡◌, ap, subst, ◌∙◌}
 use mathlib.Core.List.{List, ◌∷◌, Memᴰ as In}
 use Prim.Native.Nat.{ℕ, ◌*◌, ◌≤◌, ◌<◌}
@@ -13,23 +14,23 @@ use Rattle.connectivity.proofs.Fallen.{words_length, ordered_fall, fall_below}
 use Rattle.graph.specs.Admission.{told_by}
 use Rattle.graph.specs.declared.Answer as declared
 use Rattle.text.specs.Plan.{PlanReading}
-use Rattle.text_write.specs.Entry.{handed, size_of, WritesLines}
+use Rattle.text_write.specs.Entry.{size_of, WritesLines}
 use Rattle.text_write.specs.Entry.{Written}
+use Rattle.text_write.proofs.Result.{size_told}
 use Rattle.verify_texts.specs.Texts.{plan_in}
-use Rattle.certify.specs.declared.Finding.{Finding}
-use Rattle.certify.specs.Answered.{Answered}
+use Rattle.certify.specs.Answered.{Found, Answered, fallen_in}
 use Rattle.certify.proofs.Outcomes.{same-verdict}
 use Rattle.fallen_texts.specs.Falls.{falls, numbers_of, write_fallen, WritesFallen, TextSize}
 use Rattle.fallen_texts.specs.Listing.{marked_below, Begins}
 use Rattle.fallen_texts.proofs.Listing.{first_begins, marked_list}
 
 -- what an answer about an admitted plan marks
-module _ {most : Limits} {p : Plan} {before after : List ℕ} {f : Finding} (a : Admitted most p) (c : Answered most p before after f) where
-  pub words_long : length f.fallen.words ≡ words_for most
+module _ {most : Limits} {p : Plan} {before after : List ℕ} {f : Found} (a : Admitted most p) (c : Answered most p before after f) where
+  pub words_long : length (fallen_in most f).words ≡ words_for most
   unfolding marks_of
   words_long = rw c.fallen (words_length _ 0 (words_for most))
 
-  pub marked-falls : 3 * kept_edges p ≤ length before → marked_below f.fallen.count f.fallen.words p.vertices ≡ falls most p
+  pub marked-falls : 3 * kept_edges p ≤ length before → marked_below (fallen_in most f).count (fallen_in most f).words p.vertices ≡ falls most p
   unfolding marked_below
   marked-falls room =
       let v = verdict most p (length before) in
@@ -55,5 +56,5 @@ unfolding write_fallen
 lines_written {ws} {before = before} {after = after} {r = r} b w = let x = subst (λ (l : List ℕ). WritesLines ws 1 l before after r) b.same w in record { answer = x.answer; memory = x.memory }
 
 pub sizes : {ws : List ℕ} {most : ℕ} {limits : Limits} {plan before after : List ℕ} {w : Written} {r : ℕ} → WritesFallen ws most limits plan before after w
-    → r ≡ size_of (handed w) → TextSize ws most limits plan before after r
-sizes c q = record { size = q ∙ ap size_of c.answer; memory = c.memory }
+    → r ≡ result_unwrap_or w 0 → TextSize ws most limits plan before after r
+sizes {w = w} c q = record { size = q ∙ size_told w ∙ ap size_of c.answer; memory = c.memory }

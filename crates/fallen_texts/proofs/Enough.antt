@@ -1,6 +1,6 @@
 -- How long the text of what falls is: a line for their number and one for each vertex but the lowest at most, so that space for these is enough
 -- and 6 never occurs.
-use Rattle.std.specs.Prelude.{Err, Ok}
+use Rattle.std.specs.Prelude.{Ok}
 use mathlib.Core.Path.{◌≡◌, refl, ap, ◌∙◌}
 use mathlib.Core.Bool.{not}
 use mathlib.Core.List.{List, Memᴰ as In}

@@ -8,9 +8,11 @@ ghost use Rattle.connectivity.specs.Admission.{Admitted};
 ghost use Rattle.text.specs.Column.{five, largest};
 ghost use Rattle.verify_texts.specs.Table.{Holds, plan_of};
 ghost use Rattle.verify_texts.specs.Texts.{plan_in};
+ghost use Rattle.certify.specs.Answered.{fallen_in};
 ghost use Rattle.fallen_texts.specs.Falls.{numbers_of, falls, WritesFallen};
 ghost use Rattle.fallen_texts.specs.Listing.{Begins, marked_below, one_more};
 
+use certify::Finding;
 use graph::{Answer, Graph};
 use removal::Fallen;
 
@@ -62,7 +64,17 @@ fn list_admitted(vertices: u16, ends: &[u16], excluded: &[u16], list: &mut [u16]
 {
     let mut rows = [0u16; 3 * Graph::MAX_EDGES];
     let found = certify::verdict(vertices, ends, excluded, &mut rows);
-    unpack(vertices, found.fallen, list)
+    unpack(vertices, marks_of(found), list)
+}
+
+// The pieces that fall with a weak plan; none with another.
+fn marks_of(found: Result<Finding, Answer>) -> Fallen
+    ensures { result ≡ fallen_in limits found }
+{
+    match found {
+        Ok(Finding::Weak { fallen, .. }) => fallen,
+        _ => Fallen::none(),
+    }
 }
 
 // How many are marked, then each vertex that is.

@@ -1,4 +1,5 @@
 -- The marks that are packed are those of the vertices that fall with the cut; so the whole answer.
+use Rattle.std.specs.Prelude.{Err, Ok}
 use mathlib.Core.Path.{◌≡◌, sym, ap, ap₂, subst, ◌∙◌}
 use mathlib.Core.Bool.{Bool, not, ◌&&◌}
 use mathlib.Core.List.{List, Memᴰ as In}
@@ -12,7 +13,7 @@ use Rattle.connectivity.specs.Plan.{Plan, graph, Limits}
 use Rattle.connectivity.specs.Graph.{is_vertex}
 use Rattle.connectivity.specs.Cut.{cut_off, disconnects}
 use Rattle.connectivity.specs.Fallen.{fallen, marks_of, words_for}
-use Rattle.connectivity.specs.Admission.{Admitted, passed, admission}
+use Rattle.connectivity.specs.Admission.{Admitted, admission}
 use Rattle.connectivity.proofs.Lists.{same_tests, T-dec, T_false, and_both, both_and, mem_in, not_mem, eq-T}
 use Rattle.connectivity.proofs.Search.{is_vertex_lem}
 use Rattle.connectivity.proofs.Admission.{admission_is, admission_number}
@@ -23,8 +24,7 @@ use Rattle.graph.specs.Admission.{told_by}
 use Rattle.graph.specs.declared.Answer as code
 use Rattle.graph.proofs.Tally.{zeros}
 use Rattle.removal.specs.declared.Fallen.{Fallen}
-use Rattle.removal.specs.declared.Removed.{Removed}
-use Rattle.removal.specs.Fallen.{fallen_by, none, removed_after, removed_by, Left, is_unseen, Packed}
+use Rattle.removal.specs.Fallen.{fallen_by, Removed, removed_after, removed_by, Left, is_unseen, Packed}
 
 -- the marks of a list stand for it
 pub barred_is : (most : Limits) (n : ℕ) (excluded first barred : List ℕ) → n ≤ most.vertices → MarkedAll excluded (replicate most.vertices 0) barred
@@ -74,21 +74,28 @@ module _ {most : Limits} {p : Plan} {cut first : List ℕ} (l : Left most p cut 
       ap₂ (λ (w : List ℕ) (c : ℕ). record { words = w; count = c }) words count
 
 module _ (most : Limits) (p : Plan) (cut : List ℕ) where
-  pub removed_refused : {a : code.Answer} {f : Fallen} → (Admitted most p → ⊥) → a ≡ told_by (admission most p) → f ≡ none most → record { answer = a; fallen = f } ≡ removed_by most p cut
+  pub removed_refused : {a : code.Answer} → (Admitted most p → ⊥) → a ≡ told_by (admission most p) → Err a ≡ removed_by most p cut
   unfolding removed_after
-  removed_refused h q z = rw (q, z, ne_eqb (admission most p).number 0 (λ z. h ((admission_number most p).0 z)))
+  removed_refused h q = rw (q, ne_eqb (admission most p).number 0 (λ z. h ((admission_number most p).0 z)))
 
-  pub removed_served : {f : Fallen} → Admitted most p → f ≡ fallen_by most p cut → record { answer = told_by passed; fallen = f } ≡ removed_by most p cut
+  pub removed_served : {f : Fallen} → Admitted most p → f ≡ fallen_by most p cut → Ok f ≡ removed_by most p cut
   unfolding removed_after
   removed_served a q = rw ((admission_is most p).1 a, q)
 
 -- What an answer says of an admitted plan.
 
 module _ {most : Limits} {p : Plan} (a : Admitted most p) (cut : List ℕ) {r : Removed} (q : r ≡ removed_by most p cut) where
-  pub removed_falls : r.fallen ≡ fallen_by most p cut
+  pub removed_falls : r ≡ Ok (fallen_by most p cut)
   unfolding removed_after
   removed_falls = rw (q, (admission_is most p).1 a)
 
+  -- so it is no refusal
+  pub never_refused : {x : code.Answer} {P : Type 0} → r ≡ Err x → P
+  never_refused {x} h = let z : Ok (fallen_by most p cut) ≡ Err x = sym removed_falls ∙ h in absurd (cc)
+
+  pub removed_fallen : {f : Fallen} → r ≡ Ok f → f ≡ fallen_by most p cut
+  removed_fallen {f} h = let z : Ok f ≡ Ok (fallen_by most p cut) = sym h ∙ removed_falls in cc
+
   -- the set disconnects exactly where some mark is set
-  pub removed_parts : disconnects (graph p) cut ≡ not (eqb r.fallen.count 0)
-  removed_parts = rw removed_falls (fallen_parts (graph p) cut)
+  pub removed_parts : {f : Fallen} → r ≡ Ok f → disconnects (graph p) cut ≡ not (eqb f.count 0)
+  removed_parts h = rw (removed_fallen h) (fallen_parts (graph p) cut)

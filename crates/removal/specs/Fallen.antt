@@ -1,5 +1,5 @@
 -- What is said of a set of edges: which vertices fall when it is removed.
-use Rattle.std.specs.Prelude.{◌≡◌, Bool, cond, not, ◌&&◌, List, ℕ, ◌+◌, ◌*◌, ◌≤◌, ◌<◌, eqb, ltb, length, get_or, replicate, Err, Ok}
+use Rattle.std.specs.Prelude.{◌≡◌, Bool, cond, not, ◌&&◌, List, ℕ, ◌+◌, ◌*◌, ◌≤◌, ◌<◌, eqb, ltb, length, get_or, replicate, Result, Err, Ok}
 use Rattle.connectivity.specs.Lists.{mem}
 use Rattle.connectivity.specs.Plan.{Plan, graph, Limits}
 use Rattle.connectivity.specs.Graph.{is_vertex}
@@ -7,8 +7,8 @@ use Rattle.connectivity.specs.Cut.{cut_off}
 use Rattle.connectivity.specs.Fallen.{per_word, marked, words_from, words_for, marks_of}
 use Rattle.connectivity.specs.Admission.{Answer, Admitted, admission}
 use Rattle.removal.specs.declared.Fallen.{Fallen}
-use Rattle.removal.specs.declared.Removed.{Removed}
 use Rattle.graph.specs.Admission.{told_by}
+use Rattle.graph.specs.declared.Answer as code
 use Rattle.depth.specs.Depth.{Explored}
 
 -- 02: the marks of some pieces, and how many they are
@@ -23,9 +23,13 @@ fallen_by most p cut = fallen_of most (cut_off (graph p) cut)
 abbrev pub none : Limits → Fallen
 none most = record { words = replicate (words_for most) 0; count = 0 }
 
--- an answer of 0 with the pieces that fall, or a refusal that marks none
+-- what removing gives: the pieces that fall, or why none is told
+abbrev pub Removed : Type 0
+Removed = Result Fallen code.Answer
+
+-- behind an answer of 0 the pieces that fall, else that refusal
 unfoldable pub removed_after : Answer → Limits → Plan → List ℕ → Removed
-removed_after a most p cut = record { answer = told_by a; fallen = cond (eqb a.number 0) (fallen_by most p cut) (none most) }
+removed_after a most p cut = cond (eqb a.number 0) (Ok (fallen_by most p cut)) (Err (told_by a))
 
 -- 02: the plan's own refusals, then what falls
 abbrev pub removed_by : Limits → Plan → List ℕ → Removed

@@ -16,13 +16,6 @@ pub struct Fallen {
     pub count: u16,
 }
 
-// What is said of a set of edges (01: a set of tabs): 0 and the vertices that fall with it, or a refusal and none.
-#[derive(Clone, Copy)]
-pub struct Removed {
-    pub answer: Answer,
-    pub fallen: Fallen,
-}
-
 impl Fallen {
     // Sixty-four vertices to a word.
     pub const WORDS: usize = (Graph::MAX_VERTICES + 63) / 64;
@@ -38,9 +31,9 @@ impl Fallen {
     }
 }
 
-// Removes the edges of `cut`; a number that is no edge's removes nothing. Those vertices fall that the lowest one then does not reach; an
-// excluded one (02: a slug) is none.
-pub fn remove(vertices: u16, ends: &[u16], excluded: &[u16], cut: &[u16]) -> Removed
+// Removes the edges of `cut` (01: a set of tabs); a number that is no edge's removes nothing. Those vertices fall that the lowest one then
+// does not reach; an excluded one (02: a slug) is none. Of a plan that is refused nothing falls.
+pub fn remove(vertices: u16, ends: &[u16], excluded: &[u16], cut: &[u16]) -> Result<Fallen, Answer>
     ensures { result ≡ removed_by limits (plan vertices ends.now excluded.now) cut.now }
 {
     let mut incident = [0u16; 2 * Graph::MAX_EDGES];
@@ -49,7 +42,7 @@ pub fn remove(vertices: u16, ends: &[u16], excluded: &[u16], cut: &[u16]) -> Rem
     let mut first = [0u16; Graph::MAX_VERTICES];
     let mut order = [0u16; Graph::MAX_VERTICES];
     let mut cursor = [0u16; Graph::MAX_VERTICES];
-    let found = without(
+    without(
         vertices,
         ends,
         excluded,
@@ -60,20 +53,8 @@ pub fn remove(vertices: u16, ends: &[u16], excluded: &[u16], cut: &[u16]) -> Rem
         &mut first,
         &mut order,
         &mut cursor,
-    );
-    match found {
-        Err(answer) => Removed {
-            answer: answer,
-            fallen: Fallen::none(),
-        },
-        Ok(_) => Removed {
-            answer: Answer {
-                number: 0,
-                place: 0,
-            },
-            fallen: pack(vertices, excluded, &first),
-        },
-    }
+    )?;
+    Ok(pack(vertices, excluded, &first))
 }
 
 // Searches from the lowest vertex over the edges that are left. The lent tables have room for every plan, and no mark is set.

@@ -5,7 +5,8 @@
 // A digit stands for itself, a letter for a larger number (`worth`). A letter in place of the ends stands for a rule that gives them (`Rule`).
 #![tactic(auto)]
 
-use removal::{Fallen, Removed};
+use graph::Answer;
+use removal::Fallen;
 use rule::Rule;
 use std::alloc::{AllocError, Global};
 use std::io;
@@ -37,7 +38,7 @@ fn run(rt: &(impl Print + AllocGlobal), line: &[u8]) -> io::Result<()> {
         return Ok(());
     }
     let case = Case::read(rt.alloc(), parts.next().unwrap_or(&[]))?;
-    tell(rt, &case.lose())
+    tell(rt, case.lose())
 }
 
 // A plan, and the tabs that are lost.
@@ -72,7 +73,7 @@ impl Case {
         })
     }
 
-    fn lose(&self) -> Removed {
+    fn lose(&self) -> Result<Fallen, Answer> {
         removal::remove(self.pieces, &self.ends, &self.slugs, &self.lost)
     }
 }
@@ -122,17 +123,17 @@ fn worth(byte: u8) -> u16 {
 }
 
 // The outcome, and the pieces that are marked, whatever was counted.
-fn tell(rt: &impl Print, removed: &Removed) -> io::Result<()> {
-    let count = removed.fallen.count;
-    match (removed.answer.number, count) {
-        (0, 0) => print!(rt; ": one body")?,
-        (0, _) => print!(rt; ": parted")?,
-        (number, _) => print!(rt; ": refused {number} {}", removed.answer.place)?,
+fn tell(rt: &impl Print, lost: Result<Fallen, Answer>) -> io::Result<()> {
+    let fallen = match lost {
+        Ok(fallen) => fallen,
+        Err(answer) => return println!(rt; ": refused {} {}", answer.number, answer.place),
+    };
+    if fallen.count == 0 {
+        print!(rt; ": one body")?;
+    } else {
+        print!(rt; ": parted, fall {}:", fallen.count)?;
     }
-    if count != 0 {
-        print!(rt; ", fall {count}:")?;
-    }
-    let words = removed.fallen.words;
+    let words = fallen.words;
     for v in 0..64 * Fallen::WORDS {
         if words[v / 64] >> (v % 64) & 1 == 1 {
             print!(rt; " {v}")?;

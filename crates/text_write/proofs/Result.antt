@@ -1,5 +1,6 @@
 -- A result of writing, met by the code's answer and memory; and what the code's answer tells of the result.
 use Rattle.std.specs.Prelude.{Err, Ok}
+use Rattle.std.specs.Result.{result_unwrap_or}
 use mathlib.Core.Path.{◌≡◌, refl, sym, ap, ◌∙◌}
 use mathlib.Core.List.{List}
 use Prim.Native.Nat.{ℕ}
@@ -13,7 +14,7 @@ use Rattle.text.specs.Plan.{Writing, write_plan}
 use Rattle.text.specs.Verdict.{write_verdict}
 use Rattle.text.specs.Lines.{write_lines}
 use Rattle.text_write.specs.Entry.{Written}
-use Rattle.text_write.specs.Entry.{handed, bytes_handed, after_writing, WritesPlan, WritesVerdict, WritesLines}
+use Rattle.text_write.specs.Entry.{handed, bytes_handed, size_of, after_writing, WritesPlan, WritesVerdict, WritesLines}
 
 module _ {ws lent after : List ℕ} {r : Written} (x : Writing) where
   pub writes_plan : {limits : Limits} {p : Plan} → write_plan ws limits p (length lent) ≡ x → handed r ≡ bytes_handed x → after ≡ after_writing x lent → WritesPlan ws limits p lent after r
@@ -38,3 +39,8 @@ pub bytes_refusal : (x : Writing) {r : Written} {a : code.Answer} → handed r �
     → (b : Answer) × (x ≡ Writing.refused b) × (a ≡ told_by b)
 bytes_refusal (Writing.refused b) h q = (b, refl, told_by_lem (rw q at h))
 bytes_refusal (Writing.written bytes) h q = absurd (not_served (rw q at h))
+
+-- how many bytes were written, 0 where that was refused
+pub size_told : (r : Written) → result_unwrap_or r 0 ≡ size_of (handed r)
+size_told (Err a) = refl
+size_told (Ok count) = refl

@@ -1,8 +1,8 @@
 // The check as C takes it: `verify_texts_c` hands these functions to C.
 ghost use Rattle.std.specs.Prelude.{◌≡◌};
 ghost use Rattle.connectivity.specs.Plan.{plan, limits};
-ghost use Rattle.connectivity.specs.Admission as meaning;
 ghost use Rattle.connectivity.specs.Judge.{judge};
+ghost use Rattle.graph.specs.Admission.{answer_of};
 ghost use Rattle.text.specs.Column.{five, largest};
 ghost use Rattle.verify_texts.specs.Texts.{judge_texts};
 ghost use Rattle.verify_texts.specs.Board.{packed};
@@ -29,9 +29,9 @@ pub fn hearthtansy_check_texts(plan: &[u8], verdict: &[u8]) -> u32
     pack(crate::check_texts(plan, verdict))
 }
 
-// Number and place in one number.
-fn pack(answer: Answer) -> u32
-    ensures { result ≡ packed (meaning.answer answer.number answer.place) }
+// Number and place in one number, as each function for C hands an answer over.
+pub fn pack(answer: Answer) -> u32
+    ensures { result ≡ packed (answer_of answer) }
 {
     answer.number as u32 * 65536 + answer.place as u32
 }

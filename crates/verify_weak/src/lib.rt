@@ -35,8 +35,10 @@ fn weak_admitted(vertices: u16, ends: &[u16], excluded: &[u16], list: &[u16]) ->
     if number != 0 {
         return turn;
     }
-    let removed = removal::remove(vertices, ends, excluded, list);
-    let fallen = removed.fallen;
+    let fallen = match removal::remove(vertices, ends, excluded, list) {
+        Ok(fallen) => fallen,
+        Err(refusal) => return refusal,
+    };
     if fallen.count == 0 {
         return answer(17, 0);
     }

@@ -13,9 +13,9 @@ use Rattle.fallen_texts.proofs.list_admitted.Goals as goal
 
 pub unpack-requires : goal.unpack-requires
 unpack-requires c =
-    (c.requires.0.vertices, words_long c.requires.0 c.verdict-found.ensures, c.requires.1)
+    (c.requires.0.vertices, rw c.marks_of.ensures (words_long c.requires.0 c.verdict-found.ensures), c.requires.1)
 
 pub returns : goal.returns
 returns c =
     let room : 3 * kept_edges (plan c.args.vertices c.args.ends.now c.args.excluded.now) ≤ length {A = ℕ} (replicate (3 * limits.edges) 0) = omega (arith, c.requires.0.edges, edges_few (plan c.args.vertices c.args.ends.now c.args.excluded.now), length-replicate {A = ℕ} (3 * limits.edges) 0) in
-    subst (λ (front : List ℕ). Begins front c.unpack.new.list c.unpack.result) (marked-falls c.requires.0 c.verdict-found.ensures room) c.unpack.ensures
+    subst (λ (front : List ℕ). Begins front c.unpack.new.list c.unpack.result) (marked-falls c.requires.0 c.verdict-found.ensures room) (rw c.marks_of.ensures at c.unpack.ensures)

@@ -3,4 +3,4 @@ use Rattle.fallen_texts.proofs.Answering.{sizes}
 use Rattle.fallen_texts.proofs.export.hearthtansy_fallen_text.Goals as goal
 
 pub returns : goal.returns
-returns c = sizes c.fallen_text.ensures c.count.ensures
+returns c = sizes c.fallen_text.ensures c.unwrap_or.ensures

@@ -1,9 +1,9 @@
 -- `hearthtansy_check` meets its contract: it packs what `check` answers.
 use mathlib.Core.Path.{ap, ◌∙◌}
-use Rattle.connectivity.specs.Admission as meaning
+use Rattle.graph.specs.Admission.{answer_of}
 use Rattle.graph.specs.declared.Answer.{Answer}
 use Rattle.verify_texts.specs.Board.{packed}
 use Rattle.verify_texts.proofs.board.hearthtansy_check.Goals as goal
 
 pub returns : goal.returns
-returns c = c.pack.ensures ∙ ap (λ (a : Answer). packed (meaning.answer a.number a.place)) c.check.ensures
+returns c = c.pack.ensures ∙ ap (λ (a : Answer). packed (answer_of a)) c.check.ensures
