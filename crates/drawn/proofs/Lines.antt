@@ -1,4 +1,5 @@
 -- The first line and the line of a drawn tab, by their columns: what is read of each column tells whether the line is in the form, and what is on it.
+use Rattle.std.specs.Prelude.{Option, None, Some, is_some}
 use mathlib.Core.Path.{◌≡◌, refl, sym, ap, ◌∙◌}
 use mathlib.Core.Bool.{Bool, true, false, cond, ◌&&◌, ◌||◌}
 use mathlib.Core.List.{List, [], ◌∷◌}
@@ -6,16 +7,15 @@ use Prim.Native.Nat.{ℕ, ◌+◌, ◌*◌, ◌-◌, ◌≤◌, ◌<◌}
 use native.Mathlib.Omega.{arith}
 use lib.ListN.{length, take, drop, get_or, length-take, drop_of_length-le}
 use lib.Seq.{drop-cons, take-take}
-use borrow.Author.Tests.{le-leb, lt-leb, eq-eqb, ne_eqb}
+use borrow.Author.Tests.{eq-eqb, ne_eqb}
 use Rattle.text.specs.Column.{same, column_fits}
 use Rattle.text.proofs.Laws.{drop-take, column_true}
 use Rattle.text_read.specs.Line.{number_at}
 use Rattle.text_read.proofs.Columns.{at_unfit, at_fit}
-use Rattle.text_read.proofs.Lines.{different}
 use Rattle.drawn.specs.Length.{length_fits}
 use Rattle.drawn.specs.Drawing.{full, half, full_kerf}
 use Rattle.drawn.specs.Text.{Form, part, letter_byte, letter_column, number_in, length_in, number_fits, measure_fits, letter_fits, letter_in, at₁, at₂, at₃, at₄, at₅, header_size, edge_size, header_fits, edge_fits}
-use Rattle.drawn.specs.Line.{LengthRead, times, Headed, HeaderRead, EdgeRead}
+use Rattle.drawn.specs.Line.{times, HeaderRead, EdgeRead}
 use Rattle.drawn.specs.declared.line.Header.{Header}
 use Rattle.drawn.specs.declared.line.Edge.{Edge}
 
@@ -47,15 +47,6 @@ no_right : (t : Bool) → (t && false) ≡ false
 no_right true = refl
 no_right false = refl
 
-pub times_most : (f : Form) (at : ℕ) (l : List ℕ) → times f at l ≤ 2
-unfolding times
-times_most f at l = go (letter_fits f full at l) (letter_fits f half at l)
-  where
-    go : (s t : Bool) → cond s 1 (cond t 2 0) ≤ 2
-    go true t = omega arith
-    go false true = omega arith
-    go false false = omega arith
-
 module _ (f : Form) (l : List ℕ) where
   -- a number's column
   module _ (at a : ℕ) (is : a ≡ number_at f.worths f.most l at) where
@@ -70,62 +61,34 @@ module _ (f : Form) (l : List ℕ) where
         go true p = absurd (omega (arith, told true p, (column_true f.worths f.most (part at (length f.worths) l) p).0))
         go false p = p
 
-    pub number_good : a ≤ f.most → (number_fits f at l ≡ true) × (a ≡ number_in f at l)
-    number_good h = go (number_fits f at l) refl
-      where
-        go : (t : Bool) → number_fits f at l ≡ t → (number_fits f at l ≡ true) × (a ≡ number_in f at l)
-        go true p = (p, told true p)
-        go false p = absurd (omega (arith, told false p))
-
-  -- a length's column
-  module _ (top at a : ℕ) (reads : LengthRead f.unit f.lengths top (part at (length f.lengths) l) a) where
-    pub length-out : top < a → measure_fits f at l ≡ false
-    length-out h = sym reads.fits ∙ lt-leb a top h
-
-    pub length-good : a ≤ top → (measure_fits f at l ≡ true) × (a ≡ length_in f at l)
-    length-good h = (sym reads.fits ∙ le-leb a top h, reads.is h)
-
   -- the line of a drawn tab, by its columns
   pub edge_is : (a b c d : Bool) → number_fits f 0 l ≡ a → number_fits f (at₁ f) l ≡ b → measure_fits f (at₂ f) l ≡ c → feed l (at₃ f) ≡ d
       → edge_fits f l ≡ (a && (b && (c && d)))
   unfolding edge_fits
   edge_is a b c d p q r s = rw (p, q, r, s)
 
-  pub edge_out : {x : Edge} → edge_fits f l ≡ false → x.fits ≡ false → EdgeRead f l x
-  edge_out p e = record {
-    fits = e ∙ sym p;
-    left = λ y. absurd (different (sym y ∙ e));
-    right = λ y. absurd (different (sym y ∙ e));
-    gap = λ y. absurd (different (sym y ∙ e));
-  }
-
   -- the letter of the kerf
-  pub times_none : times f (at₄ f) l ≡ 0 → (letter_fits f full (at₄ f) l || letter_fits f half (at₄ f) l) ≡ false
+  abbrev lettered : Bool
+  lettered = letter_fits f full (at₄ f) l || letter_fits f half (at₄ f) l
+
+  pub times_none : times f (at₄ f) l ≡ None → lettered ≡ false
   unfolding times
   times_none p = go (letter_fits f full (at₄ f) l) (letter_fits f half (at₄ f) l) p
     where
-      go : (s t : Bool) → ◌≡◌ {A = ℕ} (cond s 1 (cond t 2 0)) 0 → (s || t) ≡ false
-      go true t p = absurd (omega arith)
-      go false true p = absurd (omega arith)
+      go : (s t : Bool) → ◌≡◌ {A = Option ℕ} (cond s (Some 1) (cond t (Some 2) None)) None → (s || t) ≡ false
+      go true t p = absurd (cc)
+      go false true p = absurd (cc)
       go false false p = refl
 
-  pub times_some : (times f (at₄ f) l ≡ 0 → ⊥) → (letter_fits f full (at₄ f) l || letter_fits f half (at₄ f) l) ≡ true
-  unfolding times
-  times_some p = go (letter_fits f full (at₄ f) l) (letter_fits f half (at₄ f) l) p
-    where
-      go : (s t : Bool) → (◌≡◌ {A = ℕ} (cond s 1 (cond t 2 0)) 0 → ⊥) → (s || t) ≡ true
-      go true t p = refl
-      go false true p = refl
-      go false false p = absurd (p refl)
-
-  pub times_kerf : (k : ℕ) → (times f (at₄ f) l ≡ 0 → ⊥) → times f (at₄ f) l * k ≡ full_kerf (letter_in f l) k
+  -- it stands there, and the kerf so often is the full one
+  pub times_some : {n : ℕ} → times f (at₄ f) l ≡ Some n → (lettered ≡ true) × (n ≤ 2) × ((k : ℕ) → n * k ≡ full_kerf (letter_in f l) k)
   unfolding times letter_in full_kerf
-  times_kerf k p = go (letter_fits f full (at₄ f) l) (letter_fits f half (at₄ f) l) p
+  times_some {n} p = go (letter_fits f full (at₄ f) l) (letter_fits f half (at₄ f) l) p
     where
-      go : (s t : Bool) → (◌≡◌ {A = ℕ} (cond s 1 (cond t 2 0)) 0 → ⊥) → cond s 1 (cond t 2 0) * k ≡ full_kerf (cond s full half) k
-      go true t p = omega arith
-      go false true p = omega arith
-      go false false p = absurd (p refl)
+      go : (s t : Bool) → cond s (Some 1) (cond t (Some 2) None) ≡ Some n → ((s || t) ≡ true) × (n ≤ 2) × ((k : ℕ) → n * k ≡ full_kerf (cond s full half) k)
+      go true t p = let z : ◌≡◌ {A = ℕ} 1 n = cc in (refl, omega (arith, z), λ k. rw (sym z) (omega arith))
+      go false true p = let z : ◌≡◌ {A = ℕ} 2 n = cc in (refl, omega (arith, z), λ k. rw (sym z) (omega arith))
+      go false false p = absurd (cc)
 
   -- the first line, by its columns
   pub header_is : (a b c d e g : Bool) → number_fits f 0 l ≡ a → number_fits f (at₁ f) l ≡ b → measure_fits f (at₂ f) l ≡ c → measure_fits f (at₃ f) l ≡ d
@@ -137,9 +100,6 @@ module _ (f : Form) (l : List ℕ) where
   header_short h =
       header_is _ _ _ _ _ false refl refl refl refl refl (unended l (at₅ f) h)
       ∙ simp no_right
-
-  pub header_out : {h : Header} → header_fits f l ≡ false → h.fits ≡ false → HeaderRead f l h
-  header_out p e = record { fits = e ∙ sym p; headed = λ y. absurd (different (sym y ∙ e)) }
 
 -- what is read of a line is read of its own bytes
 module _ (f : Form) (l : List ℕ) (n : ℕ) where
@@ -167,12 +127,13 @@ module _ (f : Form) (l : List ℕ) (n : ℕ) where
         edge_is f (take n l) _ _ _ _ (number_front 0 (omega arith)) (number_front (at₁ f) (omega arith)) (length-front (at₂ f) (omega arith)) (feed_front (at₃ f) (omega arith))
         ∙ sym (edge_is f l _ _ _ _ refl refl refl refl)
 
-    pub edge_front : {x : Edge} → EdgeRead f (take n l) x → EdgeRead f l x
-    edge_front r = record {
-      fits = r.fits ∙ edge_fits_front;
-      left = λ y. r.left y ∙ in_front 0 (omega arith);
-      right = λ y. r.right y ∙ in_front (at₁ f) (omega arith);
-      gap = λ y. r.gap y ∙ measure_front (at₂ f) (omega arith);
+    pub edge_front : (r : Option Edge) → EdgeRead f (take n l) r → EdgeRead f l r
+    edge_front None p = sym edge_fits_front ∙ p
+    edge_front (Some x) r = record {
+      fits = sym edge_fits_front ∙ r.fits;
+      left = r.left ∙ in_front 0 (omega arith);
+      right = r.right ∙ in_front (at₁ f) (omega arith);
+      gap = r.gap ∙ measure_front (at₂ f) (omega arith);
     }
 
   module _ (h : header_size f ≤ n) where
@@ -189,18 +150,18 @@ module _ (f : Form) (l : List ℕ) (n : ℕ) where
         letters_front (feed_front (at₅ f) (omega arith))
         ∙ sym (header_is f l _ _ _ _ _ _ refl refl refl refl refl refl)
 
-    pub header_front : {x : Header} → HeaderRead f (take n l) x → HeaderRead f l x
-    header_front {x} r = record {
-      fits = r.fits ∙ header_fits_front;
-      headed = λ y. go (r.headed y);
+    pub header_front : (r : Option Header) → HeaderRead f (take n l) r → HeaderRead f l r
+    header_front None p = sym header_fits_front ∙ p
+    header_front (Some x) d = record {
+      form = sym header_fits_front ∙ d.form;
+      vertices = d.vertices ∙ in_front 0 (omega arith);
+      edges = d.edges ∙ in_front (at₁ f) (omega arith);
+      least = d.least ∙ measure_front (at₂ f) (omega arith);
+      kerf = d.kerf ∙ rw (letter_in_front, measure_front (at₃ f) (omega arith));
+      inside = omega (arith, d.inside, length-take n l);
     }
-      where
-        go : Headed f (take n l) x → Headed f l x
-        go d = record {
-          form = sym header_fits_front ∙ d.form;
-          vertices = d.vertices ∙ in_front 0 (omega arith);
-          edges = d.edges ∙ in_front (at₁ f) (omega arith);
-          least = d.least ∙ measure_front (at₂ f) (omega arith);
-          kerf = d.kerf ∙ rw (letter_in_front, measure_front (at₃ f) (omega arith));
-          inside = omega (arith, d.inside, length-take n l);
-        }
+
+-- a drawn tab's line is in the form exactly if there is one that was read
+pub fits_some : (f : Form) (text : List ℕ) (r : Option Edge) → EdgeRead f text r → edge_fits f text ≡ is_some r
+fits_some f text None p = p
+fits_some f text (Some x) r = r.fits

@@ -1,5 +1,5 @@
 -- A length, a letter, a header and a line as the code goes over them. No part of the meaning.
-use Rattle.std.specs.Prelude.{◌≡◌, true, cond, ◌&&◌, List, [], ◌∷◌, ℕ, ◌+◌, ◌*◌, ◌≤◌, eqb, ltb, leb, length}
+use Rattle.std.specs.Prelude.{◌≡◌, true, false, cond, ◌&&◌, Option, None, Some, MatchOption, List, [], ◌∷◌, ℕ, ◌+◌, ◌*◌, ◌≤◌, eqb, ltb, length}
 use Rattle.std.proofs.lemmas.List.Edits.{sets}
 use Rattle.connectivity.specs.Admission.{Answer, answer, ends_answer}
 use Rattle.text.specs.Column.{digit, value}
@@ -27,14 +27,18 @@ misfits unit [] x bytes = 0
 misfits unit (p ∷ ls) x [] = 0
 misfits unit (p ∷ ls) x (b ∷ bytes) = misfit unit p x b + misfits unit ls x bytes
 
--- what is read of the bytes of a length: its value, or one above `top`, the longest, where they are not in the form
-pub record LengthRead (unit : ℕ) (ls : List ℕ) (top : ℕ) (bytes : List ℕ) (x : ℕ) : Type 0 where
-  pub fits : leb x top ≡ length_fits unit ls bytes
-  pub is : x ≤ top → x ≡ value ls bytes
+-- the value of the bytes of a length in the form
+pub record LengthOf (unit : ℕ) (ls bytes : List ℕ) (x : ℕ) : Type 0 where
+  pub fits : length_fits unit ls bytes ≡ true
+  pub is : x ≡ value ls bytes
 
--- how often a kerf counts by the letter at a place: once for F, twice for H; 0 where neither stands there
-unfoldable pub times : Form → ℕ → List ℕ → ℕ
-times f at text = cond (letter_fits f full at text) 1 (cond (letter_fits f half at text) 2 0)
+-- what is read of the bytes of a length: its value, or none where they are not in the form
+abbrev pub LengthRead : ℕ → List ℕ → List ℕ → Option ℕ → Type 0
+LengthRead unit ls bytes r = MatchOption r (length_fits unit ls bytes ≡ false) (λ x. LengthOf unit ls bytes x)
+
+-- how often a kerf counts by the letter at a place: once for F, twice for H; none where neither stands there
+unfoldable pub times : Form → ℕ → List ℕ → Option ℕ
+times f at text = cond (letter_fits f full at text) (Some 1) (cond (letter_fits f half at text) (Some 2) None)
 
 -- the header of a text that has one in the form; the kerf is the full one
 pub record Headed (f : Form) (text : List ℕ) (h : Header) : Type 0 where
@@ -45,17 +49,20 @@ pub record Headed (f : Form) (text : List ℕ) (h : Header) : Type 0 where
   pub kerf : h.kerf ≡ full_kerf (letter_in f text) (length_in f (at₃ f) text)
   pub inside : header_size f ≤ length text
 
--- what is read of the first line of any text
-pub record HeaderRead (f : Form) (text : List ℕ) (h : Header) : Type 0 where
-  pub fits : h.fits ≡ header_fits f text
-  pub headed : h.fits ≡ true → Headed f text h
+-- what is read of the first line of any text: none where it is not in the form
+abbrev pub HeaderRead : Form → List ℕ → Option Header → Type 0
+HeaderRead f text r = MatchOption r (header_fits f text ≡ false) (λ h. Headed f text h)
 
--- what is read of the line of a drawn tab at the front of a text
-pub record EdgeRead (f : Form) (text : List ℕ) (x : Edge) : Type 0 where
-  pub fits : x.fits ≡ edge_fits f text
-  pub left : x.fits ≡ true → x.left ≡ number_in f 0 text
-  pub right : x.fits ≡ true → x.right ≡ number_in f (at₁ f) text
-  pub gap : x.fits ≡ true → x.gap ≡ length_in f (at₂ f) text
+-- the line of a drawn tab in the form at the front of a text
+pub record EdgeOf (f : Form) (text : List ℕ) (x : Edge) : Type 0 where
+  pub fits : edge_fits f text ≡ true
+  pub left : x.left ≡ number_in f 0 text
+  pub right : x.right ≡ number_in f (at₁ f) text
+  pub gap : x.gap ≡ length_in f (at₂ f) text
+
+-- what is read of such a line: none where it is not in the form
+abbrev pub EdgeRead : Form → List ℕ → Option Edge → Type 0
+EdgeRead f text r = MatchOption r (edge_fits f text ≡ false) (λ x. EdgeOf f text x)
 
 -- the answer to the lines of m drawn tabs, from number e on: 20, else the first one with 4 or 5
 unfoldable pub lines_answer : Form → ℕ → ℕ → ℕ → List ℕ → Answer

@@ -64,10 +64,9 @@ fn judge_edges(text: &[u8], vertices: u16, edges: usize) -> Answer
 {
     for e in 0..edges {
         let next = HEADER + e * LINE;
-        let edge = line::read_edge(text, next);
-        if !edge.fits {
+        let Some(edge) = line::read_edge(text, next) else {
             return number_alone(20);
-        }
+        };
         let number = graph::judge_edge(vertices, edge.left, edge.right);
         if number != 0 {
             return if_fits(lines_fit(text, next + LINE, edges - e - 1), number, e);
@@ -96,8 +95,7 @@ fn lines_fit(text: &[u8], at: usize, edges: usize) -> bool
     ensures { result ≡ edges_fit form edges (drop at text.now) }
 {
     for e in 0..edges {
-        let edge = line::read_edge(text, at + e * LINE);
-        if !edge.fits {
+        if line::read_edge(text, at + e * LINE).is_none() {
             return false;
         }
     }

@@ -2,7 +2,7 @@
 ghost use Rattle.std.specs.Prelude.{◌≡◌, ◌+◌, ◌≤◌, length, take, drop};
 ghost use Rattle.text.specs.Column.{value};
 ghost use Rattle.drawn.specs.Length.{eight, thousand};
-ghost use Rattle.drawn.specs.Line.{zero_at, misfit, misfits, LengthRead, longest};
+ghost use Rattle.drawn.specs.Line.{zero_at, misfit, misfits, LengthRead};
 
 use text_read::column::digit_of;
 
@@ -14,9 +14,6 @@ const WORTHS: [u32; WIDTH] = [1000000, 100000, 10000, 1000, 0, 100, 10, 1];
 
 // A millimetre: the worth of the last digit before the point.
 const MILLIMETRE: u32 = 1000;
-
-// The longest length in the form: 9999.999.
-pub(crate) const LONGEST: u32 = 9999999;
 
 // The value of the length that begins at `at`.
 fn thousandths(line: &[u8], at: usize) -> u32
@@ -30,16 +27,16 @@ fn thousandths(line: &[u8], at: usize) -> u32
     sum
 }
 
-// Reads the length that begins at `at`: its value, or one above the longest where it is not in the form.
-pub(crate) fn read_length(line: &[u8], at: usize) -> u32
+// Reads the length that begins at `at`: its value, or none where it is not in the form.
+pub(crate) fn read_length(line: &[u8], at: usize) -> Option<u32>
     requires { at + length eight ≤ length line.now }
-    ensures { LengthRead thousand eight longest (take (length eight) (drop at line.now)) result }
+    ensures { LengthRead thousand eight (take (length eight) (drop at line.now)) result }
 {
     let x = thousandths(line, at);
     if misfits(line, at, x) != 0 {
-        return LONGEST + 1;
+        return None;
     }
-    x
+    Some(x)
 }
 
 // How many bytes of the length that begins at `at` are not those of its value x.

@@ -22,11 +22,9 @@ pub const DRAWN_SIZE: usize = line::HEADER + Graph::MAX_EDGES * line::LINE;
 pub fn read_drawn(text: &[u8], ends: &mut [u16], numbers: &mut [u16]) -> Result<Graph, Answer>
     ensures { ReadsDrawn form limits text.now ends.old numbers.old ends.new numbers.new result }
 {
-    let header = line::read_header(text);
-    let fits = header.fits;
-    if !fits {
+    let Some(header) = line::read_header(text) else {
         return Err(judge::number_alone(20));
-    }
+    };
     let answer = judge::judge(text, header, ends.len(), numbers.len());
     let number = answer.number;
     if number != 0 {

@@ -6,7 +6,7 @@ ghost use Rattle.drawn.specs.Line.{times, HeaderRead, EdgeRead};
 
 use crate::length;
 use text::{WIDTH, WORTHS};
-use text_read::column::{LARGEST, number_at};
+use text_read::column::column_at;
 use text_read::reader::line_at;
 
 // The bytes of the first line: pieces, tabs, least width, kerf and letter, and a line feed.
@@ -20,10 +20,9 @@ const FULL: u8 = b'F';
 
 const HALF: u8 = b'H';
 
-// The first line as it was read: whether it is in the form, and then its numbers, lengths in thousandths; the kerf is the full one.
+// The numbers of the first line, lengths in thousandths; the kerf is the full one.
 #[derive(Clone, Copy)]
 pub(crate) struct Header {
-    pub fits: bool,
     pub vertices: u16,
     pub edges: u16,
     pub least: u32,
@@ -33,83 +32,54 @@ pub(crate) struct Header {
 // The line of a drawn tab likewise.
 #[derive(Drop)]
 pub(crate) struct Edge {
-    pub fits: bool,
     pub left: u16,
     pub right: u16,
     pub gap: u32,
 }
 
-// Reads the first line of a text.
-pub(crate) fn read_header(text: &[u8]) -> Header
+// Reads the first line of a text; none where it is not in the form.
+pub(crate) fn read_header(text: &[u8]) -> Option<Header>
     ensures { HeaderRead form text.now result }
 {
     if text.len() < HEADER {
-        return no_header();
+        return None;
     }
     header_columns(line_at(text, 0, HEADER))
 }
 
-fn no_header() -> Header
-    ensures { result.fits ≡ false }
-{
-    Header {
-        fits: false,
-        vertices: 0,
-        edges: 0,
-        least: 0,
-        kerf: 0,
-    }
-}
-
 // Reads its columns.
-fn header_columns(line: &[u8]) -> Header
+fn header_columns(line: &[u8]) -> Option<Header>
     requires { length line.now ≡ header_size form }
     ensures { HeaderRead form line.now result }
 {
-    let vertices = number_at(line, 0);
-    if LARGEST < vertices {
-        return no_header();
-    }
-    let edges = number_at(line, WIDTH);
-    if LARGEST < edges {
-        return no_header();
-    }
-    let least = length::read_length(line, 2 * WIDTH);
-    if length::LONGEST < least {
-        return no_header();
-    }
-    let kerf = length::read_length(line, 2 * WIDTH + length::WIDTH);
-    if length::LONGEST < kerf {
-        return no_header();
-    }
-    let times = kerf_times(line, 2 * WIDTH + 2 * length::WIDTH);
-    if times == 0 {
-        return no_header();
-    }
+    let vertices = column_at(line, 0)?;
+    let edges = column_at(line, WIDTH)?;
+    let least = length::read_length(line, 2 * WIDTH)?;
+    let kerf = length::read_length(line, 2 * WIDTH + length::WIDTH)?;
+    let times = kerf_times(line, 2 * WIDTH + 2 * length::WIDTH)?;
     if line[HEADER - 1] != 10 {
-        return no_header();
+        return None;
     }
-    Header {
-        fits: true,
-        vertices: vertices as u16,
-        edges: edges as u16,
+    Some(Header {
+        vertices,
+        edges,
         least,
         kerf: times * kerf,
-    }
+    })
 }
 
-// How often the kerf counts, by the letter in the column that begins at `at`: once for F, twice for H; 0 where neither stands there.
-fn kerf_times(line: &[u8], at: usize) -> u32
+// How often the kerf counts, by the letter in the column that begins at `at`: once for F, twice for H; none where neither stands there.
+fn kerf_times(line: &[u8], at: usize) -> Option<u32>
     requires { at + length five ≤ length line.now }
     ensures { result ≡ times form at line.now }
 {
     if is_letter(line, at, FULL) {
-        return 1;
+        return Some(1);
     }
     if is_letter(line, at, HALF) {
-        return 2;
+        return Some(2);
     }
-    0
+    None
 }
 
 // This letter stands right-justified in the column that begins at `at`.
@@ -132,49 +102,24 @@ fn byte_of(worth: u32, letter: u8) -> u8
     if 1 < worth { 32 } else { letter }
 }
 
-// Reads the line of a drawn tab that begins at `at`.
-pub(crate) fn read_edge(text: &[u8], at: usize) -> Edge
+// Reads the line of a drawn tab that begins at `at`; none where it is not in the form.
+pub(crate) fn read_edge(text: &[u8], at: usize) -> Option<Edge>
     requires { at + edge_size form ≤ length text.now }
     ensures { EdgeRead form (drop at text.now) result }
 {
     edge_columns(line_at(text, at, LINE))
 }
 
-fn no_edge() -> Edge
-    ensures { result.fits ≡ false }
-{
-    Edge {
-        fits: false,
-        left: 0,
-        right: 0,
-        gap: 0,
-    }
-}
-
 // Reads its columns.
-fn edge_columns(line: &[u8]) -> Edge
+fn edge_columns(line: &[u8]) -> Option<Edge>
     requires { length line.now ≡ edge_size form }
     ensures { EdgeRead form line.now result }
 {
-    let left = number_at(line, 0);
-    if LARGEST < left {
-        return no_edge();
-    }
-    let right = number_at(line, WIDTH);
-    if LARGEST < right {
-        return no_edge();
-    }
-    let gap = length::read_length(line, 2 * WIDTH);
-    if length::LONGEST < gap {
-        return no_edge();
-    }
+    let left = column_at(line, 0)?;
+    let right = column_at(line, WIDTH)?;
+    let gap = length::read_length(line, 2 * WIDTH)?;
     if line[LINE - 1] != 10 {
-        return no_edge();
+        return None;
     }
-    Edge {
-        fits: true,
-        left: left as u16,
-        right: right as u16,
-        gap,
-    }
+    Some(Edge { left, right, gap })
 }

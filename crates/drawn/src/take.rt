@@ -22,7 +22,8 @@ pub(crate) fn store(
 {
     let mut count = 0;
     for e in 0..edges {
-        let edge = line::read_edge(text, HEADER + e * LINE);
+        // The lines were judged: each is in the form.
+        let edge = line::read_edge(text, HEADER + e * LINE).unwrap();
         count = put(
             edge.left, edge.right, edge.gap, least, e, ends, numbers, count,
         );

@@ -117,8 +117,8 @@ module _ (ws : List ℕ) (most : ℕ) (text : List ℕ) (at : ℕ) where
   unfolding number_at
   at_fit p = rw p
 
-  pub at_short : length text < at + length ws → 0 < length ws → number_at ws most text at ≡ most + 1
-  at_short h some = at_unfit (go (column_fits ws most col) refl)
+  pub short_unfit : length text < at + length ws → 0 < length ws → column_fits ws most (take (length ws) (drop at text)) ≡ false
+  short_unfit h some = go (column_fits ws most col) refl
     where
       col : List ℕ
       col = take (length ws) (drop at text)

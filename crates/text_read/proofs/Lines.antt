@@ -1,21 +1,18 @@
 -- A line of one to three columns is in the form exactly if its columns are and a line feed follows; its numbers are those of its columns.
+use Rattle.std.specs.Prelude.{Option, None, Some, is_some}
 use mathlib.Core.Path.{◌≡◌, refl, sym, ap, ◌∙◌}
 use mathlib.Core.Bool.{Bool, true, false, ◌&&◌}
 use mathlib.Core.List.{List}
-use Prim.Native.Nat.{ℕ, zero, suc, ◌+◌, ◌*◌, ◌≤◌, ◌<◌}
+use Prim.Native.Nat.{ℕ, zero, suc, ◌+◌, ◌*◌, ◌<◌}
 use native.Mathlib.Omega.{arith}
 use native.Mathlib.Nat.{suc-mul}
 use lib.ListN.{length, take, drop, get_or, length-drop}
 use lib.Seq.{drop-drop, drop-cons, get_or-drop}
-use borrow.Author.Tests.{le-leb, lt-leb, eq-eqb, ne_eqb}
+use borrow.Author.Tests.{eq-eqb, ne_eqb}
 use Rattle.text.specs.Column.{line_size, same, column_fits, line_fits, numbers}
 use Rattle.text.proofs.Laws.{line-part, numbers-part}
 use Rattle.text_read.specs.declared.line.Line.{Line}
-use Rattle.text_read.specs.Line.{ColumnRead, LineRead}
-
--- a line in the form with these numbers
-abbrev Numbers : Line → ℕ → ℕ → ℕ → Type 0
-Numbers r a b c = (r.fits ≡ true) × (r.first ≡ a) × (r.second ≡ b) × (r.third ≡ c)
+use Rattle.text_read.specs.Line.{ColumnOf, LineOf, LineRead}
 
 -- all columns are in the form
 columns_fit : List ℕ → ℕ → ℕ → List ℕ → Bool
@@ -52,67 +49,55 @@ module _ (ws : List ℕ) (most : ℕ) where
     third_place : drop (length ws) (drop (length ws) l) ≡ drop (length ws + length ws) l
     third_place = drop-drop (length ws) (length ws) l
 
-    pub out : {k : ℕ} {r : Line} → line_fits ws most k l ≡ false → r.fits ≡ false → LineRead ws most k l r
-    out f e = record { fits = e ∙ sym f; first = λ y. absurd (different (sym y ∙ e)); second = λ y. absurd (different (sym y ∙ e)); third = λ y. absurd (different (sym y ∙ e)) }
+    pub first_out : (k : ℕ) → column_fits ws most (col 0) ≡ false → line_fits ws most (suc k) l ≡ false
+    unfolding line_fits
+    first_out k h = rw h
 
-    -- a number above the largest, and any other
-    unread : (at a : ℕ) → ColumnRead ws most (col at) a → most < a → column_fits ws most (col at) ≡ false
-    unread at a reads h = sym reads.fits ∙ lt-leb a most h
+    module _ {a : ℕ} (reads : ColumnOf ws most (col 0) a) where
+      pub line_one : length ws < length l → get_or l (length ws) 0 ≡ 10 → LineOf ws most 1 l (record { first = a; second = 0; third = 0 })
+      unfolding numbers columns_fit
+      line_one h p =
+          let z : 1 * length ws ≡ length ws = omega arith in
+          let f = fed 1 l (omega arith) (ap (λ (i : ℕ). get_or l i 0) z ∙ p) in
+          record { fits = f ∙ rw reads.fits; first = reads.is; second = refl; third = refl }
 
-    good : (at a : ℕ) → ColumnRead ws most (col at) a → a ≤ most → column_fits ws most (col at) ≡ true
-    good at a reads h = sym reads.fits ∙ le-leb a most h
-
-    module _ (a : ℕ) (reads : ColumnRead ws most (col 0) a) where
-      pub first_out : (k : ℕ) → most < a → line_fits ws most (suc k) l ≡ false
+      pub second_out : (k : ℕ) → column_fits ws most (col (length ws)) ≡ false → line_fits ws most (suc (suc k)) l ≡ false
       unfolding line_fits
-      first_out k h = rw (unread 0 a reads h)
+      second_out k h = rw (reads.fits, h)
 
-      module _ (e : a ≤ most) where
-        pub line_one : length ws < length l → get_or l (length ws) 0 ≡ 10 → {r : Line} → Numbers r a 0 0 → LineRead ws most 1 l r
+      module _ {b : ℕ} (next : ColumnOf ws most (col (length ws)) b) where
+        pub line_two : 2 * length ws < length l → get_or l (2 * length ws) 0 ≡ 10 → LineOf ws most 2 l (record { first = a; second = b; third = 0 })
         unfolding numbers columns_fit
-        line_one h p is =
-            let z : 1 * length ws ≡ length ws = omega arith in
-            let f = fed 1 l (omega arith) (ap (λ (i : ℕ). get_or l i 0) z ∙ p) in
-            record { fits = is.0 ∙ sym (f ∙ rw (good 0 a reads e)); first = λ _. is.1 ∙ reads.is e; second = λ _. is.2; third = λ _. is.3 }
+        line_two h p = record { fits = fed 2 l h p ∙ rw (reads.fits, next.fits); first = reads.is; second = next.is; third = refl }
 
-        module _ (b : ℕ) (next : ColumnRead ws most (col (length ws)) b) where
-          pub second_out : (k : ℕ) → most < b → line_fits ws most (suc (suc k)) l ≡ false
-          unfolding line_fits
-          second_out k h = rw (good 0 a reads e, unread (length ws) b next h)
+        pub third_out : column_fits ws most (col (length ws + length ws)) ≡ false → line_fits ws most 3 l ≡ false
+        unfolding line_fits
+        third_out h = rw (reads.fits, next.fits, third_place, h)
 
-          module _ (n : b ≤ most) where
-            pub line_two : 2 * length ws < length l → get_or l (2 * length ws) 0 ≡ 10 → {r : Line} → Numbers r a b 0 → LineRead ws most 2 l r
-            unfolding numbers columns_fit
-            line_two h p is =
-                record {
-                  fits = is.0 ∙ sym (fed 2 l h p ∙ rw (good 0 a reads e, good (length ws) b next n));
-                  first = λ _. is.1 ∙ reads.is e;
-                  second = λ _. is.2 ∙ next.is n;
-                  third = λ _. is.3;
-                }
-
-            module _ (c : ℕ) (last : ColumnRead ws most (col (length ws + length ws)) c) where
-              pub third_out : most < c → line_fits ws most 3 l ≡ false
-              unfolding line_fits
-              third_out h = rw (good 0 a reads e, good (length ws) b next n, third_place, unread (length ws + length ws) c last h)
-
-              pub line_three : c ≤ most → 3 * length ws < length l → get_or l (3 * length ws) 0 ≡ 10 → {r : Line} → Numbers r a b c → LineRead ws most 3 l r
-              unfolding numbers columns_fit
-              line_three g h p is =
-                  record {
-                    fits = is.0 ∙ sym (fed 3 l h p ∙ rw (good 0 a reads e, good (length ws) b next n, third_place, good (length ws + length ws) c last g));
-                    first = λ _. is.1 ∙ reads.is e;
-                    second = λ _. is.2 ∙ next.is n;
-                    third = λ _. is.3 ∙ last.is g ∙ rw (sym third_place);
-                  }
+        pub line_three : {c : ℕ} → ColumnOf ws most (col (length ws + length ws)) c → 3 * length ws < length l → get_or l (3 * length ws) 0 ≡ 10
+            → LineOf ws most 3 l (record { first = a; second = b; third = c })
+        unfolding numbers columns_fit
+        line_three last h p =
+            record {
+              fits = fed 3 l h p ∙ rw (reads.fits, next.fits, third_place, last.fits);
+              first = reads.is;
+              second = next.is;
+              third = last.is ∙ rw (sym third_place);
+            }
 
 -- a line may be read of its own part of a text
-pub part-read : (ws : List ℕ) (most k : ℕ) (text : List ℕ) {r : Line} → LineRead ws most k (take (line_size ws k) text) r → LineRead ws most k text r
-part-read ws most k text r =
+pub part-read : (ws : List ℕ) (most k : ℕ) (text : List ℕ) (r : Option Line) → LineRead ws most k (take (line_size ws k) text) r → LineRead ws most k text r
+part-read ws most k text None p = sym (line-part ws most k text) ∙ p
+part-read ws most k text (Some l) r =
     let p = numbers-part ws k text in
     record {
-      fits = r.fits ∙ line-part ws most k text;
-      first = λ e. r.first e ∙ ap (λ (l : List ℕ). get_or l 0 0) p;
-      second = λ e. r.second e ∙ ap (λ (l : List ℕ). get_or l 1 0) p;
-      third = λ e. r.third e ∙ ap (λ (l : List ℕ). get_or l 2 0) p;
+      fits = sym (line-part ws most k text) ∙ r.fits;
+      first = r.first ∙ ap (λ (l : List ℕ). get_or l 0 0) p;
+      second = r.second ∙ ap (λ (l : List ℕ). get_or l 1 0) p;
+      third = r.third ∙ ap (λ (l : List ℕ). get_or l 2 0) p;
     }
+
+-- a line is in the form exactly if there is one that was read
+pub fits_some : (ws : List ℕ) (most k : ℕ) (text : List ℕ) (r : Option Line) → LineRead ws most k text r → line_fits ws most k text ≡ is_some r
+fits_some ws most k text None p = p
+fits_some ws most k text (Some l) r = r.fits

@@ -1,5 +1,5 @@
 -- A plan text as the code goes over it: its header, and the lines from a place on.
-use Rattle.std.specs.Prelude.{◌≡◌, Bool, true, cond, ◌&&◌, List, ℕ, ◌≤◌, length, drop}
+use Rattle.std.specs.Prelude.{◌≡◌, Bool, true, false, cond, ◌&&◌, Option, MatchOption, List, ℕ, ◌≤◌, length, drop}
 use Rattle.connectivity.specs.Plan.{plan, Limits}
 use Rattle.connectivity.specs.Admission.{Answer, answer, ends_answer, excluded_answer}
 use Rattle.text.specs.Column.{lines_begin, behind_lines, lines_fit, lines_numbers}
@@ -15,10 +15,9 @@ pub record Headed (ws : List ℕ) (most : ℕ) (text : List ℕ) (h : Header) : 
   pub inside : h.next ≤ length text
   pub behind : drop h.next text ≡ edge_lines ws most text
 
--- what is read of the header of any text
-pub record HeaderRead (ws : List ℕ) (most : ℕ) (text : List ℕ) (h : Header) : Type 0 where
-  pub fits : h.fits ≡ header_fits ws most text
-  pub headed : h.fits ≡ true → Headed ws most text h
+-- what is read of the header of any text: none where it has none in the form
+abbrev pub HeaderRead : List ℕ → ℕ → List ℕ → Option Header → Type 0
+HeaderRead ws most text r = MatchOption r (header_fits ws most text ≡ false) (λ h. Headed ws most text h)
 
 -- the ends, and the excluded vertices, on the lines from a place on
 abbrev pub ends_at : List ℕ → List ℕ → ℕ → ℕ → List ℕ

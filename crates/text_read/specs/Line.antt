@@ -1,5 +1,5 @@
 -- A column and a line as the code reads them: whether they are in the form, and then their numbers.
-use Rattle.std.specs.Prelude.{◌≡◌, true, cond, ◌&&◌, List, [], ◌∷◌, ℕ, ◌+◌, ◌≤◌, eqb, ltb, leb, length, take, drop, get_or}
+use Rattle.std.specs.Prelude.{◌≡◌, true, false, cond, ◌&&◌, Option, MatchOption, List, [], ◌∷◌, ℕ, ◌+◌, eqb, ltb, length, take, drop, get_or}
 use Rattle.text.specs.Column.{digit, value, column_fits, line_fits, numbers}
 use Rattle.text_read.specs.declared.line.Line.{Line}
 
@@ -17,18 +17,26 @@ misfits [] x bytes = 0
 misfits (p ∷ ws) x [] = 0
 misfits (p ∷ ws) x (b ∷ bytes) = misfit p x b + misfits ws x bytes
 
--- what is read of the bytes of a column: their number, or one above the largest where they are not in the form
-pub record ColumnRead (ws : List ℕ) (most : ℕ) (bytes : List ℕ) (number : ℕ) : Type 0 where
-  pub fits : leb number most ≡ column_fits ws most bytes
-  pub is : number ≤ most → number ≡ value ws bytes
+-- the number of the bytes of a column in the form
+pub record ColumnOf (ws : List ℕ) (most : ℕ) (bytes : List ℕ) (number : ℕ) : Type 0 where
+  pub fits : column_fits ws most bytes ≡ true
+  pub is : number ≡ value ws bytes
+
+-- what is read of the bytes of a column: their number, or none where they are not in the form
+abbrev pub ColumnRead : List ℕ → ℕ → List ℕ → Option ℕ → Type 0
+ColumnRead ws most bytes r = MatchOption r (column_fits ws most bytes ≡ false) (λ x. ColumnOf ws most bytes x)
 
 -- the number in the column that begins at a place of a text; one above the largest where it is not in the form, as where bytes are missing
 unfoldable pub number_at : List ℕ → ℕ → List ℕ → ℕ → ℕ
 number_at ws most text at = let bytes = take (length ws) (drop at text) in cond (column_fits ws most bytes) (value ws bytes) (most + 1)
 
--- a line of so many columns that was read at the front of a text; the numbers of columns that it does not have are 0
-pub record LineRead (ws : List ℕ) (most columns : ℕ) (text : List ℕ) (l : Line) : Type 0 where
-  pub fits : l.fits ≡ line_fits ws most columns text
-  pub first : l.fits ≡ true → l.first ≡ get_or (numbers ws columns text) 0 0
-  pub second : l.fits ≡ true → l.second ≡ get_or (numbers ws columns text) 1 0
-  pub third : l.fits ≡ true → l.third ≡ get_or (numbers ws columns text) 2 0
+-- the numbers of a line of so many columns in the form at the front of a text; those of columns that it does not have are 0
+pub record LineOf (ws : List ℕ) (most columns : ℕ) (text : List ℕ) (l : Line) : Type 0 where
+  pub fits : line_fits ws most columns text ≡ true
+  pub first : l.first ≡ get_or (numbers ws columns text) 0 0
+  pub second : l.second ≡ get_or (numbers ws columns text) 1 0
+  pub third : l.third ≡ get_or (numbers ws columns text) 2 0
+
+-- what is read of such a line: its numbers, or none where it is not in the form
+abbrev pub LineRead : List ℕ → ℕ → ℕ → List ℕ → Option Line → Type 0
+LineRead ws most columns text r = MatchOption r (line_fits ws most columns text ≡ false) (λ l. LineOf ws most columns text l)

@@ -33,19 +33,19 @@ pub(crate) fn number(line: &[u8], at: usize) -> u32
     sum
 }
 
-// Reads the column that begins at `at`: its number, or one above the largest where it is not in the form.
-pub(crate) fn read_column(line: &[u8], at: usize) -> u32
+// Reads the column that begins at `at`: its number, or none where it is not in the form.
+pub(crate) fn read_column(line: &[u8], at: usize) -> Option<u16>
     requires { at + length five ≤ length line.now }
     ensures { ColumnRead five largest (take (length five) (drop at line.now)) result }
 {
     let x = number(line, at);
     if LARGEST < x {
-        return x;
+        return None;
     }
     if misfits(line, at, x) != 0 {
-        return LARGEST + 1;
+        return None;
     }
-    x
+    Some(x as u16)
 }
 
 // How many bytes of the column that begins at `at` are not those of its number x. A sum, as the number is, and with no way out: both are compiled
@@ -85,19 +85,25 @@ fn zero_at(worth: u32, x: u32) -> u32
     48
 }
 
-// The number in the column that begins at `at` of any text: one above the largest where it is not in the form or not all of it is there.
+// The number in the column that begins at `at` of any text: none where it is not in the form or not all of it is there.
+pub fn column_at(text: &[u8], at: usize) -> Option<u16>
+    ensures { ColumnRead five largest (take (length five) (drop at text.now)) result }
+{
+    if text.len() < at {
+        return None;
+    }
+    if text.len() - at < WIDTH {
+        return None;
+    }
+    read_column(text, at)
+}
+
+// The same as a plain number: one above the largest where it is not in the form or not all of it is there.
 pub fn number_at(text: &[u8], at: usize) -> u32
     ensures { result ≡ number_at five largest text.now at }
 {
-    if text.len() < at {
-        return LARGEST + 1;
+    match column_at(text, at) {
+        Some(x) => x as u32,
+        None => LARGEST + 1,
     }
-    if text.len() - at < WIDTH {
-        return LARGEST + 1;
-    }
-    let x = read_column(text, at);
-    if LARGEST < x {
-        return LARGEST + 1;
-    }
-    x
 }

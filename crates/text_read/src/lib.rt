@@ -25,11 +25,12 @@ pub struct VerdictRead {
 pub fn read_plan(text: &[u8], table: &mut [u16]) -> Result<Graph, Answer>
     ensures { ReadsPlan five largest limits text.now table.old table.new result }
 {
-    let header = plan::read_header(text);
-    let fits = header.fits;
-    if !fits {
-        return refused_plan(7);
-    }
+    let Some(header) = plan::read_header(text) else {
+        return Err(Answer {
+            number: 7,
+            place: 0,
+        });
+    };
     let answer = plan::judge(text, header, table.len());
     let number = answer.number;
     if number != 0 {
@@ -39,21 +40,13 @@ pub fn read_plan(text: &[u8], table: &mut [u16]) -> Result<Graph, Answer>
     plan::counted(header, table)
 }
 
-fn refused_plan(number: u16) -> Result<Graph, Answer>
-    ensures { result ≡ Err (record { number = number; place = 0 }) }
-{
-    Err(Answer { number, place: 0 })
-}
-
 // Reads a verdict text into `list`: 8 for the header, 6, then 8 for the lines.
 pub fn read_verdict(text: &[u8], list: &mut [u16]) -> Result<VerdictRead, Answer>
     ensures { ReadsVerdict five largest limits text.now list.old list.new result }
 {
-    let header = line::first_line(text, 2);
-    let fits = header.fits;
-    if !fits {
+    let Some(header) = line::first_line(text, 2) else {
         return refused_verdict(8);
-    }
+    };
     let kind = header.first;
     let count = header.second as usize;
     if !text::count_fits(kind, count) {

@@ -4,88 +4,67 @@ ghost use Rattle.std.proofs.lemmas.List.Edits.{sets};
 ghost use Rattle.text.specs.Column.{five, largest, line_size, line_fits, numbers, lines_begin, lines_fit, lines_numbers};
 ghost use Rattle.text_read.specs.Line.{LineRead};
 
-use crate::column::{LARGEST, number, read_column};
+use crate::column::{number, read_column};
 use crate::reader::take_line;
 use text::WIDTH;
 
-// A line as it was read: whether it is in the form, and then its numbers; those of columns that it does not have are 0.
+// The numbers of a line; those of columns that it does not have are 0.
 #[derive(Drop)]
 pub(crate) struct Line {
-    pub fits: bool,
     pub first: u16,
     pub second: u16,
     pub third: u16,
 }
 
-// Reads the first line of a text, of `columns` numbers.
-pub(crate) fn first_line(text: &[u8], columns: usize) -> Line
+// Reads the first line of a text, of `columns` numbers; none where it is not in the form.
+pub(crate) fn first_line(text: &[u8], columns: usize) -> Option<Line>
     requires { (1 ≤ columns) × (columns ≤ 3) }
     ensures { LineRead five largest columns text.now result }
 {
     if text.len() < columns * WIDTH + 1 {
-        return not_in_form();
+        return None;
     }
     read_line(text, 0, columns)
 }
 
-// Reads the line of `columns` numbers that begins at `at`.
-pub(crate) fn read_line(text: &[u8], at: usize, columns: usize) -> Line
+// Reads the line of `columns` numbers that begins at `at`; none where it is not in the form.
+pub(crate) fn read_line(text: &[u8], at: usize, columns: usize) -> Option<Line>
     requires { (at + line_size five columns ≤ length text.now) × (1 ≤ columns) × (columns ≤ 3) }
     ensures { LineRead five largest columns (drop at text.now) result }
 {
     read_columns(take_line(text, at, columns * WIDTH + 1), columns)
 }
 
-fn not_in_form() -> Line
-    ensures { result.fits ≡ false }
-{
-    Line {
-        fits: false,
-        first: 0,
-        second: 0,
-        third: 0,
-    }
-}
-
-fn in_form(first: u32, second: u32, third: u32) -> Line
-    requires { (first ≤ largest) × (second ≤ largest) × (third ≤ largest) }
-    ensures { (result.fits ≡ true) × (result.first ≡ first) × (result.second ≡ second) × (result.third ≡ third) }
-{
-    Line {
-        fits: true,
-        first: first as u16,
-        second: second as u16,
-        third: third as u16,
-    }
-}
-
 // Reads the columns of a line, behind which a line feed stands.
-fn read_columns(line: &[u8], columns: usize) -> Line
+fn read_columns(line: &[u8], columns: usize) -> Option<Line>
     requires { (1 ≤ columns) × (columns ≤ 3) × (length line.now ≡ line_size five columns) }
     ensures { LineRead five largest columns line.now result }
 {
     if line[columns * WIDTH] != 10 {
-        return not_in_form();
+        return None;
     }
-    let first = read_column(line, 0);
-    if LARGEST < first {
-        return not_in_form();
-    }
+    let first = read_column(line, 0)?;
     if columns < 2 {
-        return in_form(first, 0, 0);
+        return Some(Line {
+            first,
+            second: 0,
+            third: 0,
+        });
     }
-    let second = read_column(line, WIDTH);
-    if LARGEST < second {
-        return not_in_form();
-    }
+    let second = read_column(line, WIDTH)?;
     if columns < 3 {
-        return in_form(first, second, 0);
+        return Some(Line {
+            first,
+            second,
+            third: 0,
+        });
     }
-    let third = read_column(line, 2 * WIDTH);
-    if LARGEST < third {
-        return not_in_form();
-    }
-    in_form(first, second, third)
+    let third = read_column(line, 2 * WIDTH)?;
+    Some(Line {
+        first,
+        second,
+        third,
+    })
 }
 
 // From `at` on the text begins with `count` lines of `columns` numbers each, in the form. It is long enough for them.
@@ -95,8 +74,7 @@ pub(crate) fn lines_begin(text: &[u8], at: usize, columns: usize, count: usize) 
 {
     let size = columns * WIDTH + 1;
     for k in 0..count {
-        let line = read_line(text, at + k * size, columns);
-        if !line.fits {
+        if read_line(text, at + k * size, columns).is_none() {
             return false;
         }
     }

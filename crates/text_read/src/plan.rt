@@ -11,53 +11,44 @@ use crate::line;
 use graph::{Answer, Graph};
 use text::{HEADER, LONGEST, SHORTEST};
 
-// The header of a plan text: whether it is in the form, its counts, and the place behind it.
+// The header of a plan text: its counts, and the place behind it.
 #[derive(Clone, Copy)]
 pub(crate) struct Header {
-    pub fits: bool,
     pub vertices: u16,
     pub edges: u16,
     pub excluded: u16,
     pub next: usize,
 }
 
-// Reads the header, of two columns or three.
-pub(crate) fn read_header(text: &[u8]) -> Header
+// Reads the header, of two columns or three; none where it is not in the form.
+pub(crate) fn read_header(text: &[u8]) -> Option<Header>
     ensures { HeaderRead five largest text.now result }
 {
-    let two = line::first_line(text, 2);
-    let short = two.fits;
-    if short {
-        return Header {
-            fits: true,
+    if let Some(two) = line::first_line(text, 2) {
+        return Some(Header {
             vertices: two.first,
             edges: two.second,
             excluded: 0,
             next: HEADER,
-        };
+        });
     }
-    let three = line::first_line(text, 3);
-    let long = three.fits;
-    Header {
-        fits: third_fits(long, three.first, three.third),
+    let three = line::first_line(text, 3)?;
+    if !third_fits(three.first, three.third) {
+        return None;
+    }
+    Some(Header {
         vertices: three.first,
         edges: three.second,
         excluded: three.third,
         next: LONGEST,
-    }
+    })
 }
 
 // Of a third column, only 1 to the number of vertices is in the form.
-fn third_fits(long: bool, vertices: u16, excluded: u16) -> bool
-    ensures { result ≡ (long && (leb 1 excluded && leb excluded vertices)) }
+fn third_fits(vertices: u16, excluded: u16) -> bool
+    ensures { result ≡ (leb 1 excluded && leb excluded vertices) }
 {
-    if long {
-        if excluded < 1 {
-            return false;
-        }
-        return excluded <= vertices;
-    }
-    false
+    1 <= excluded && excluded <= vertices
 }
 
 // The first refusal of a text with this header: 2, 3, 6, 7 for the lines, then 4, 5, 18 and 19; else 0.
@@ -128,10 +119,9 @@ fn judge_edges(text: &[u8], at: usize, vertices: u16, edges: usize) -> Answer
 {
     for e in 0..edges {
         let next = at + e * HEADER;
-        let line = line::read_line(text, next, 2);
-        if !line.fits {
+        let Some(line) = line::read_line(text, next, 2) else {
             return number_alone(7);
-        }
+        };
         let number = graph::judge_edge(vertices, line.first, line.second);
         if number != 0 {
             return if_fits(
@@ -167,10 +157,9 @@ fn judge_excluded(text: &[u8], at: usize, vertices: u16, excluded: usize) -> Ans
     let mut low: u16 = 0;
     for k in 0..excluded {
         let next = at + k * SHORTEST;
-        let line = line::read_line(text, next, 1);
-        if !line.fits {
+        let Some(line) = line::read_line(text, next, 1) else {
             return number_alone(7);
-        }
+        };
         let v = line.first;
         if !between(low, v, vertices) {
             return if_fits(
@@ -188,10 +177,7 @@ fn judge_excluded(text: &[u8], at: usize, vertices: u16, excluded: usize) -> Ans
 fn between(low: u16, v: u16, high: u16) -> bool
     ensures { result ≡ (leb low v && ltb v high) }
 {
-    if v < low {
-        return false;
-    }
-    v < high
+    low <= v && v < high
 }
 
 // Fills the table: the ends of each edge, and directly behind them the excluded vertices.

@@ -9,7 +9,6 @@ use Rattle.connectivity.specs.Plan.{limits}
 use Rattle.connectivity.specs.Admission.{answer}
 use Rattle.graph.specs.Admission.{handed, constructed}
 use Rattle.graph.specs.declared.Answer.{Answer}
-use Rattle.graph.specs.Admission.{Admission}
 use Rattle.text.specs.Column.{five, largest}
 use Rattle.text.specs.Plan.{PlanReading, header_second, header_third, edge_lines, excluded_lines, spelled, read_answer}
 use Rattle.text.proofs.Reading.{length-lines-numbers, no_header, Met, met, read-refused, read-listed}
@@ -22,20 +21,13 @@ use Rattle.text_read.proofs.read_plan.Goals as goal
 number : {x y : Answer} → x ≡ y → x.number ≡ y.number
 number p = ap (λ (z : Answer). z.number) p
 
-pub returns-then-not-fits : goal.returns-then-not-fits
-returns-then-not-fits c =
+pub returns-in_default : goal.returns-in_default
+returns-in_default c =
     let txt : List ℕ = c.args.text.now in
     let lent : List ℕ = c.args.table.now in
-    let e = c.read_header-header.ensures in
     reads_plan (PlanReading.refused (answer 7 0))
-    (read-refused five largest limits txt (length lent) (answer 7 0) (no_header five largest limits txt (length lent) (sym e.fits ∙ c.if-not-fits.true)) (λ z. omega arith))
-    (ap handed c.refused_plan.ensures) refl
-
-pub judge-answer-requires : goal.judge-answer-requires
-judge-answer-requires c =
-    let txt : List ℕ = c.args.text.now in
-    let headed : Headed five largest txt c.read_header-header.result = c.read_header-header.ensures.headed (c.if-not-fits.false) in
-    headed
+    (read-refused five largest limits txt (length lent) (answer 7 0) (no_header five largest limits txt (length lent) c.in_default.ensures) (λ z. omega arith))
+    refl refl
 
 pub returns-then-number-ne0 : goal.returns-then-number-ne0
 returns-then-number-ne0 c =
@@ -51,31 +43,31 @@ pub store-requires : goal.store-requires
 store-requires c =
     let lent : List ℕ = c.args.table.now in
     let txt : List ℕ = c.args.text.now in
-    let headed : Headed five largest txt c.read_header-header.result = c.read_header-header.ensures.headed (c.if-not-fits.false) in
+    let headed : Headed five largest txt c.in-Some.header = c.in-Some.ensures in
     let passing : (read_answer five largest limits txt (length lent)).number ≡ 0 = sym (number c.judge-answer.ensures) ∙ c.if-number-ne0.false in
     let tests : Met five largest limits txt (length lent) = met five largest limits txt (length lent) passing in
-    let room : let h = c.read_header-header.result in 2 * h.edges + h.excluded ≤ length lent = let d = headed in omega (arith, tests.room, d.edges, d.excluded) in
+    let room : let h = c.in-Some.header in 2 * h.edges + h.excluded ≤ length lent = let d = headed in omega (arith, tests.room, d.edges, d.excluded) in
     (met_fitting headed limits (length lent) tests, room)
 
 pub counted-requires : goal.counted-requires
 counted-requires c =
     let lent : List ℕ = c.args.table.now in
     let txt : List ℕ = c.args.text.now in
-    let headed : Headed five largest txt c.read_header-header.result = c.read_header-header.ensures.headed (c.if-not-fits.false) in
+    let headed : Headed five largest txt c.in-Some.header = c.in-Some.ensures in
     let passing : (read_answer five largest limits txt (length lent)).number ≡ 0 = sym (number c.judge-answer.ensures) ∙ c.if-number-ne0.false in
     let tests : Met five largest limits txt (length lent) = met five largest limits txt (length lent) passing in
-    let room : let h = c.read_header-header.result in 2 * h.edges + h.excluded ≤ length lent = let d = headed in omega (arith, tests.room, d.edges, d.excluded) in
+    let room : let h = c.in-Some.header in 2 * h.edges + h.excluded ≤ length lent = let d = headed in omega (arith, tests.room, d.edges, d.excluded) in
     omega (arith, room, c.store.auto.table)
 
 pub returns : goal.returns
 returns c =
     let txt : List ℕ = c.args.text.now in
     let lent : List ℕ = c.args.table.now in
-    let headed : Headed five largest txt c.read_header-header.result = c.read_header-header.ensures.headed (c.if-not-fits.false) in
+    let headed : Headed five largest txt c.in-Some.header = c.in-Some.ensures in
     let passing : (read_answer five largest limits txt (length lent)).number ≡ 0 = sym (number c.judge-answer.ensures) ∙ c.if-number-ne0.false in
     let tests : Met five largest limits txt (length lent) = met five largest limits txt (length lent) passing in
     let d = headed in
-    let h = c.read_header-header.result in
+    let h = c.in-Some.header in
     let p = spelled five largest txt in
     let ends : length p.ends ≡ 2 * h.edges = omega (arith, d.edges, length-lines-numbers five 2 (header_second five txt) (edge_lines five largest txt)) in
     let excluded : length p.excluded ≡ h.excluded = omega (arith, d.excluded, length-lines-numbers five 1 (header_third five largest txt) (excluded_lines five largest txt)) in

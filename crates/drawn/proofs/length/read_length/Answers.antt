@@ -5,11 +5,11 @@ use Prim.Native.Nat.{ℕ, ◌+◌, ◌≤◌}
 use native.Mathlib.Omega.{arith}
 use lib.Dec.{eqb}
 use lib.ListN.{length, take, drop, length-take, length-drop}
-use borrow.Author.Tests.{le-leb, eq-eqb, ne_eqb}
+use borrow.Author.Tests.{eq-eqb, ne_eqb}
 use Rattle.text.specs.Column.{worths, value}
 use Rattle.drawn.specs.Length.{eight, thousand, length_worths, length_fits}
-use Rattle.drawn.specs.Line.{longest, misfits}
-use Rattle.drawn.proofs.Lengths.{length-told, eight_below}
+use Rattle.drawn.specs.Line.{misfits}
+use Rattle.drawn.proofs.Lengths.{length-told}
 use Rattle.drawn.proofs.length.read_length.Goals as goal
 
 -- eight bytes of a line
@@ -27,11 +27,11 @@ pub returns-then-misfits-ne0 : goal.returns-then-misfits-ne0
 returns-then-misfits-ne0 c =
     let a = c.args in
     let p = judged a.at a.line.now (omega arith) c.thousandths-x.result c.misfits.result c.thousandths-x.ensures c.misfits.ensures in
-    record { fits = sym (p ∙ ne_eqb c.misfits.result 0 c.if-misfits-ne0.true); is = λ h. absurd (omega arith) }
+    p ∙ ne_eqb c.misfits.result 0 c.if-misfits-ne0.true
 
 pub returns : goal.returns
 returns c =
     let a = c.args in
     let x = c.thousandths-x in
     let p = judged a.at a.line.now (omega arith) x.result c.misfits.result x.ensures c.misfits.ensures in
-    record { fits = le-leb x.result longest (omega (arith, x.ensures, eight_below (take (length eight) (drop a.at a.line.now)))) ∙ sym (p ∙ eq-eqb c.misfits.result 0 c.if-misfits-ne0.false); is = λ _. x.ensures }
+    record { fits = p ∙ eq-eqb c.misfits.result 0 c.if-misfits-ne0.false; is = x.ensures }

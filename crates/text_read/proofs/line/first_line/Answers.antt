@@ -2,13 +2,7 @@
 use native.Mathlib.Omega.{arith}
 use Rattle.text.specs.Column.{five, largest}
 use Rattle.text.proofs.Laws.{line_short}
-use Rattle.text_read.proofs.Lines.{out}
 use Rattle.text_read.proofs.line.first_line.Goals as goal
 
 pub returns-then-text-columns : goal.returns-then-text-columns
-returns-then-text-columns c =
-    let a = c.args in
-    out five largest a.text.now (line_short five a.text.now largest a.columns (omega arith)) c.not_in_form.ensures
-
-pub returns : goal.returns
-returns c = c.read_line.ensures
+returns-then-text-columns c = let a = c.args in line_short five a.text.now largest a.columns (omega arith)

@@ -15,4 +15,4 @@ read_columns-requires c =
 pub returns : goal.returns
 returns c =
     let a = c.args in
-    part-read five largest a.columns (drop a.at a.text.now) (rw c.take_line.ensures at c.read_columns.ensures)
+    part-read five largest a.columns (drop a.at a.text.now) c.read_columns.result (rw c.take_line.ensures at c.read_columns.ensures)
