@@ -19,9 +19,6 @@ columns_fit : List ℕ → ℕ → ℕ → List ℕ → Bool
 columns_fit ws most zero l = true
 columns_fit ws most (suc k) l = column_fits ws most (take (length ws) l) && columns_fit ws most k (drop (length ws) l)
 
-pub different : true ≡ false → ⊥
-different z = let y : ◌≡◌ {A = ℕ} 0 1 = cc in omega arith
-
 no_right : (t : Bool) → (t && false) ≡ false
 no_right true = refl
 no_right false = refl
