@@ -7,7 +7,6 @@ use Rattle.connectivity.specs.Plan.{plan, limits}
 use Rattle.connectivity.specs.Admission.{admission}
 use Rattle.graph.specs.declared.Answer.{Answer}
 use Rattle.graph.proofs.Lent.{constructed-refused, constructed_admitted}
-use Rattle.text_write.specs.Entry.{Written}
 use Rattle.text_write.specs.Entry.{handed}
 use Rattle.text.specs.Column.{five}
 use Rattle.text.specs.Plan.{Writing}
