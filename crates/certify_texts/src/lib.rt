@@ -6,7 +6,6 @@ ghost use Rattle.connectivity.specs.Plan.{plan, limits};
 ghost use Rattle.connectivity.specs.Admission.{kept_edges, Admitted};
 ghost use Rattle.text.specs.Column.{five, largest};
 ghost use Rattle.text_write.specs.Entry.{WritesVerdict};
-ghost use Rattle.verify_texts.specs.Table.{Holds, plan_of};
 ghost use Rattle.certify.specs.Answered.{named};
 ghost use Rattle.certify_texts.specs.Says.{WritesFor, WritesOf};
 
@@ -24,7 +23,10 @@ pub fn verdict_text(plan: &[u8], bytes: &mut [u8]) -> Result<usize, Answer>
     let read = text_read::read_plan(plan, &mut table);
     match read {
         Err(answer) => write_refusal(answer.number, bytes),
-        Ok(graph) => write_read(graph, &table, bytes),
+        Ok(graph) => {
+            let (ends, excluded) = verify_texts::parts(graph, &table);
+            write_admitted(graph.vertices, ends, excluded, graph.kept_edges, bytes)
+        }
     }
 }
 
@@ -35,23 +37,7 @@ fn write_refusal(number: u16, bytes: &mut [u8]) -> Result<usize, Answer>
     text_write::write_verdict(2, &list, bytes)
 }
 
-// The verdict text of the plan in a table that was filled.
-fn write_read(counts: Graph, table: &[u16], bytes: &mut [u8]) -> Result<usize, Answer>
-    requires { Holds counts table.now × Admitted limits (plan_of counts table.now) }
-    ensures { WritesOf five limits (plan_of counts table.now) bytes.old bytes.new result }
-{
-    let size = 2 * counts.edges as usize;
-    let end = size + (counts.vertices - counts.kept_vertices) as usize;
-    write_admitted(
-        counts.vertices,
-        &table[..size],
-        &table[size..end],
-        counts.kept_edges,
-        bytes,
-    )
-}
-
-// The same by the plan's parts, of which `kept` edges are kept.
+// The verdict text of an admitted plan, of which `kept` edges are kept.
 fn write_admitted(
     vertices: u16,
     ends: &[u16],

@@ -9,7 +9,6 @@ ghost use Rattle.connectivity.specs.Admission.{Admitted};
 ghost use Rattle.graph.specs.Excluded.{is_open};
 ghost use Rattle.text.specs.Column.{five, largest};
 ghost use Rattle.text_write.specs.Entry.{WritesLines};
-ghost use Rattle.verify_texts.specs.Table.{Holds, plan_of};
 ghost use Rattle.components_texts.specs.Groups.{WritesGroups};
 ghost use Rattle.components_texts.specs.Pairs.{group_pairs, pair_unless, others, Paired};
 
@@ -25,7 +24,10 @@ pub fn groups_text(plan: &[u8], bytes: &mut [u8]) -> Result<usize, Answer>
     let read = text_read::read_plan(plan, &mut table);
     match read {
         Err(answer) => write_number(answer.number, bytes),
-        Ok(graph) => write_read(graph, &table, bytes),
+        Ok(graph) => {
+            let (ends, excluded) = verify_texts::parts(graph, &table);
+            write_admitted(graph.vertices, ends, excluded, bytes)
+        }
     }
 }
 
@@ -36,16 +38,7 @@ fn write_number(number: u16, bytes: &mut [u8]) -> Result<usize, Answer>
     text_write::write_lines(1, &list, bytes)
 }
 
-// The lines of the plan in a table that was filled.
-fn write_read(counts: Graph, table: &[u16], bytes: &mut [u8]) -> Result<usize, Answer>
-    requires { Holds counts table.now × Admitted limits (plan_of counts table.now) }
-    ensures { WritesLines five 2 (group_pairs (graph (plan_of counts table.now))) bytes.old bytes.new result }
-{
-    let size = 2 * counts.edges as usize;
-    let end = size + (counts.vertices - counts.kept_vertices) as usize;
-    write_admitted(counts.vertices, &table[..size], &table[size..end], bytes)
-}
-
+// The lines of an admitted plan.
 fn write_admitted(
     vertices: u16,
     ends: &[u16],

@@ -6,7 +6,6 @@ ghost use Rattle.connectivity.specs.Plan.{plan, limits};
 ghost use Rattle.connectivity.specs.Fallen.{per_word, words_for};
 ghost use Rattle.connectivity.specs.Admission.{Admitted};
 ghost use Rattle.text.specs.Column.{five, largest};
-ghost use Rattle.verify_texts.specs.Table.{Holds, plan_of};
 ghost use Rattle.verify_texts.specs.Texts.{plan_in};
 ghost use Rattle.certify.specs.Answered.{fallen_in};
 ghost use Rattle.fallen_texts.specs.Falls.{numbers_of, falls, WritesFallen};
@@ -43,21 +42,14 @@ fn list_text(plan: &[u8], list: &mut [u16]) -> usize
             list[0] = answer.number;
             1
         }
-        Ok(graph) => list_read(graph, &table, list),
+        Ok(graph) => {
+            let (ends, excluded) = verify_texts::parts(graph, &table);
+            list_admitted(graph.vertices, ends, excluded, list)
+        }
     }
 }
 
-// The same of the plan in a table that was filled.
-fn list_read(counts: Graph, table: &[u16], list: &mut [u16]) -> usize
-    requires { Holds counts table.now × Admitted limits (plan_of counts table.now) × (limits.vertices + 1 ≤ length list.old) }
-    ensures { Begins (falls limits (plan_of counts table.now)) list.new result }
-{
-    let size = 2 * counts.edges as usize;
-    let end = size + (counts.vertices - counts.kept_vertices) as usize;
-    list_admitted(counts.vertices, &table[..size], &table[size..end], list)
-}
-
-// The same by the plan's parts.
+// The same of an admitted plan.
 fn list_admitted(vertices: u16, ends: &[u16], excluded: &[u16], list: &mut [u16]) -> usize
     requires { Admitted limits (plan vertices ends.now excluded.now) × (limits.vertices + 1 ≤ length list.old) }
     ensures { Begins (falls limits (plan vertices ends.now excluded.now)) list.new result }

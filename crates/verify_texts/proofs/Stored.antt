@@ -25,11 +25,6 @@ use Rattle.verify_texts.proofs.TwoTexts.{plan_space, verdict_space}
 front : (xs lent : List ℕ) (k : ℕ) → length xs ≡ k → (k ≤ length (filled xs lent)) × (take k (filled xs lent) ≡ xs)
 front xs lent k p = (omega (arith, length-append xs (drop (length xs) lent)), take_at xs (drop (length xs) lent) k p)
 
--- the two parts of the table, as the code takes them
-pub plan_parts : (g : Graph) (table : List ℕ)
-    → let m = 2 * g.edges in plan g.vertices (take m table) (take (m + excluded_count g - m) (drop m table)) ≡ plan_of g table
-plan_parts g table = let m = 2 * g.edges in let k : m + excluded_count g - m ≡ excluded_count g = omega arith in rw k
-
 read_same : {p d : Plan} → PlanReading.read p ≡ PlanReading.read d → p ≡ d
 read_same q = cc
 

@@ -7,7 +7,7 @@ ghost use Rattle.graph.specs.Admission.{told_by};
 ghost use Rattle.text.specs.Column.{five, largest};
 ghost use Rattle.text.specs.Plan.{PlanReading};
 ghost use Rattle.verify_texts.specs.Texts.{verdict_in, judge_read, judge_texts};
-ghost use Rattle.verify_texts.specs.Table.{Holds, plan_of};
+ghost use Rattle.verify_texts.specs.Table.{plan_of};
 
 use graph::{Answer, Graph};
 
@@ -21,18 +21,20 @@ pub fn check_texts(plan: &[u8], verdict: &[u8]) -> Answer
     let read = text_read::read_plan(plan, &mut table);
     match read {
         Err(answer) => answer,
-        Ok(graph) => check_read(graph, &table, verdict),
+        Ok(graph) => {
+            let (ends, excluded) = parts(graph, &table);
+            check_verdict(graph.vertices, ends, excluded, verdict)
+        }
     }
 }
 
-// The verdict, about the plan in a table that was filled.
-fn check_read(counts: Graph, table: &[u16], verdict: &[u8]) -> Answer
-    requires { Holds counts table.now }
-    ensures { result ≡ told_by (judge_read limits (PlanReading.read (plan_of counts table.now)) (verdict_in five largest limits verdict.now)) }
+// The ends and, directly behind them, the excluded vertices of the plan in a table that was filled.
+pub fn parts(counts: Graph, table: &[u16]) -> (&[u16], &[u16])
+    ensures { plan counts.vertices result.0.now result.1.now ≡ plan_of counts table.now }
 {
-    let size = 2 * counts.edges as usize;
-    let end = size + (counts.vertices - counts.kept_vertices) as usize;
-    check_verdict(counts.vertices, &table[..size], &table[size..end], verdict)
+    let (ends, rest) = table.split_at(table.len().min(2 * counts.edges as usize));
+    let size = counts.vertices.saturating_sub(counts.kept_vertices) as usize;
+    (ends, &rest[..rest.len().min(size)])
 }
 
 // The verdict is read, and judged.

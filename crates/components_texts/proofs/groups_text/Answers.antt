@@ -1,5 +1,5 @@
 -- `groups_text` meets its contract: the table has room for every admitted plan, and what is read of the plan is written.
-use mathlib.Core.Path.{◌≡◌}
+use mathlib.Core.Path.{◌≡◌, sym, ap, ◌∙◌}
 use Prim.Native.Nat.{ℕ, ◌+◌, ◌*◌, ◌≤◌}
 use native.Mathlib.Omega.{arith}
 use lib.ListN.{length, replicate, length-replicate}
@@ -15,10 +15,10 @@ use Rattle.components_texts.proofs.groups_text.Goals as goal
 room : 2 * limits.edges + limits.vertices ≤ length {A = ℕ} (replicate (2 * limits.edges + limits.vertices) 0)
 room = omega (arith, length-replicate {A = ℕ} (2 * limits.edges + limits.vertices) 0)
 
-pub write_read-requires : goal.write_read-requires
-write_read-requires c =
+pub write_admitted-requires : goal.write_admitted-requires
+write_admitted-requires c =
     let stored : let table = c.read_plan-read.new.table in let graph = c.in-Ok.graph in Holds graph table × (plan_in five largest limits c.args.plan.now ≡ PlanReading.read (plan_of graph table)) = plan_stored five largest limits _ _ _ _ c.read_plan-read.ensures room _ c.in-Ok.is in
-    let s = stored in (s.0, planned five largest limits _ s.1)
+    planned five largest limits _ (stored.1 ∙ ap PlanReading.read (sym c.parts.ensures))
 
 pub returns-in-Err : goal.returns-in-Err
 returns-in-Err c =
@@ -28,4 +28,4 @@ returns-in-Err c =
 pub returns-in-Ok : goal.returns-in-Ok
 returns-in-Ok c =
     let stored : let table = c.read_plan-read.new.table in let graph = c.in-Ok.graph in Holds graph table × (plan_in five largest limits c.args.plan.now ≡ PlanReading.read (plan_of graph table)) = plan_stored five largest limits _ _ _ _ c.read_plan-read.ensures room _ c.in-Ok.is in
-    read_written _ stored.1 c.write_read.ensures
+    read_written _ (stored.1 ∙ ap PlanReading.read (sym c.parts.ensures)) c.write_admitted.ensures

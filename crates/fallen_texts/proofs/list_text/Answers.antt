@@ -1,5 +1,5 @@
 -- `list_text` meets its contract: the table has room for every admitted plan, and what is read of the plan is listed.
-use mathlib.Core.Path.{◌≡◌}
+use mathlib.Core.Path.{◌≡◌, sym, ap, ◌∙◌}
 use Prim.Native.Nat.{ℕ, ◌+◌, ◌*◌, ◌≤◌}
 use native.Mathlib.Omega.{arith}
 use lib.ListN.{length, replicate, length-replicate}
@@ -15,11 +15,10 @@ use Rattle.fallen_texts.proofs.list_text.Goals as goal
 room : 2 * limits.edges + limits.vertices ≤ length {A = ℕ} (replicate (2 * limits.edges + limits.vertices) 0)
 room = omega (arith, length-replicate {A = ℕ} (2 * limits.edges + limits.vertices) 0)
 
-pub list_read-requires : goal.list_read-requires
-list_read-requires c =
+pub list_admitted-requires : goal.list_admitted-requires
+list_admitted-requires c =
     let stored : let table = c.read_plan-read.new.table in let graph = c.in-Ok.graph in Holds graph table × (plan_in five largest limits c.args.plan.now ≡ PlanReading.read (plan_of graph table)) = plan_stored five largest limits _ _ _ _ c.read_plan-read.ensures room _ c.in-Ok.is in
-    let s = stored in
-    (s.0, planned five largest limits _ s.1, c.requires)
+    (planned five largest limits _ (stored.1 ∙ ap PlanReading.read (sym c.parts.ensures)), c.requires)
 
 pub returns-in-Err : goal.returns-in-Err
 returns-in-Err c =
@@ -29,4 +28,4 @@ returns-in-Err c =
 pub returns-in-Ok : goal.returns-in-Ok
 returns-in-Ok c =
     let stored : let table = c.read_plan-read.new.table in let graph = c.in-Ok.graph in Holds graph table × (plan_in five largest limits c.args.plan.now ≡ PlanReading.read (plan_of graph table)) = plan_stored five largest limits _ _ _ _ c.read_plan-read.ensures room _ c.in-Ok.is in
-    read_begins limits _ stored.1 c.list_read.ensures
+    read_begins limits _ (stored.1 ∙ ap PlanReading.read (sym c.parts.ensures)) c.list_admitted.ensures

@@ -16,11 +16,6 @@ use Rattle.verify_texts.proofs.check_texts.Goals as goal
 room : 2 * limits.edges + limits.vertices ≤ length {A = ℕ} (replicate (2 * limits.edges + limits.vertices) 0)
 room = omega (arith, length-replicate {A = ℕ} (2 * limits.edges + limits.vertices) 0)
 
-pub check_read-requires : goal.check_read-requires
-check_read-requires c =
-    let stored : let table = c.read_plan-read.new.table in let graph = c.in-Ok.graph in Holds graph table × (plan_in five largest limits c.args.plan.now ≡ PlanReading.read (plan_of graph table)) = plan_stored five largest limits _ _ _ _ c.read_plan-read.ensures room _ c.in-Ok.is in
-    stored.0
-
 pub returns-in-Err : goal.returns-in-Err
 unfolding judge_texts
 returns-in-Err c =
@@ -31,4 +26,4 @@ unfolding judge_texts
 returns-in-Ok c =
     let stored : let table = c.read_plan-read.new.table in let graph = c.in-Ok.graph in Holds graph table × (plan_in five largest limits c.args.plan.now ≡ PlanReading.read (plan_of graph table)) = plan_stored five largest limits _ _ _ _ c.read_plan-read.ensures room _ c.in-Ok.is in
     let verdict = verdict_in five largest limits c.args.verdict.now in
-    c.check_read.ensures ∙ sym (ap (λ (x : PlanReading). told_by (judge_read limits x verdict)) stored.1)
+    c.check_verdict.ensures ∙ sym (ap (λ (x : PlanReading). told_by (judge_read limits x verdict)) (stored.1 ∙ ap PlanReading.read (sym c.parts.ensures)))
