@@ -16,7 +16,8 @@ use graph::Graph;
 use graph::ends::far_end;
 
 // Searches from an end of d without e and d. Where that does not come to its other end, the groups are taken apart by what was seen; whether they
-// are.
+// are. Not inlined: so `pairs::turn` is, which for most edges only looks at a label.
+#[inline(never)]
 pub(crate) fn attempt(
     vertices: u16,
     ends: &[u16],

@@ -147,5 +147,10 @@ fn count_open(edges: usize, dead: &[u8]) -> u16
     requires { (edges ≤ limits.edges) × (edges ≤ length dead.now) }
     ensures { result ≡ count_by (λ mark. mark == 0) (take edges dead.now) }
 {
-    dead[..edges].iter().filter(|&&mark| mark == 0).count() as u16
+    let mut count: u16 = 0;
+    // a sum without a way out, as `misfits` of the crate's root: a count of what a filter lets through is compiled to a jump for each mark
+    for &mark in &dead[..edges] {
+        count += u16::from(mark == 0);
+    }
+    count
 }

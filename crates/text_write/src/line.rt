@@ -10,7 +10,11 @@ fn write_column(text: &mut [u8], at: usize, x: u16)
     requires { at + length five ≤ length text.old }
     ensures { text.new ≡ sets text.old at (column five x) }
 {
-    text[at..at + WIDTH].copy_from_slice(&text::column(x));
+    // byte by byte: these are stored as they are made, where a copy waits for all of them
+    let bytes = text::column(x);
+    for (i, &byte) in bytes.iter().enumerate() {
+        text[at + i] = byte;
+    }
 }
 
 // Writes a line of the `columns` numbers from `from` on.
