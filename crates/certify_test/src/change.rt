@@ -87,12 +87,13 @@ pub struct Changed {
 }
 
 impl Change {
-    // A record of a plan with this change.
+    // A record of a plan with this change. Where there are more rows than it has, they are those behind it.
     pub fn applied(
         self,
         alloc: Global,
         sample: &Sample,
         record: &[Row],
+        behind: &[u16],
     ) -> Result<Changed, AllocError> {
         let mut rows = Vec::new(alloc);
         for (place, &row) in record.iter().enumerate() {
@@ -100,7 +101,10 @@ impl Change {
         }
         let mut list = list_of(alloc, &rows)?;
         match self {
-            Change::AllRows => list.resize(3 * usize::from(sample.edges), 0)?,
+            Change::AllRows => {
+                let more = (3 * usize::from(sample.edges)).saturating_sub(list.len());
+                list.extend_from_slice(&behind[..more.min(behind.len())])?;
+            }
             Change::Shorter => {
                 list.pop();
             }

@@ -5,8 +5,8 @@ use crate::shape::Shape;
 use crate::walks::{self, Edge};
 use std::alloc::{AllocError, Global};
 
-// A plan of `edges` edges. Those of the walks come to `kept_edges`, and `rows` are their record; the others end at excluded vertices. `space`
-// numbers are lent for a record.
+// A plan of `edges` edges. Those of the walks come to `kept_edges`, and the front of `rows` is their record; the others, whose rows stand behind it,
+// end at excluded vertices. `space` numbers are lent for a record.
 #[derive(Drop)]
 pub struct Sample {
     pub vertices: u16,
@@ -33,7 +33,7 @@ pub fn of_shape(alloc: Global, random: &mut Random, shape: Shape) -> Result<Samp
         excluded: names.from(alloc, kept)?,
         edges: few(walks.edges.len()),
         kept_edges,
-        rows: rows(alloc, &walks.edges, &names, &places, kept_edges)?,
+        rows: rows(alloc, &walks.edges, &names, &places)?,
         space,
     };
     if shape == Shape::Damaged {
@@ -147,16 +147,15 @@ fn ends(
     Ok(ends)
 }
 
-// The rows of the walks, as many as there are edges that are kept.
+// The rows of the walks, and behind them those of the edges that are not kept.
 fn rows(
     alloc: Global,
     edges: &[Edge],
     names: &Names,
     spots: &[Spot],
-    kept: u16,
 ) -> Result<Vec<Row>, AllocError> {
     let mut rows = Vec::new(alloc);
-    for (edge, spot) in edges.iter().zip(spots).take(usize::from(kept)) {
+    for (edge, spot) in edges.iter().zip(spots) {
         rows.push(Row {
             step: edge.step,
             edge: spot.place,
@@ -182,6 +181,12 @@ fn repeat(list: &mut [u16], pair: u16) {
 }
 
 impl Sample {
+    // The record of the walks, and the rows behind it.
+    pub fn record(&self) -> (&[Row], &[Row]) {
+        self.rows
+            .split_at(self.rows.len().min(usize::from(self.kept_edges)))
+    }
+
     pub fn plan(&self) -> Plan<'_> {
         Plan {
             vertices: self.vertices,

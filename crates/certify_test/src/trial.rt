@@ -1,7 +1,7 @@
 // What is tested of each plan.
 use crate::calls::{self, Finding, Marks};
 use crate::change::Change;
-use crate::plan::{Plan, Row, rows_of};
+use crate::plan::{Plan, Row, list_of, rows_of};
 use crate::run::{Fault, Run};
 use crate::sample::{self, Sample};
 use crate::set::Set;
@@ -50,7 +50,9 @@ impl Run {
         let sample = sample::of_shape(self.alloc, &mut self.random, self.shape)?;
         self.judge(&sample)?;
         if self.shape == Shape::Grown {
-            self.claim_record(&sample, &sample.rows)?;
+            let (record, rest) = sample.record();
+            let behind = list_of(self.alloc, rest)?;
+            self.claim_record(&sample, record, &behind)?;
         }
         self.claim_weak(&sample)?;
         self.claim_weak(&sample)
@@ -79,8 +81,8 @@ impl Run {
         self.judge_marks(sample, &finding)?;
         if verdict == Ok(Verdict::Firm) {
             self.tally.records.add_all(record);
-            let rows = rows_of(self.alloc, record)?;
-            self.claim_record(sample, &rows)?;
+            let found = rows_of(self.alloc, record)?;
+            self.claim_record(sample, &found, &rows[length..])?;
         }
         Ok(())
     }
@@ -137,12 +139,17 @@ impl Run {
         Ok(())
     }
 
-    // A record as it is, and some times with one change.
-    fn claim_record(&mut self, sample: &Sample, record: &[Row]) -> Result<(), AllocError> {
-        self.claim_changed(sample, record, Change::Nothing)?;
+    // A record as it is, and some times with one change. Some numbers stand behind it.
+    fn claim_record(
+        &mut self,
+        sample: &Sample,
+        record: &[Row],
+        behind: &[u16],
+    ) -> Result<(), AllocError> {
+        self.claim_changed(sample, record, behind, Change::Nothing)?;
         for _ in 0..CHANGES {
             let change = Change::drawn(&mut self.random, sample.kept_edges);
-            self.claim_changed(sample, record, change)?;
+            self.claim_changed(sample, record, behind, change)?;
         }
         Ok(())
     }
@@ -151,9 +158,10 @@ impl Run {
         &mut self,
         sample: &Sample,
         record: &[Row],
+        behind: &[u16],
         change: Change,
     ) -> Result<(), AllocError> {
-        let changed = change.applied(self.alloc, sample, record)?;
+        let changed = change.applied(self.alloc, sample, record, behind)?;
         let plan = Plan {
             vertices: changed.vertices,
             ..sample.plan()

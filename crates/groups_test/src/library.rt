@@ -2,7 +2,7 @@
 use crate::plan::Plan;
 use crate::second::{Reason, Refusal};
 
-// The groups, into a table that is lent.
+// The groups, into a table that is lent. An answer 0 with a place is none.
 pub(crate) fn groups(plan: &Plan, table: &mut [u16]) -> Result<(), Refusal> {
     let answer = components::find(
         plan.pieces,
@@ -10,7 +10,7 @@ pub(crate) fn groups(plan: &Plan, table: &mut [u16]) -> Result<(), Refusal> {
         plan.slugs.as_slice(),
         table,
     );
-    if answer.number == 0 {
+    if answer.number == 0 && answer.place == 0 {
         return Ok(());
     }
     Err(Refusal {
